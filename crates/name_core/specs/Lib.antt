@@ -1,0 +1,3 @@
+pub mod NameParts
+pub mod NameText
+pub mod Same

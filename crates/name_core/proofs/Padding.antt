@@ -1,7 +1,6 @@
 -- A name's bytes copied over zeros.
-use Rattle.std.proofs.Common.{arith, ap, sym, subst, ◌∙◌, ◌≡◌, ◌≤◌, ◌+◌, ◌-◌, ◌++◌, List, take, drop, length, length-append, replicate, ℕ}
-use Rattle.std.proofs.lemmas.List.{drop-replicate, length-drop}
-use Rattle.std.proofs.lemmas.List.{take-append-le}
+use Rattle.std.proofs.Common.{arith, ap, ◌∙◌, ◌≡◌, ◌≤◌, ◌-◌, ◌++◌, List, drop, length, length-append, replicate, ℕ}
+use Rattle.std.proofs.lemmas.List.{drop-replicate}
 use Rattle.std.proofs.Math.Seq.{take-append_seam}
 use Rattle.std.proofs.Math.ListN.{length-replicate}
 use Rattle.name_core.specs.declared.name.Name.TheInside.{Inside}

@@ -1,5 +1,5 @@
--- Which bytes are a name.
-use Rattle.std.specs.Prelude.{ℕ, ◌+◌, Bool, true, false, not, cond, ◌&&◌, ◌||◌, ◌==◌, nat_le, nat_lt, List, [], ◌∷◌, length, slice_index, drop, position, Option, Some, None, Result, Ok, Err}
+-- Which bytes are a name, and the first fault of those that are none.
+use Rattle.std.specs.Prelude.{◌≡◌, ◌<◌, ◌≤◌, All, ℕ, ◌+◌, Bool, true, not, cond, ◌&&◌, ◌||◌, ◌==◌, nat_le, nat_lt, List, length, slice_index, drop, position, Option, Some, None, Result, Ok, Err}
 use Rattle.name_core.specs.declared.name.NameFault.{NameFault}
 use Rattle.name_core.specs.declared.name.NameFault.TheVariants.{Empty, Long, BadByte}
 
@@ -28,3 +28,10 @@ read_with (Some place) bytes = Err (BadByte place)
 
 abbrev pub read_name : List ℕ → Result (List ℕ) NameFault
 read_name bytes = cond (length bytes == 0) (Err Empty) (cond (nat_lt 64 (length bytes)) (Err Long) (read_with (first_bad bytes) bytes))
+
+-- 1 to 64 bytes, the first a letter, a digit or _, and each other one of these or . or -
+pub record IsName (bytes : List ℕ) : Type 0 where
+  pub some : 0 < length bytes
+  pub short : length bytes ≤ 64
+  pub first : is_first_byte (slice_index bytes 0) ≡ true
+  pub rest : All (λ b. is_next_byte b ≡ true) (drop 1 bytes)

@@ -1,0 +1,16 @@
+//! The lattice of whole points: vectors, axis directions, rays, placements and boxes. Lengths are whole millimetres.
+#![tactic(auto)]
+
+mod boxes;
+mod limit;
+mod placement;
+mod ray;
+mod turn;
+mod vector;
+
+pub use boxes::{Box3, Side};
+pub use limit::{COORD, FAR, REACH, SHIFT, WORLD};
+pub use placement::{MatrixFault, Placement};
+pub use ray::{Dir, Ray};
+pub use turn::Turn;
+pub use vector::V3;

@@ -1,0 +1,14 @@
+/// The greatest size of a coordinate, a radius, a component of a half-space's normal or of a shift, in millimetres.
+pub const COORD: i64 = 16_384;
+
+/// The greatest size of a component of the shift that a whole path of placements adds up to, in millimetres.
+pub const SHIFT: i64 = 262_144;
+
+/// The greatest size of a coordinate of a ray's origin, in millimetres.
+pub const WORLD: i64 = 524_288;
+
+/// The length of a ray, in millimetres.
+pub const FAR: i64 = 1_048_576;
+
+/// Points and shifts that are placed or composed have components below this size, in millimetres.
+pub const REACH: i64 = 1_048_576;

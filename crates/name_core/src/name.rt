@@ -32,11 +32,11 @@ impl Model for Name {
 
     ghost Value = { List ℕ };
 
-    ghost use Rattle.name_core.specs.NameParts.{bytes_of, IsPadded, padded, padded_back};
+    ghost use Rattle.name_core.specs.NameParts.{bytes_of, IsStored, padded, padded_back};
 
     ghost view = { bytes_of };
 
-    ghost invariant = { IsPadded };
+    ghost invariant = { IsStored };
 
     ghost inverse = { padded };
 
@@ -136,8 +136,57 @@ impl Name {
 
     /// Lends the bytes.
     pub fn bytes(&self) -> &[u8]
-        ensures { result.now ≡ self.now }
+        ensures value { result.now ≡ self.now }
+        ensures named { IsName self.now }
     {
         &self.buf[..self.len as usize]
+    }
+}
+
+#[cfg(test)]
+mod tests {
+    use super::*;
+    use std::collections::HashSet;
+    use std::test::Fail;
+
+    #[test]
+    fn reads_names_and_their_faults(rt: HostRuntime) -> Result<(), Fail> {
+        let longest = [b'a'; 64];
+        let longer = [b'a'; 65];
+        for good in [
+            b"a".as_slice(),
+            b"_",
+            b"0",
+            b"cup.r",
+            b"a-b",
+            b"Z9_.-",
+            &longest,
+        ] {
+            let name = Name::read(good)?;
+            assert_eq!(rt; name.bytes(), good);
+        }
+        let cases = [
+            (b"".as_slice(), NameFault::Empty),
+            (&longer, NameFault::Long),
+            (b".a", NameFault::BadByte(0)),
+            (b"-a", NameFault::BadByte(0)),
+            (b"s/1", NameFault::BadByte(1)),
+            (b"ab c", NameFault::BadByte(2)),
+            (b"a\x80", NameFault::BadByte(1)),
+            (b"aB7@", NameFault::BadByte(3)),
+        ];
+        for (bytes, fault) in cases {
+            assert!(rt; Name::read(bytes) == Err(fault), "{:?}", fault);
+        }
+        Ok(())
+    }
+
+    #[test]
+    fn is_a_key_by_its_bytes(rt: HostRuntime) -> Result<(), Fail> {
+        let mut seen = HashSet::new(rt.alloc());
+        assert!(rt; seen.insert(Name::read(b"cup")?)?);
+        assert!(rt; !seen.insert(Name::read(b"cup")?)?);
+        assert!(rt; seen.insert(Name::read(b"cu")?)?);
+        Ok(())
     }
 }

@@ -9,7 +9,9 @@ use Rattle.name_core.proofs.name.Name.read.Goals as goal
 pub invariant_of-result : goal.invariant_of-result
 invariant_of-result c =
     let same : c.copy_from_slice.new.self ≡ c.args.bytes.now = search rules in
-    rw same (padded_over c.args.bytes.now c.zeros-buf.result c.zeros-buf.ensures (omega arith))
+    let exact : Ok c.args.bytes.now ≡ read_name c.args.bytes.now = search rules in
+    let name : IsName c.args.bytes.now = (accepted c.args.bytes.now).0 (subst (λ (r : Result (List ℕ) NameFault). IsOk r) exact refl) in
+    rw same (padded_over c.args.bytes.now c.zeros-buf.result c.zeros-buf.ensures (omega arith) name)
 
 pub returns-in-Some-clause-accepted : goal.returns-in-Some-clause-accepted
 returns-in-Some-clause-accepted c =

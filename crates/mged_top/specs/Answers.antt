@@ -1,0 +1,54 @@
+-- What the code keeps of a run, as the plain data of its definition.
+use Rattle.std.specs.Prelude.{◌≡◌, ◌≤◌, ℕ, zero, suc, false, List, [], Result, Ok, Err, get_or, map}
+use Rattle.outside_core.specs.declared.traits.File.{File}
+use Rattle.transcript.specs.Merge.{Entry, lane}
+use Rattle.transcript.specs.Run as run
+use Rattle.mged_top.specs.Directories.{Entries}
+use Rattle.mged_top.specs.Replies.{applied, shown}
+use Rattle.mged_top.specs.declared.answer.Answer.{Answer}
+use Rattle.mged_top.specs.declared.answer.Book.{Book}
+use Rattle.mged_top.specs.declared.command.Command.{Command}
+use Rattle.mged_top.specs.declared.command.Edit.{Edit}
+use Rattle.mged_top.specs.declared.command.Refusal.{Refusal}
+use Rattle.mged_top.specs.declared.command.Refusal.TheVariants.{Memory}
+use Rattle.mged_top.specs.declared.command.ScriptCommand.{ScriptCommand}
+
+-- what an edit did: it was applied, or there was no memory and all stayed, or it was refused and all stayed
+abbrev pub IsApplied : Result (Unit {0}) Refusal → Edit → Entries → Entries → Type 0
+IsApplied (Ok done) edit old new = applied old edit ≡ Ok new
+IsApplied (Err Memory) edit old new = new ≡ old
+IsApplied (Err refusal) edit old new = (applied old edit ≡ Err refusal) × (new ≡ old)
+
+abbrev pub core_book : Book → run.Book Entries
+core_book book = record { directory = book.directory; version = book.version }
+
+abbrev pub core_answer : Answer → run.Answer File
+core_answer answer = record { version = answer.version; reply = shown answer.outcome }
+
+abbrev pub unmarked : Command → run.Marked Command
+unmarked command = record { command = command; memory = false }
+
+abbrev pub marked_entry : ScriptCommand → Entry (run.Marked Command)
+marked_entry c = record { session = c.session; item = unmarked c.command }
+
+abbrev pub command_entry : ScriptCommand → Entry Command
+command_entry c = record { session = c.session; item = c.command }
+
+abbrev pub session_of : ScriptCommand → ℕ
+session_of c = c.session
+
+-- each session's commands, in sequence
+abbrev pub commands_of : List ScriptCommand → ℕ → List Command
+commands_of script = lane (map command_entry script)
+
+-- the session is one of the eight
+abbrev pub HasSession : ScriptCommand → Type 0
+HasSession c = (1 ≤ c.session) × (c.session ≤ 8)
+
+-- the answers of each session, where the first list is that of session 1
+abbrev pub answers_at : List (List Answer) → ℕ → List Answer
+answers_at lists zero = []
+answers_at lists (suc n) = get_or lists n []
+
+abbrev pub core_answers : List (List Answer) → ℕ → List (run.Answer File)
+core_answers lists session = map core_answer (answers_at lists session)

@@ -1,0 +1,4 @@
+pub mod Refusals
+pub mod Directories
+pub mod Replies
+pub mod Answers

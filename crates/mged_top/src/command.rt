@@ -1,0 +1,74 @@
+ghost use Rattle.std.specs.Prelude.{◌≡◌};
+ghost use Rattle.mged_top.specs.Refusals.{refusal_text};
+
+use crate::half_space::HalfSpace;
+use fixed_text::FixedText;
+use lattice_core::Ray;
+use name_core::Name;
+
+/// Why a command is refused. The first that holds is answered, in this order.
+#[derive(Clone, Copy, Debug, PartialEq, Eq)]
+pub enum Refusal {
+    /// The line is no command.
+    Syntax,
+    /// An object of this name is there already.
+    Exists(Name),
+    /// No object of this name is there.
+    Missing(Name),
+    /// There was no memory.
+    Memory,
+}
+
+/// The text of a refusal.
+pub type RefusalText = FixedText<96>;
+
+impl Refusal {
+    /// Writes the text of the refusal in place of what `out` held.
+    pub fn write_text(&self, out: &mut RefusalText)
+        ensures { out.new ≡ refusal_text self.now }
+    {
+        out.clear();
+        match self {
+            Refusal::Syntax => out.push(b"syntax"),
+            Refusal::Exists(name) => {
+                out.push(b"exists ");
+                out.push(name.bytes());
+            }
+            Refusal::Missing(name) => {
+                out.push(b"missing ");
+                out.push(name.bytes());
+            }
+            Refusal::Memory => out.push(b"memory"),
+        }
+    }
+}
+
+/// A command that changes the directory.
+#[derive(Debug, Drop)]
+pub enum Edit {
+    /// Appends a new object.
+    Make { name: Name, solid: HalfSpace },
+}
+
+/// A command that looks at the directory.
+#[derive(Debug, Drop)]
+pub enum Query {
+    /// Shoots one ray at an object.
+    Shot { ray: Ray, name: Name },
+}
+
+/// What a line of a script asks for.
+#[derive(Debug, Drop)]
+pub enum Command {
+    /// A line that is refused as it stands.
+    Bad(Refusal),
+    Edit(Edit),
+    Query(Query),
+}
+
+/// A command of a script, with the number of its session, from 1 to 8.
+#[derive(Debug, Drop)]
+pub struct ScriptCommand {
+    pub session: u8,
+    pub command: Command,
+}

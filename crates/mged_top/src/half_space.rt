@@ -1,0 +1,8 @@
+use lattice_core::V3;
+
+/// The points `p` with `n·p <= d`, in whole millimetres.
+#[derive(Clone, Copy, Debug, PartialEq, Eq)]
+pub struct HalfSpace {
+    pub n: V3,
+    pub d: i64,
+}

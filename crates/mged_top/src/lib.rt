@@ -1,0 +1,13 @@
+//! The top call: reads a script, runs its commands, and writes the transcript.
+#![tactic(auto)]
+
+mod answer;
+mod command;
+mod directory;
+mod half_space;
+mod run;
+
+pub use answer::{Answer, Book};
+pub use command::{Command, Edit, Query, Refusal, RefusalText, ScriptCommand};
+pub use directory::Directory;
+pub use half_space::HalfSpace;

@@ -1,0 +1,18 @@
+use Rattle.std.proofs.Common.{arith, FitsSigned}
+use Rattle.std.proofs.lemmas.Int.{to_z-of_z, fits_signed_from_abs, ints}
+use Rattle.std.proofs.lemmas.Cmp.{int_ranked}
+use mir.Syntax.{w128}
+use Rattle.surd_order.proofs.position.Pos.cmp.Goals as goal
+use Rattle.surd_order.proofs.FractionOrder.{fractions_ordered}
+
+pub returns : goal.returns
+returns c =
+    let x = rw c.in-Frac-Frac.is-0 at c.requires.self_in_range in
+    let y = rw c.in-Frac-Frac.is-1 at c.requires.other_in_range in
+    let fp : FitsSigned w128 c.in-Frac-Frac.p = fits_signed_from_abs w128 c.in-Frac-Frac.p (omega (arith, x.over)) in
+    let fq : FitsSigned w128 c.in-Frac-Frac.q = fits_signed_from_abs w128 c.in-Frac-Frac.q (omega (arith, ints, x.under, x.positive)) in
+    let fr : FitsSigned w128 c.in-Frac-Frac.r = fits_signed_from_abs w128 c.in-Frac-Frac.r (omega (arith, y.over)) in
+    let fs : FitsSigned w128 c.in-Frac-Frac.s = fits_signed_from_abs w128 c.in-Frac-Frac.s (omega (arith, ints, y.under, y.positive)) in
+    let e = simp to_z-of_z at c.cmp_fractions.ensures in
+    rw (c.in-Frac-Frac.is-0, c.in-Frac-Frac.is-1)
+    (fractions_ordered c.in-Frac-Frac.p c.in-Frac-Frac.q c.in-Frac-Frac.r c.in-Frac-Frac.s c.cmp_fractions.result x.positive y.positive (int_ranked _ _ c.cmp_fractions.result e))

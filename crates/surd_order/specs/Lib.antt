@@ -1,0 +1,6 @@
+pub mod AtMost
+pub mod Order
+pub mod Spelling
+pub mod Laws
+pub mod Range
+pub mod Text

@@ -1,0 +1,16 @@
+//! Positions on a ray: fractions, and sums of a whole number and a square root, in their exact order.
+#![tactic(auto)]
+
+mod laws;
+mod order;
+mod position;
+mod range;
+mod text;
+
+pub use laws::order_laws;
+pub use position::{Pos, Seg};
+pub use range::{OVER_LIMIT, SQUARE_LIMIT, UNDER_LIMIT, WHOLE_LIMIT};
+pub use text::PosText;
+
+#[cfg(test)]
+mod tests;

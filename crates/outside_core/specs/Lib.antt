@@ -1,3 +1,6 @@
+pub mod CallCounts
 pub mod Faults
 pub mod Files
 pub mod Told
+pub mod Transfers
+pub mod Views

@@ -2,9 +2,20 @@
 //! memory, and the adapters over any reader and writer.
 #![tactic(auto)]
 
+mod adapters;
+mod calls;
 mod gate;
+mod shelf;
+mod sink;
+mod source;
 mod traits;
+mod transfer;
 
+pub use adapters::{InSource, OutSink};
 pub use gate::{Gate, GateEvent, OpenGate};
 pub use memory_core::Memory;
+pub use shelf::VecShelf;
+pub use sink::VecSink;
+pub use source::VecSource;
 pub use traits::{Failed, File, Shelf, ShelfFault, Sink, Source};
+pub use transfer::{ReadStop, read_all, write_all};

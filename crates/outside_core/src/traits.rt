@@ -1,8 +1,8 @@
-ghost use Rattle.std.specs.Prelude.{◌≡◌, ◌<◌, ◌≤◌, ◌++◌, ◌∷◌, [], List, Option, Some, ℕ, length, take, vec_len, IfOk, IfSome, OnOk, OnErr};
+ghost use Rattle.std.specs.Prelude.{◌≡◌, ◌≢◌, ◌<◌, ◌≤◌, ◌++◌, ◌∷◌, [], List, Option, ℕ, length, take, vec_len, IfOk, IfSome, OnOk, OnErr};
 ghost use Rattle.std.specs.Option.{option_map};
 ghost use Rattle.std.specs.Io.{ReadsAtMost};
-ghost use Rattle.std.specs.Io.KnownBytes.{Appends, Consumes, Keeps};
-ghost use Rattle.outside_core.specs.Faults.{Rose, OnFailed, UnlessFailed};
+ghost use Rattle.std.specs.Io.KnownBytes.{Appends, Consumes, IsAtEnd, Keeps};
+ghost use Rattle.outside_core.specs.Faults.{Rose};
 ghost use Rattle.outside_core.specs.Told.{Stays, Grows, NoneLeftExactly};
 ghost use Rattle.outside_core.specs.Files.{Gives, SetsFile};
 ghost use Rattle.outside_core.specs.declared.traits.File.{File};
@@ -10,7 +10,7 @@ ghost use Rattle.outside_core.specs.declared.traits.File.{File};
 use item_list::Items;
 use memory_core::Memory;
 use name_core::Name;
-use std::alloc::Global;
+use std::alloc::{AllocError, AllocFailed, Global};
 use thiserror::Error;
 
 /// A call on the outside failed.
@@ -36,6 +36,28 @@ impl From<Memory> for ShelfFault {
     ghost from_gives = { λ _ e. e ≡ Memory };
 
     fn from(_error: Memory) -> ShelfFault {
+        ShelfFault::Memory
+    }
+}
+
+impl From<AllocError> for ShelfFault {
+    ghost use Rattle.std.specs.Prelude.{◌≡◌};
+    ghost use Rattle.outside_core.specs.declared.traits.ShelfFault.TheVariants.{Memory};
+
+    ghost from_gives = { λ _ e. e ≡ Memory };
+
+    fn from(_error: AllocError) -> ShelfFault {
+        ShelfFault::Memory
+    }
+}
+
+impl<T: Drop> From<AllocFailed<T>> for ShelfFault {
+    ghost use Rattle.std.specs.Prelude.{◌≡◌};
+    ghost use Rattle.outside_core.specs.declared.traits.ShelfFault.TheVariants.{Memory};
+
+    ghost from_gives = { λ _ e. e ≡ Memory };
+
+    fn from(_error: AllocFailed<T>) -> ShelfFault {
         ShelfFault::Memory
     }
 }
@@ -75,7 +97,8 @@ pub trait Source {
         // Where the source tells what is left, the bytes placed are the first of these, and there are
         // none exactly where nothing is left.
         ensures front { IfOk result (λ n. Consumes (left self.old) (left self.new) (take n buf.new)) }
-        ensures end { IfOk result (λ n. NoneLeftExactly n (left self.old)) }
+        ensures exact_end { IfOk result (λ n. NoneLeftExactly n (left self.old)) }
+        ensures end { IfOk result (λ n. n ≡ 0 → IsAtEnd (left self.new)) }
         ensures stays { OnErr result (Keeps (left self.old) (left self.new)) }
 
         ensures never_falls { faults self.old ≤ faults self.new }
@@ -132,8 +155,8 @@ pub trait Shelf {
         ensures puts_stay { Stays (puts self.old) (puts self.new) }
 
         ensures never_falls { faults self.old ≤ faults self.new }
-        ensures steady { UnlessFailed result (faults self.new ≡ faults self.old) }
-        ensures rose { OnFailed result (Rose (faults self.old) (faults self.new)) };
+        ensures steady { result ≢ Err ShelfFault.Failed → faults self.new ≡ faults self.old }
+        ensures rose { result ≡ Err ShelfFault.Failed → Rose (faults self.old) (faults self.new) };
 
     /// Sets the whole bytes of a file.
     fn put(&mut self, name: &Name, bytes: &[u8]) -> Result<(), ShelfFault>
@@ -143,6 +166,6 @@ pub trait Shelf {
         ensures puts_stay { OnErr result (Stays (puts self.old) (puts self.new)) }
 
         ensures never_falls { faults self.old ≤ faults self.new }
-        ensures steady { UnlessFailed result (faults self.new ≡ faults self.old) }
-        ensures rose { OnFailed result (Rose (faults self.old) (faults self.new)) };
+        ensures steady { result ≢ Err ShelfFault.Failed → faults self.new ≡ faults self.old }
+        ensures rose { result ≡ Err ShelfFault.Failed → Rose (faults self.old) (faults self.new) };
 }

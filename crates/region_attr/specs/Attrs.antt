@@ -1,0 +1,50 @@
+-- Setting the attribute that a key names.
+use Rattle.std.specs.Prelude.{ℕ, Bool, true, false, List, Option, Some, None, IsSome, Result, Ok, Err}
+use Rattle.std.specs.Option.{option_map}
+use Rattle.region_attr.specs.Keys.{key_of}
+use Rattle.region_attr.specs.Ranges.{most_number, most_los}
+use Rattle.region_attr.specs.Values.{truth_of, number_to}
+use Rattle.region_attr.specs.Colours.{colour_of}
+use Rattle.region_attr.specs.declared.attr.Attr.{Attr}
+use Rattle.region_attr.specs.declared.attr.AttrFault.{AttrFault}
+use Rattle.region_attr.specs.declared.attr.AttrFault.TheVariants.{UnknownKey, BadValue}
+use Rattle.region_attr.specs.declared.key.Key.{Key}
+use Rattle.region_attr.specs.declared.key.Key.TheVariants.{Region, Id, Air, Los, Mater, Rgb, Inherit}
+
+-- which texts are values of an attribute
+abbrev pub IsValueOf : Key → List ℕ → Type 0
+IsValueOf Region value = IsSome (truth_of value)
+IsValueOf Id value = IsSome (number_to most_number value)
+IsValueOf Air value = IsSome (number_to most_number value)
+IsValueOf Los value = IsSome (number_to most_los value)
+IsValueOf Mater value = IsSome (number_to most_number value)
+IsValueOf Rgb value = IsSome (colour_of value)
+IsValueOf Inherit value = IsSome (truth_of value)
+
+-- the attributes with one of them set to a value, if it is a value of that one
+abbrev pub with_value : Key → List ℕ → Attr → Option Attr
+with_value Region value attr = option_map (λ v. record attr { region = v }) (truth_of value)
+with_value Id value attr = option_map (λ v. record attr { id = v }) (number_to most_number value)
+with_value Air value attr = option_map (λ v. record attr { air = v }) (number_to most_number value)
+with_value Los value attr = option_map (λ v. record attr { los = v }) (number_to most_los value)
+with_value Mater value attr = option_map (λ v. record attr { mater = v }) (number_to most_number value)
+with_value Rgb value attr = option_map (λ v. record attr { rgb = Some v }) (colour_of value)
+with_value Inherit value attr = option_map (λ v. record attr { inherit = v }) (truth_of value)
+
+abbrev pub or_bad : Option Attr → Result Attr AttrFault
+or_bad None = Err BadValue
+or_bad (Some attr) = Ok attr
+
+abbrev pub set_known : Option Key → List ℕ → Attr → Result Attr AttrFault
+set_known None value attr = Err UnknownKey
+set_known (Some key) value attr = or_bad (with_value key value attr)
+
+abbrev pub set_attr : List ℕ → List ℕ → Attr → Result Attr AttrFault
+set_attr key value attr = set_known (key_of key) value attr
+
+-- the attributes of a new region, and of a new combination that is none
+abbrev pub region_attr : Attr
+region_attr = record { region = true; id = 1000; air = 0; los = 100; mater = 1; rgb = None; inherit = false }
+
+abbrev pub group_attr : Attr
+group_attr = record { region = false; id = 0; air = 0; los = 0; mater = 0; rgb = None; inherit = false }

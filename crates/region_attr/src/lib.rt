@@ -1,0 +1,11 @@
+//! Attributes of combinations, set by key and value.
+#![tactic(auto)]
+
+mod attr;
+mod colour;
+mod key;
+#[cfg(test)]
+mod tests;
+mod value;
+
+pub use attr::{Attr, AttrFault, Rgb};

@@ -1,0 +1,11 @@
+pub mod Bytes
+pub mod Faults
+pub mod Tokens
+pub mod Reading
+pub mod Numbers
+pub mod Pieces
+pub mod TopWords
+pub mod NumberForm
+pub mod Cover
+pub mod Examples
+pub mod GroupText

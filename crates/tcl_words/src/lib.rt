@@ -1,0 +1,22 @@
+//! Words of a text: atoms and groups in braces, whole numbers, and words written again.
+#![tactic(auto)]
+
+mod bytes;
+mod fault;
+mod group_text;
+mod groups;
+mod number;
+mod read;
+#[cfg(test)]
+mod tests;
+mod token;
+mod write;
+
+pub use bytes::is_blank;
+pub use fault::WordFault;
+pub use group_text::is_group_text;
+pub use groups::{atom_text, inside, raw_text, top_words};
+pub use number::read_number;
+pub use read::{Words, read_words};
+pub use token::{Kind, Token, Word};
+pub use write::write_words;

@@ -1,5 +1,6 @@
 -- What the code keeps of a run, as the plain data of its definition.
-use Rattle.std.specs.Prelude.{◌≡◌, ◌≤◌, ℕ, zero, suc, false, List, [], Result, Ok, Err, get_or, map}
+use Rattle.std.specs.Prelude.{◌≡◌, ◌≤◌, ℕ, zero, suc, false, List, [], Result, Ok, Err, get_or, map, flat_map, take, Bool, is_err}
+use Rattle.transcript.specs.Transcript.{session_lines, sessions}
 use Rattle.outside_core.specs.declared.traits.File.{File}
 use Rattle.transcript.specs.Merge.{Entry, lane}
 use Rattle.transcript.specs.Run as run
@@ -52,3 +53,14 @@ answers_at lists (suc n) = get_or lists n []
 
 abbrev pub core_answers : List (List Answer) → ℕ → List (run.Answer File)
 core_answers lists session = map core_answer (answers_at lists session)
+
+-- the state of the core: a session has nothing of its own yet
+abbrev pub core_state : Book → run.State Entries (Unit {0})
+core_state book = record { book = core_book book; own = λ session. tt }
+
+abbrev pub is_refused : Answer → Bool
+is_refused answer = is_err answer.outcome
+
+-- the lines of the first so many sessions
+abbrev pub all_session_lines : List (List Answer) → ℕ → List (List ℕ)
+all_session_lines lists n = flat_map (λ session. session_lines session 1 (core_answers lists session)) (take n sessions)

@@ -1,4 +1,5 @@
 pub mod Refusals
 pub mod Directories
+pub mod Commands
 pub mod Replies
 pub mod Answers

@@ -1,9 +1,9 @@
 -- What a command is answered, and the directory after it.
-use Rattle.std.specs.Prelude.{ℕ, Bool, true, false, List, [], ◌∷◌, ◌++◌, Option, Some, None, Result, Ok, Err}
+use Rattle.std.specs.Prelude.{ℕ, List, [], ◌∷◌, ◌++◌, Option, Some, None, Result, Ok, Err}
 use Rattle.std.specs.Result.{result_ok}
 use Rattle.lattice_core.specs.declared.ray.Ray.{Ray}
 use Rattle.outside_core.specs.declared.traits.File.{File}
-use Rattle.transcript.specs.Run.{Reply, Accepted, Refused, Rules, State, Book}
+use Rattle.transcript.specs.Run.{Reply, Accepted, Refused, Rules, State}
 use Rattle.mged_top.specs.Directories.{Entries, solid_at}
 use Rattle.mged_top.specs.Refusals.{refusal_text}
 use Rattle.mged_top.specs.declared.half_space.HalfSpace.{HalfSpace}

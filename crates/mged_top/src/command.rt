@@ -1,7 +1,7 @@
 ghost use Rattle.std.specs.Prelude.{◌≡◌};
 ghost use Rattle.mged_top.specs.Refusals.{refusal_text};
 
-use crate::half_space::HalfSpace;
+use crate::half_space::{HalfSpace, ShapeFault};
 use fixed_text::FixedText;
 use lattice_core::Ray;
 use name_core::Name;
@@ -11,12 +11,27 @@ use name_core::Name;
 pub enum Refusal {
     /// The line is no command.
     Syntax,
+    /// The word of this number, counted from 1, is the first that is no name.
+    Name(u32),
+    /// The word of this number, counted from 1, is the first that is no number in its range.
+    Number(u32),
+    /// A ray or a view is refused.
+    View(ViewFault),
+    /// A solid is refused.
+    Shape(ShapeFault),
     /// An object of this name is there already.
     Exists(Name),
     /// No object of this name is there.
     Missing(Name),
     /// There was no memory.
     Memory,
+}
+
+/// Why a ray or a view is refused.
+#[derive(Clone, Copy, Debug, PartialEq, Eq)]
+pub enum ViewFault {
+    /// A ray starts outside the world.
+    World,
 }
 
 /// The text of a refusal.
@@ -30,6 +45,16 @@ impl Refusal {
         out.clear();
         match self {
             Refusal::Syntax => out.push(b"syntax"),
+            Refusal::Name(word) => {
+                out.push(b"name ");
+                out.push_number(*word);
+            }
+            Refusal::Number(word) => {
+                out.push(b"number ");
+                out.push_number(*word);
+            }
+            Refusal::View(ViewFault::World) => out.push(b"view world"),
+            Refusal::Shape(ShapeFault::ZeroNormal) => out.push(b"shape normal"),
             Refusal::Exists(name) => {
                 out.push(b"exists ");
                 out.push(name.bytes());

@@ -5,9 +5,10 @@ mod answer;
 mod command;
 mod directory;
 mod half_space;
+mod line;
 mod run;
 
 pub use answer::{Answer, Book};
-pub use command::{Command, Edit, Query, Refusal, RefusalText, ScriptCommand};
+pub use command::{Command, Edit, Query, Refusal, RefusalText, ScriptCommand, ViewFault};
 pub use directory::Directory;
-pub use half_space::HalfSpace;
+pub use half_space::{HalfSpace, ShapeFault};

@@ -1,0 +1,175 @@
+//! Runs the commands of a script in the order of its lines, and writes the transcript.
+ghost use Rattle.std.specs.Prelude.{◌≡◌, ◌≤◌, ◌<◌, ◌+◌, ◌++◌, ◌∷◌, [], ◌^◌, All, IfOk, OnOk, ℕ, length, vec_len, map, replicate};
+ghost use Rattle.std.specs.List.{list_any};
+ghost use Rattle.transcript.specs.Lines.{text_of};
+ghost use Rattle.transcript.specs.Merge.{lane};
+ghost use Rattle.transcript.specs.Run.{run_of, stepped, answered};
+ghost use Rattle.transcript.specs.Transcript.{answer_lines, session_lines, transcript};
+ghost use Rattle.mged_top.specs.Answers.{HasSession, session_of, core_answer, core_answers, core_state, marked_entry, is_refused, all_session_lines};
+ghost use Rattle.mged_top.specs.Replies.{core_rules};
+
+use crate::answer::{Answer, Book, answer_command};
+use crate::command::{RefusalText, ScriptCommand};
+use crate::directory::Directory;
+use item_list::Items;
+use memory_core::Memory;
+use std::alloc::Global;
+use std::vec::Vec;
+use transcript::{push_accepted, push_order, push_refused};
+
+/// What a run leaves: its transcript, and whether a command is refused.
+#[derive(Drop)]
+pub struct Outcome {
+    pub text: Vec<u8>,
+    pub some_refused: bool,
+}
+
+/// Puts an answer at the end of a session's list.
+fn keep_answer(
+    answers: &mut Vec<Items<Answer>>,
+    session: u8,
+    answer: Answer,
+) -> Result<(), Memory>
+    requires session { (1 ≤ session) × (session ≤ 8) }
+    requires eight { vec_len answers.old ≡ 8 }
+    ensures eight { vec_len answers.new ≡ 8 }
+    ensures kept { OnOk result ((k : ℕ) → core_answers answers.new.items k ≡ core_answers answers.old.items k ++ lane (record { session = session; item = core_answer answer } ∷ []) k) }
+{
+    answers[usize::from(session - 1)].push(answer)?;
+    Ok(())
+}
+
+/// Answers the next command.
+fn run_command(
+    alloc: Global,
+    book: &mut Book,
+    answers: &mut Vec<Items<Answer>>,
+    next: &ScriptCommand,
+) -> Result<(), Memory>
+    requires session { HasSession next.now }
+    requires eight { vec_len answers.old ≡ 8 }
+    requires small { book.old.version + 1 < 2 ^ 32 }
+    ensures eight { vec_len answers.new ≡ 8 }
+    ensures small { book.new.version ≤ book.old.version + 1 }
+    ensures state { OnOk result (core_state book.new ≡ stepped core_rules (core_state book.old) (marked_entry next.now)) }
+    ensures kept { OnOk result ((k : ℕ) → core_answers answers.new.items k ≡ core_answers answers.old.items k ++ lane (answered core_rules (core_state book.old) (marked_entry next.now) ∷ []) k) }
+{
+    let answer = answer_command(alloc, book, &next.command)?;
+    keep_answer(answers, next.session, answer)
+}
+
+/// Answers the commands in the order of the lines.
+fn run_commands(
+    alloc: Global,
+    book: &mut Book,
+    answers: &mut Vec<Items<Answer>>,
+    script: &[ScriptCommand],
+) -> Result<(), Memory>
+    requires sessions { All HasSession script.now }
+    requires few { length script.now + 1 < 2 ^ 32 }
+    requires eight { vec_len answers.old ≡ 8 }
+    requires fresh { book.old.version ≡ 0 }
+    ensures eight { vec_len answers.new ≡ 8 }
+    ensures answered { OnOk result ((k : ℕ) → core_answers answers.new.items k ≡ core_answers answers.old.items k ++ lane (run_of core_rules (core_state book.old) (map marked_entry script.now)) k) }
+{
+    for next in script {
+        run_command(alloc, book, answers, next)?;
+    }
+    Ok(())
+}
+
+fn no_answers(alloc: Global) -> Result<Vec<Items<Answer>>, Memory>
+    ensures { IfOk result (λ answers. answers.items ≡ replicate 8 []) }
+{
+    let mut answers = Vec::new(alloc);
+    for _i in 0..8usize {
+        answers.push(Items::new(alloc))?;
+    }
+    Ok(answers)
+}
+
+/// The sessions of the commands, in order.
+fn line_order(alloc: Global, script: &[ScriptCommand]) -> Result<Vec<u8>, Memory>
+    ensures { IfOk result (λ order. order.items ≡ map session_of script.now) }
+{
+    let mut order = Vec::new(alloc);
+    for next in script {
+        order.push(next.session)?;
+    }
+    Ok(order)
+}
+
+fn is_refused_in(answers: &[Answer]) -> bool
+    ensures { result ≡ list_any is_refused answers.now }
+{
+    answers.iter().any(|answer| answer.outcome.is_err())
+}
+
+fn is_refused_among(lists: &[Items<Answer>]) -> bool
+    ensures { result ≡ list_any (list_any is_refused) lists.now }
+{
+    lists.iter().any(|list| is_refused_in(list.items()))
+}
+
+/// Puts an answer at the end of the text.
+fn push_answer(
+    text: &mut Vec<u8>,
+    session: u8,
+    number: u32,
+    answer: &Answer,
+) -> Result<(), Memory>
+    requires { session ≤ 8 }
+    ensures { OnOk result (text.new.items ≡ text.old.items ++ text_of (answer_lines session number (core_answer answer.now))) }
+{
+    match &answer.outcome {
+        Ok(body) => push_accepted(text, session, number, answer.version, body),
+        Err(refusal) => {
+            let mut words = RefusalText::new();
+            refusal.write_text(&mut words);
+            push_refused(text, session, number, answer.version, words.bytes())
+        }
+    }
+}
+
+/// Puts the answers of a session at the end of the text.
+fn push_session(text: &mut Vec<u8>, session: u8, answers: &[Answer]) -> Result<(), Memory>
+    requires small { session ≤ 8 }
+    requires few { length answers.now + 1 < 2 ^ 32 }
+    ensures { OnOk result (text.new.items ≡ text.old.items ++ text_of (session_lines session 1 (map core_answer answers.now))) }
+{
+    let mut number = 1;
+    for answer in answers {
+        push_answer(text, session, number, answer)?;
+        number += 1;
+    }
+    Ok(())
+}
+
+/// Puts the answers of all sessions at the end of the text.
+fn push_sessions(text: &mut Vec<u8>, lists: &[Items<Answer>]) -> Result<(), Memory>
+    requires eight { length lists.now ≡ 8 }
+    requires few { All (λ list. length list + 1 < 2 ^ 32) lists.now }
+    ensures { OnOk result (text.new.items ≡ text.old.items ++ text_of (all_session_lines lists.now 8)) }
+{
+    for i in 0..8usize {
+        push_session(text, i as u8 + 1, lists[i].items())?;
+    }
+    Ok(())
+}
+
+/// The transcript of an order and of each session's answers.
+fn write_transcript(
+    alloc: Global,
+    order: &[u8],
+    lists: &[Items<Answer>],
+) -> Result<Vec<u8>, Memory>
+    requires order { All (λ digit. digit ≤ 8) order.now }
+    requires eight { length lists.now ≡ 8 }
+    requires few { All (λ list. length list + 1 < 2 ^ 32) lists.now }
+    ensures { IfOk result (λ text. text.items ≡ transcript order.now (core_answers lists.now)) }
+{
+    let mut text = Vec::new(alloc);
+    push_order(&mut text, order)?;
+    push_sessions(&mut text, lists)?;
+    Ok(text)
+}

@@ -1,11 +1,9 @@
-use Rattle.std.proofs.Common.{◌≡◌, ◌∙◌, sym, ap, Bool, true, false, is_some, is_err, Option, Some, None, Result, Ok, Err, OnOk, List, [], ◌∷◌, ◌++◌, ℕ}
+use Rattle.std.proofs.Common.{◌≡◌, ◌∙◌, sym, ap, false, is_some, is_err, Option, Some, None, Result, Ok, Err, OnOk, List, [], ◌∷◌, ◌++◌, ℕ}
 use Rattle.std.specs.Map.{lookup}
 use Rattle.indexmap.proofs.CallerLemmas.{insert_entry-new}
 use Rattle.name_core.specs.Same.{same_name}
 use Rattle.mged_top.specs.Directories.{Entries, solid_at}
 use Rattle.mged_top.specs.Replies.{made}
-use Rattle.mged_top.specs.declared.half_space.HalfSpace.{HalfSpace}
-use Rattle.mged_top.specs.declared.command.Refusal.{Refusal}
 use Rattle.mged_top.proofs.directory.Directory.make.Goals as goal
 
 none_there : {T : Type 0} (o : Option T) → is_some o ≡ false → o ≡ None

@@ -1,2 +1,4 @@
 pub mod WriteLaws
 pub mod LineLaws
+pub mod ScriptLaws
+pub mod RunLaws

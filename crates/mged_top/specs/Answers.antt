@@ -1,6 +1,7 @@
 -- What the code keeps of a run, as the plain data of its definition.
 use Rattle.std.specs.Prelude.{◌≡◌, ◌≤◌, ℕ, zero, suc, false, List, [], Result, Ok, Err, get_or, map, flat_map, take, Bool, is_err}
 use Rattle.transcript.specs.Transcript.{session_lines, sessions}
+use Rattle.std.specs.Arc.{arc_value}
 use Rattle.outside_core.specs.declared.traits.File.{File}
 use Rattle.transcript.specs.Merge.{Entry, lane}
 use Rattle.transcript.specs.Run as run
@@ -29,22 +30,20 @@ core_answer answer = record { version = answer.version; reply = shown answer.out
 abbrev pub unmarked : Command → run.Marked Command
 unmarked command = record { command = command; memory = false }
 
-abbrev pub marked_entry : ScriptCommand → Entry (run.Marked Command)
-marked_entry c = record { session = c.session; item = unmarked c.command }
-
+-- a command of a script, with its session
 abbrev pub command_entry : ScriptCommand → Entry Command
-command_entry c = record { session = c.session; item = c.command }
+command_entry c = record { session = c.session; item = arc_value c.command }
 
-abbrev pub session_of : ScriptCommand → ℕ
-session_of c = c.session
+-- a command with its session, and without the mark that it was answered `memory`
+abbrev pub marked_entry : Entry Command → Entry (run.Marked Command)
+marked_entry e = record { session = e.session; item = unmarked e.item }
 
--- each session's commands, in sequence
-abbrev pub commands_of : List ScriptCommand → ℕ → List Command
-commands_of script = lane (map command_entry script)
+abbrev pub session_of : Entry Command → ℕ
+session_of e = e.session
 
 -- the session is one of the eight
-abbrev pub HasSession : ScriptCommand → Type 0
-HasSession c = (1 ≤ c.session) × (c.session ≤ 8)
+abbrev pub HasSession : Entry Command → Type 0
+HasSession e = (1 ≤ e.session) × (e.session ≤ 8)
 
 -- the answers of each session, where the first list is that of session 1
 abbrev pub answers_at : List (List Answer) → ℕ → List Answer

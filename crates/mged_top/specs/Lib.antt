@@ -1,5 +1,9 @@
 pub mod Refusals
 pub mod Directories
 pub mod Commands
+pub mod Scripts
+pub mod Readings
 pub mod Replies
 pub mod Answers
+pub mod Outcomes
+pub mod Readable

@@ -5,6 +5,7 @@ use crate::half_space::{HalfSpace, ShapeFault};
 use fixed_text::FixedText;
 use lattice_core::Ray;
 use name_core::Name;
+use std::sync::Arc;
 
 /// Why a command is refused. The first that holds is answered, in this order.
 #[derive(Clone, Copy, Debug, PartialEq, Eq)]
@@ -92,8 +93,8 @@ pub enum Command {
 }
 
 /// A command of a script, with the number of its session, from 1 to 8.
-#[derive(Debug, Drop)]
+#[derive(Drop)]
 pub struct ScriptCommand {
     pub session: u8,
-    pub command: Command,
+    pub command: Arc<Command>,
 }

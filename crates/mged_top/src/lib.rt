@@ -7,8 +7,10 @@ mod directory;
 mod half_space;
 mod line;
 mod run;
+mod script;
 
 pub use answer::{Answer, Book};
 pub use command::{Command, Edit, Query, Refusal, RefusalText, ScriptCommand, ViewFault};
 pub use directory::Directory;
+pub use script::{SCRIPT_SIZE, ScriptFault, ScriptFlaw, read_script};
 pub use half_space::{HalfSpace, ShapeFault};

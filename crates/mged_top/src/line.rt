@@ -1,17 +1,22 @@
 //! Reads the command of a line.
-ghost use Rattle.std.specs.Prelude.{◌≡◌, ◌+◌, ◌<◌, ◌≤◌, ◌^◌, ◌∷◌, length, map, Some, IfOk, IfNone, IfSome};
+ghost use Rattle.std.specs.Prelude.{◌≡◌, ◌+◌, ◌<◌, ◌≤◌, ◌^◌, ◌∷◌, ◌++◌, [], length, map, find, not, Some, IfOk, OnOk, IfNone, IfSome};
 ghost use Rattle.std.specs.Option.{option_map};
 ghost use Rattle.std.specs.Int.RustNames.{unsigned_abs};
 ghost use Rattle.tcl_words.specs.TopWords.{atom_of, AreTokensIn, AreWordsOf};
+ghost use Rattle.tcl_words.specs.Bytes as bytes;
+ghost use Rattle.mged_top.specs.Answers.{command_entry};
 ghost use Rattle.mged_top.specs.Commands as commands;
+ghost use Rattle.mged_top.specs.Scripts as scripts;
 
-use crate::command::{Command, Edit, Query, Refusal, ViewFault};
+use crate::command::{Command, Edit, Query, Refusal, ScriptCommand, ViewFault};
 use crate::half_space::{HalfSpace, ShapeFault};
+use item_list::Items;
 use lattice_core::{Dir, Ray, V3, WORLD};
 use memory_core::Memory;
 use name_core::Name;
 use std::alloc::Global;
-use tcl_words::{Token, Word, WordFault, atom_text, read_number, read_words, top_words};
+use std::sync::Arc;
+use tcl_words::{Token, Word, WordFault, atom_text, is_blank, read_number, read_words, top_words};
 
 /// The words of a line, or none where one is a group that counts as no atom.
 fn word_atoms<'a>(
@@ -234,4 +239,47 @@ pub fn read_line(alloc: Global, line: &[u8]) -> Result<Command, Memory>
         None => Ok(Command::Bad(Refusal::Syntax)),
         Some(words) => Ok(command_in(&words)),
     }
+}
+
+fn first_byte(line: &[u8]) -> Option<u8>
+    ensures { result ≡ find (λ byte. not (bytes.is_blank byte)) line.now }
+{
+    line.iter().copied().find(|byte| !is_blank(*byte))
+}
+
+fn is_no_command(line: &[u8]) -> bool
+    ensures { result ≡ scripts.is_no_command line.now }
+{
+    match first_byte(line) {
+        None => true,
+        Some(byte) => byte == b'#',
+    }
+}
+
+/// The command of a line of session 1.
+fn command_line(alloc: Global, line: &[u8]) -> Result<ScriptCommand, Memory>
+    requires { length line.now < 2 ^ 31 }
+    ensures { IfOk result (λ command. command_entry command ≡ scripts.command_line line.now) }
+{
+    let command = read_line(alloc, line)?;
+    Ok(ScriptCommand {
+        session: 1,
+        command: Arc::new(alloc, command)?,
+    })
+}
+
+/// Puts the command of a line at the end, where the line is one.
+pub fn push_command(
+    alloc: Global,
+    commands: &mut Items<ScriptCommand>,
+    line: &[u8],
+) -> Result<(), Memory>
+    requires { length line.now < 2 ^ 31 }
+    ensures { OnOk result (map command_entry commands.new ≡ map command_entry commands.old ++ scripts.commands_in (line.now ∷ [])) }
+{
+    if is_no_command(line) {
+        return Ok(());
+    }
+    commands.push(command_line(alloc, line)?)?;
+    Ok(())
 }

@@ -5,7 +5,9 @@ ghost use Rattle.transcript.specs.Lines.{text_of};
 ghost use Rattle.transcript.specs.Merge.{lane};
 ghost use Rattle.transcript.specs.Run.{run_of, stepped, answered};
 ghost use Rattle.transcript.specs.Transcript.{answer_lines, session_lines, transcript};
-ghost use Rattle.mged_top.specs.Answers.{HasSession, session_of, core_answer, core_answers, core_state, marked_entry, is_refused, all_session_lines};
+ghost use Rattle.mged_top.specs.Answers.{HasSession, command_entry, session_of, core_answer, core_answers, core_state, marked_entry, is_refused, all_session_lines};
+ghost use Rattle.mged_top.specs.Outcomes.{IsLineOutcome};
+ghost use Rattle.mged_top.specs.Readable.{IsReadable};
 ghost use Rattle.mged_top.specs.Replies.{core_rules};
 
 use crate::answer::{Answer, Book, answer_command};
@@ -46,13 +48,13 @@ fn run_command(
     answers: &mut Vec<Items<Answer>>,
     next: &ScriptCommand,
 ) -> Result<(), Memory>
-    requires session { HasSession next.now }
+    requires session { HasSession (command_entry next.now) }
     requires eight { vec_len answers.old ≡ 8 }
     requires small { book.old.version + 1 < 2 ^ 32 }
     ensures eight { vec_len answers.new ≡ 8 }
     ensures small { book.new.version ≤ book.old.version + 1 }
-    ensures state { OnOk result (core_state book.new ≡ stepped core_rules (core_state book.old) (marked_entry next.now)) }
-    ensures kept { OnOk result ((k : ℕ) → core_answers answers.new.items k ≡ core_answers answers.old.items k ++ lane (answered core_rules (core_state book.old) (marked_entry next.now) ∷ []) k) }
+    ensures state { OnOk result (core_state book.new ≡ stepped core_rules (core_state book.old) (marked_entry (command_entry next.now))) }
+    ensures kept { OnOk result ((k : ℕ) → core_answers answers.new.items k ≡ core_answers answers.old.items k ++ lane (answered core_rules (core_state book.old) (marked_entry (command_entry next.now)) ∷ []) k) }
 {
     let answer = answer_command(alloc, book, &next.command)?;
     keep_answer(answers, next.session, answer)
@@ -65,12 +67,12 @@ fn run_commands(
     answers: &mut Vec<Items<Answer>>,
     script: &[ScriptCommand],
 ) -> Result<(), Memory>
-    requires sessions { All HasSession script.now }
+    requires sessions { All HasSession (map command_entry script.now) }
     requires few { length script.now + 1 < 2 ^ 32 }
     requires eight { vec_len answers.old ≡ 8 }
     requires fresh { book.old.version ≡ 0 }
     ensures eight { vec_len answers.new ≡ 8 }
-    ensures answered { OnOk result ((k : ℕ) → core_answers answers.new.items k ≡ core_answers answers.old.items k ++ lane (run_of core_rules (core_state book.old) (map marked_entry script.now)) k) }
+    ensures answered { OnOk result ((k : ℕ) → core_answers answers.new.items k ≡ core_answers answers.old.items k ++ lane (run_of core_rules (core_state book.old) (map marked_entry (map command_entry script.now))) k) }
 {
     for next in script {
         run_command(alloc, book, answers, next)?;
@@ -90,7 +92,7 @@ fn no_answers(alloc: Global) -> Result<Vec<Items<Answer>>, Memory>
 
 /// The sessions of the commands, in order.
 fn line_order(alloc: Global, script: &[ScriptCommand]) -> Result<Vec<u8>, Memory>
-    ensures { IfOk result (λ order. order.items ≡ map session_of script.now) }
+    ensures { IfOk result (λ order. order.items ≡ map session_of (map command_entry script.now)) }
 {
     let mut order = Vec::new(alloc);
     for next in script {
@@ -172,4 +174,23 @@ fn write_transcript(
     push_order(&mut text, order)?;
     push_sessions(&mut text, lists)?;
     Ok(text)
+}
+
+/// Runs a script, in the order of its lines, from the empty directory.
+pub fn run_script(alloc: Global, script: &[ScriptCommand]) -> Result<Outcome, Memory>
+    requires sessions { All HasSession (map command_entry script.now) }
+    requires readable { All IsReadable (map command_entry script.now) }
+    requires few { length script.now + 1 < 2 ^ 32 }
+    ensures { IfOk result (λ o. IsLineOutcome [] (map command_entry script.now) o.text.items [] o.some_refused) }
+{
+    let mut book = Book {
+        directory: Directory::new(alloc),
+        version: 0,
+    };
+    let mut answers = no_answers(alloc)?;
+    run_commands(alloc, &mut book, &mut answers, script)?;
+    let order = line_order(alloc, script)?;
+    let text = write_transcript(alloc, &order, &answers)?;
+    let some_refused = is_refused_among(&answers);
+    Ok(Outcome { text, some_refused })
 }

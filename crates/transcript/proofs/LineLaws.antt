@@ -1,5 +1,5 @@
 -- What is read back from a text of whole lines.
-use Rattle.std.proofs.Common.{◌≢◌, Bool, true, false, cond, sym, append-nil, length, length-append, ◌+◌, ◌≡◌, ℕ, ◌<◌, ◌^◌, ◌==◌, List, [], ◌∷◌, ◌++◌, refl, ap, ◌∙◌, append_assoc, arith, decimal, ne_eqb, eq-eqb}
+use Rattle.std.proofs.Common.{zero, suc, get_or, take, drop, ◌≢◌, Bool, true, false, cond, sym, append-nil, length, length-append, ◌+◌, ◌≡◌, ℕ, ◌<◌, ◌^◌, ◌==◌, List, [], ◌∷◌, ◌++◌, refl, ap, ◌∙◌, append_assoc, arith, decimal, ne_eqb, eq-eqb}
 use Rattle.std.proofs.lemmas.Bool.{cond-true, cond-false}
 use Rattle.std.proofs.lemmas.Fmt.{digits_decimal, digits_value-decimal}
 use Rattle.std.proofs.lemmas.Str.Parse.{IsNumeralModel, numerals_by_value}
@@ -79,3 +79,19 @@ whole_more text line count h k =
       whole = ap (λ t. t ++ ended line) h.whole ∙ sym (flat_map-append ended lines (line ∷ []) ∙ ap (λ r. text_of lines ++ r) (append-nil (ended line))) ∙ sym (ap text_of more);
       counted = omega (arith, h.counted, ap length more, length-append lines (line ∷ []));
     }
+
+-- the first line of a text, up to its line feed
+pub lines_cut : (text : List ℕ) (end : ℕ) → end < length text → get_or text end 0 ≡ 10 → ((k : ℕ) → k < end → get_or text k 0 ≢ 10)
+    → lines_in text ≡ take end text ∷ lines_in (drop (suc end) text)
+lines_cut [] end lt at none = absurd (omega (arith, lt))
+lines_cut (b ∷ bs) zero lt at none = cond-true (b == 10) _ _ (eq-eqb b 10 at)
+lines_cut (b ∷ bs) (suc end) lt at none =
+    let rest : lines_in bs ≡ take end bs ∷ lines_in (drop (suc end) bs) = lines_cut bs end (omega (arith, lt)) at (λ k h. none (suc k) (omega (arith, h))) in
+    cond-false (b == 10) _ _ (ne_eqb b 10 (none 0 (omega arith))) ∙ ap (onto_line b) rest
+
+-- a text without a line feed is one line
+pub lines_one : (text : List ℕ) → 0 < length text → ((k : ℕ) → k < length text → get_or text k 0 ≢ 10) → lines_in text ≡ text ∷ []
+lines_one [] some none = absurd (omega (arith, some))
+lines_one (b ∷ []) some none = cond-false (b == 10) _ _ (ne_eqb b 10 (none 0 (omega arith)))
+lines_one (b ∷ c ∷ bs) some none =
+    cond-false (b == 10) _ _ (ne_eqb b 10 (none 0 (omega arith))) ∙ ap (onto_line b) (lines_one (c ∷ bs) (omega arith) (λ k h. none (suc k) (omega (arith, h))))

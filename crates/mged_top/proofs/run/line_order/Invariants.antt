@@ -1,6 +1,6 @@
 use Rattle.std.proofs.Common.{◌≡◌, map, take}
-use Rattle.mged_top.specs.Answers.{session_of}
+use Rattle.mged_top.specs.Answers.{session_of, command_entry}
 use Rattle.mged_top.proofs.run.line_order.Given as goal
 
 abbrev pub invariant-loop-next : goal.invariant-loop-next
-invariant-loop-next l = l.order.items ≡ map session_of (take l.next-index l.script)
+invariant-loop-next l = l.order.items ≡ map session_of (map command_entry (take l.next-index l.script))

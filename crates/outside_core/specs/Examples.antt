@@ -1,5 +1,5 @@
 -- What the definitions mean, at small values. Each is proved by computation.
-use Rattle.std.specs.Prelude.{◌≡◌, ◌-◌, ◌^◌, ℕ, ◌+◌, List, [], ◌∷◌, Option, None, Some, refl, codes, true, false}
+use Rattle.std.specs.Prelude.{◌≡◌, ◌-◌, ◌^◌, List, [], ◌∷◌, None, Some, refl, codes}
 use Rattle.std.proofs.Common.{arith, lit≤, lit<}
 use Rattle.outside_core.specs.Faults.{Rose, next_count}
 use Rattle.outside_core.specs.CallCounts.{NextIsListed, faulted}

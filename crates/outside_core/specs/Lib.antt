@@ -1,4 +1,5 @@
 pub mod CallCounts
+pub mod Examples
 pub mod Faults
 pub mod Files
 pub mod Told

@@ -1,5 +1,5 @@
 -- What contracts see of the objects in memory.
-use Rattle.std.specs.Prelude.{ℕ, List}
+use Rattle.std.specs.Prelude.{ℕ, List, Option}
 use Rattle.outside_core.specs.declared.calls.Calls.{Calls}
 use Rattle.outside_core.specs.declared.traits.File.{File}
 
@@ -20,3 +20,8 @@ pub record ShelfView : Type 0 where
   pub files : List File
   pub puts : List File
   pub calls : Calls
+
+-- what a reader has left or a writer holds, where it tells it, and how often it failed
+pub record StreamView : Type 0 where
+  pub known : Option (List ℕ)
+  pub faults : ℕ

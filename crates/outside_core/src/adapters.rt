@@ -1,40 +1,37 @@
-ghost use Rattle.std.specs.Prelude.{◌≡◌, ℕ};
+ghost use Rattle.std.specs.Prelude.{◌≡◌};
 
 use crate::traits::{Failed, Sink, Source};
 use std::io::{ErrorKind, Read, Write};
 use std::marker::Model;
 
-/// A source over any reader, as standard input. It tells nothing of its bytes: contracts see its count of
-/// faults alone.
-#[derive(Debug, Drop)]
-pub struct InSource<R> {
+/// A source over any reader. It tells what is left where its reader does, which standard input does not.
+#[derive(Drop)]
+pub struct InSource<R: Read> {
     inner: R,
     faults: u64,
 }
 
-impl<R> Model for InSource<R> {
-    ghost use Rattle.std.specs.Prelude.{ℕ};
+impl<R: Read> Model for InSource<R> {
+    ghost use Rattle.outside_core.specs.Views.{StreamView};
 
-    ghost Value = { ℕ };
+    ghost Value = { StreamView };
 
-    ghost view = { λ s. s.faults };
+    ghost view = { λ s. record { known = R.remaining s.inner; faults = s.faults } };
 }
 
 impl<R: Read> InSource<R> {
     /// A source over this reader, of which no call has failed yet.
     pub fn new(inner: R) -> InSource<R>
-        ensures { result ≡ 0 }
+        ensures { result ≡ record { known = R.remaining inner; faults = 0 } }
     {
         InSource { inner, faults: 0 }
     }
 }
 
 impl<R: Read> Source for InSource<R> {
-    ghost use Rattle.std.specs.Prelude.{None};
+    ghost left = { λ s. s.known };
 
-    ghost left = { λ _. None };
-
-    ghost faults = { λ faults. faults };
+    ghost faults = { λ s. s.faults };
 
     fn read(&mut self, buf: &mut [u8]) -> Result<usize, Failed> {
         // A call that was interrupted is made again.
@@ -53,37 +50,35 @@ impl<R: Read> Source for InSource<R> {
     }
 }
 
-/// A sink over any writer, as standard output. It tells nothing of its bytes: contracts see its count of
-/// faults alone. A writer that takes nothing counts as a fault.
-#[derive(Debug, Drop)]
-pub struct OutSink<W> {
+/// A sink over any writer. It tells what it holds where its writer does, which standard output does not. A
+/// writer that takes nothing counts as a fault.
+#[derive(Drop)]
+pub struct OutSink<W: Write> {
     inner: W,
     faults: u64,
 }
 
-impl<W> Model for OutSink<W> {
-    ghost use Rattle.std.specs.Prelude.{ℕ};
+impl<W: Write> Model for OutSink<W> {
+    ghost use Rattle.outside_core.specs.Views.{StreamView};
 
-    ghost Value = { ℕ };
+    ghost Value = { StreamView };
 
-    ghost view = { λ s. s.faults };
+    ghost view = { λ s. record { known = W.contents s.inner; faults = s.faults } };
 }
 
 impl<W: Write> OutSink<W> {
     /// A sink over this writer, of which no call has failed yet.
     pub fn new(inner: W) -> OutSink<W>
-        ensures { result ≡ 0 }
+        ensures { result ≡ record { known = W.contents inner; faults = 0 } }
     {
         OutSink { inner, faults: 0 }
     }
 }
 
 impl<W: Write> Sink for OutSink<W> {
-    ghost use Rattle.std.specs.Prelude.{None};
+    ghost held = { λ s. s.known };
 
-    ghost held = { λ _. None };
-
-    ghost faults = { λ faults. faults };
+    ghost faults = { λ s. s.faults };
 
     fn write(&mut self, piece: &[u8]) -> Result<usize, Failed> {
         // A call that was interrupted is made again.

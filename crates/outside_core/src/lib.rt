@@ -8,6 +8,8 @@ mod gate;
 mod shelf;
 mod sink;
 mod source;
+#[cfg(test)]
+mod tests;
 mod traits;
 mod transfer;
 

@@ -117,6 +117,7 @@ impl Shelf for VecShelf {
     }
 
     fn put(&mut self, name: &Name, bytes: &[u8]) -> Result<(), ShelfFault>
+        ensures last { OnOk result (self.new.files ≡ self.old.files ++ record { name = name.now; bytes = bytes.now } ∷ []) }
         ensures set { OnOk result (SetsFile (Some self.old.files) (Some self.new.files) name.now bytes.now) }
         ensures added { OnOk result (Grows (Some self.old.puts) (Some self.new.puts) (record { name = name.now; bytes = bytes.now })) }
         ensures files_stay { OnErr result (Stays (Some self.old.files) (Some self.new.files)) }

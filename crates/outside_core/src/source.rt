@@ -68,6 +68,8 @@ impl Source for VecSource {
 
         ensures fails { IsErr result ↔ NextIsListed self.old.calls }
         ensures count { IfOk result (λ n. n ≡ min (length buf.old) (length self.old.rest)) }
+        ensures copied { IfOk result (λ n. buf.new ≡ take n self.old.rest ++ drop n buf.old) }
+        ensures buffer_stays { OnErr result (buf.new ≡ buf.old) }
         ensures ok { OnOk result (self.new.calls ≡ counted self.old.calls) }
         ensures err { OnErr result (self.new.calls ≡ faulted self.old.calls) }
     {

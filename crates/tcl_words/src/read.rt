@@ -1,4 +1,4 @@
-ghost use Rattle.std.specs.Prelude.{◌≡◌, ◌<◌, ◌^◌, length, IfOk, ◌≤◌, ◌+◌, cond, true};
+ghost use Rattle.std.specs.Prelude.{◌≡◌, ◌<◌, ◌^◌, List, length, IfOk, ◌≤◌, ◌+◌, cond, true};
 ghost use Rattle.tcl_words.specs.Bytes as bytes;
 ghost use Rattle.tcl_words.specs.Faults as faults;
 ghost use Rattle.tcl_words.specs.Tokens as tokens;
@@ -186,6 +186,7 @@ pub(crate) fn read_tokens(alloc: Global, text: &[u8]) -> Result<Words, WordFault
     requires { length text.now < 2 ^ 32 }
     ensures exact { reading.Gives result text.now }
     ensures covers { IfOk result (λ words. Covers text.now 0 words) }
+    ensures only { IfOk result (λ words. (tokens : List Token) → Covers text.now 0 tokens → tokens ≡ words) }
     ensures tokens { IfOk result (λ words. AreTokensIn (length text.now) words) }
 {
     if let Some(fault) = first_fault(text) {
@@ -200,6 +201,7 @@ pub fn read_words(alloc: Global, text: &[u8]) -> Result<Words, WordFault>
     requires { length text.now < 2 ^ 31 }
     ensures exact { reading.Gives result text.now }
     ensures covers { IfOk result (λ words. Covers text.now 0 words) }
+    ensures only { IfOk result (λ words. (tokens : List Token) → Covers text.now 0 tokens → tokens ≡ words) }
     ensures tokens { IfOk result (λ words. AreTokensIn (length text.now) words) }
 {
     read_tokens(alloc, text)

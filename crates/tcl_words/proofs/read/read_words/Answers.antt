@@ -5,7 +5,7 @@ use Rattle.tcl_words.proofs.Balanced.{read_balanced}
 use Rattle.tcl_words.proofs.Inner.{read_tokens}
 use Rattle.tcl_words.proofs.Covering.{found_cover}
 use Rattle.tcl_words.proofs.Unique.{unique}
-use Rattle.tcl_words.proofs.read.read_tokens.Goals as goal
+use Rattle.tcl_words.proofs.read.read_words.Goals as goal
 
 pub invariant_of-result : goal.invariant_of-result
 invariant_of-result c = read_balanced c.args.text.now c.in_ok-tokens.tokens.items (ap (λ f. reading f (tokens_of c.args.text.now)) (sym c.first_fault.ensures ∙ c.in_default.is) ∙ ap Ok (sym c.in_ok-tokens.ensures))

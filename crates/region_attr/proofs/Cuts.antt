@@ -1,13 +1,12 @@
 -- How a text falls into pieces and words, the first one after the other.
 use Rattle.std.proofs.Common.{◌≡◌, ℕ, zero, suc, ◌+◌, ◌<◌, ◌≤◌, ◌⊎◌, inl, inr, List, [], ◌∷◌, length, take, drop, get_or, cond, Bool, true, false, Option, Some, None, arith, refl, ap, sym, ◌∙◌, take_all, get_or-drop, length-drop, length-take}
-use Rattle.std.specs.Prelude.{filter, not, nat_lt, ◌==◌, ◌||◌}
+use Rattle.std.specs.Prelude.{filter, not, nat_lt, ◌||◌}
 use Rattle.std.specs.List.{prefix_len, list_any}
 use Rattle.std.proofs.lemmas.Bool.{lt-ltb}
 use Rattle.std.proofs.lemmas.List.{drop_all}
-use Rattle.std.proofs.lemmas.List.Sums.{prefix_len_passes, prefix_len_stops, prefix_len-le-length}
+use Rattle.std.proofs.lemmas.List.Sums.{prefix_len_stops}
 use Rattle.tcl_words.specs.Bytes.{is_blank}
 use Rattle.region_attr.specs.Colours.{is_slash, onto_first, pieces, words, part, colour, colour_of_parts, len_before, trimmed, first_word, after_word, first_piece, after_piece}
-use Rattle.region_attr.specs.declared.attr.Rgb.{Rgb}
 
 abbrev pub tails : (ℕ → Bool) → List ℕ → List (List ℕ)
 tails p [] = []
@@ -81,7 +80,7 @@ slash_three text red rest green last is_red is_rest is_green is_last some more a
 
 -- ---- colours between blanks
 
-abbrev has_byte : List ℕ → Bool
+abbrev pub has_byte : List ℕ → Bool
 has_byte piece = nat_lt 0 (length piece)
 
 empty : (xs : List ℕ) → length xs ≡ 0 → xs ≡ []
@@ -89,7 +88,7 @@ empty [] end = refl
 empty (x ∷ xs) end = absurd (omega arith)
 
 -- a blank at the front leaves the words as they are
-words_blank : (b : ℕ) (bs : List ℕ) → is_blank b ≡ true → words (b ∷ bs) ≡ words bs
+pub words_blank : (b : ℕ) (bs : List ℕ) → is_blank b ≡ true → words (b ∷ bs) ≡ words bs
 words_blank b bs is = ap (λ t. filter has_byte (cond t ([] ∷ pieces is_blank bs) (onto_first b (pieces is_blank bs)))) is
 
 trim_head : (b : ℕ) (bs : List ℕ) (t : Bool) → is_blank b ≡ t → words bs ≡ words (trimmed bs) → words (b ∷ bs) ≡ words (drop (cond t (1 + prefix_len is_blank bs) 0) (b ∷ bs))
@@ -105,7 +104,7 @@ words_tails : (rest : List ℕ) → (0 < length rest → is_blank (get_or rest 0
 words_tails [] blank = refl
 words_tails (x ∷ xs) blank = sym (words_blank x xs (blank (omega arith)))
 
-keep_some : (piece : List ℕ) (ps : List (List ℕ)) → 0 < length piece → filter has_byte (piece ∷ ps) ≡ piece ∷ filter has_byte ps
+pub keep_some : (piece : List ℕ) (ps : List (List ℕ)) → 0 < length piece → filter has_byte (piece ∷ ps) ≡ piece ∷ filter has_byte ps
 keep_some piece ps some = ap (λ t. cond t (piece ∷ filter has_byte ps) (filter has_byte ps)) (lt-ltb 0 (length piece) some)
 
 first_of : (text : List ℕ) (n : ℕ) → get_or (drop n text) 0 0 ≡ get_or text n 0
@@ -118,7 +117,7 @@ not_false false e = cc
 trimmed_first : (text : List ℕ) → 0 < length (trimmed text) → is_blank (get_or (trimmed text) 0 0) ≡ false
 trimmed_first text some = ap is_blank (first_of text (prefix_len is_blank text)) ∙ prefix_len_stops is_blank text 0 (omega (arith, length-drop (prefix_len is_blank text) text))
 
-blank_after : (t : List ℕ) → 0 < length (drop (len_before is_blank t) t) → is_blank (get_or (drop (len_before is_blank t) t) 0 0) ≡ true
+pub blank_after : (t : List ℕ) → 0 < length (drop (len_before is_blank t) t) → is_blank (get_or (drop (len_before is_blank t) t) 0 0) ≡ true
 blank_after t some = ap is_blank (first_of t (len_before is_blank t)) ∙ not_false (is_blank (get_or t (len_before is_blank t) 0)) (prefix_len_stops (λ b. not (is_blank b)) t 0 (omega (arith, length-drop (len_before is_blank t) t)))
 
 word_some : (t : List ℕ) → 0 < length t → is_blank (get_or t 0 0) ≡ false → 0 < length (take (len_before is_blank t) t)
@@ -145,14 +144,14 @@ front text w r is_w is_r = elim (front_at text (trimmed text) refl) [
 pub no_words : (text : List ℕ) → length (trimmed text) ≡ 0 → words text ≡ []
 no_words text end = words_trimmed text ∙ ap words (empty (trimmed text) end)
 
-some_words : (text : List ℕ) → 0 < length (trimmed text) → words text ≡ first_word text ∷ words (after_word text)
+pub some_words : (text : List ℕ) → 0 < length (trimmed text) → words text ≡ first_word text ∷ words (after_word text)
 some_words text some = words_trimmed text ∙ words_first (trimmed text) some (trimmed_first text some)
 
 no_second : (a c : Option ℕ) → colour a None c ≡ None
 no_second None c = refl
 no_second (Some a) c = refl
 
-no_third : (a b : Option ℕ) → colour a b None ≡ None
+pub no_third : (a b : Option ℕ) → colour a b None ≡ None
 no_third None b = refl
 no_third (Some a) None = refl
 no_third (Some a) (Some b) = refl

@@ -1,2 +1,4 @@
 pub mod Cuts
+pub mod ValueForm
+pub mod ColourForm
 pub mod Setting

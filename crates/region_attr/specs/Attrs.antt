@@ -1,25 +1,26 @@
 -- Setting the attribute that a key names.
-use Rattle.std.specs.Prelude.{ℕ, Bool, true, false, List, Option, Some, None, IsSome, Result, Ok, Err}
+use Rattle.std.specs.Prelude.{ℕ, Bool, true, false, List, Option, Some, None, is_some, Result, Ok, Err}
 use Rattle.std.specs.Option.{option_map}
 use Rattle.region_attr.specs.Keys.{key_of}
 use Rattle.region_attr.specs.Ranges.{most_number, most_los}
-use Rattle.region_attr.specs.Values.{truth_of, number_to}
-use Rattle.region_attr.specs.Colours.{colour_of}
+use Rattle.region_attr.specs.Values.{truth_of, number_to, IsTruth, IsNumberTo}
+use Rattle.region_attr.specs.Colours.{colour_of, IsColour}
 use Rattle.region_attr.specs.declared.attr.Attr.{Attr}
 use Rattle.region_attr.specs.declared.attr.AttrFault.{AttrFault}
 use Rattle.region_attr.specs.declared.attr.AttrFault.TheVariants.{UnknownKey, BadValue}
+use Rattle.region_attr.specs.declared.attr.Rgb.{Rgb as Colour}
 use Rattle.region_attr.specs.declared.key.Key.{Key}
 use Rattle.region_attr.specs.declared.key.Key.TheVariants.{Region, Id, Air, Los, Mater, Rgb, Inherit}
 
 -- which texts are values of an attribute
 abbrev pub IsValueOf : Key → List ℕ → Type 0
-IsValueOf Region value = IsSome (truth_of value)
-IsValueOf Id value = IsSome (number_to most_number value)
-IsValueOf Air value = IsSome (number_to most_number value)
-IsValueOf Los value = IsSome (number_to most_los value)
-IsValueOf Mater value = IsSome (number_to most_number value)
-IsValueOf Rgb value = IsSome (colour_of value)
-IsValueOf Inherit value = IsSome (truth_of value)
+IsValueOf Region value = (truth : Bool) × IsTruth value truth
+IsValueOf Id value = (n : ℕ) × IsNumberTo most_number value n
+IsValueOf Air value = (n : ℕ) × IsNumberTo most_number value n
+IsValueOf Los value = (n : ℕ) × IsNumberTo most_los value n
+IsValueOf Mater value = (n : ℕ) × IsNumberTo most_number value n
+IsValueOf Rgb value = (c : Colour) × IsColour value c
+IsValueOf Inherit value = (truth : Bool) × IsTruth value truth
 
 -- the attributes with one of them set to a value, if it is a value of that one
 abbrev pub with_value : Key → List ℕ → Attr → Option Attr
@@ -41,6 +42,23 @@ set_known (Some key) value attr = or_bad (with_value key value attr)
 
 abbrev pub set_attr : List ℕ → List ℕ → Attr → Result Attr AttrFault
 set_attr key value attr = set_known (key_of key) value attr
+
+-- whether a key and a value set something: it does not depend on the attributes that are there
+abbrev pub takes : Key → List ℕ → Bool
+takes Region value = is_some (truth_of value)
+takes Id value = is_some (number_to most_number value)
+takes Air value = is_some (number_to most_number value)
+takes Los value = is_some (number_to most_los value)
+takes Mater value = is_some (number_to most_number value)
+takes Rgb value = is_some (colour_of value)
+takes Inherit value = is_some (truth_of value)
+
+abbrev pub known_takes : Option Key → List ℕ → Bool
+known_takes None value = false
+known_takes (Some key) value = takes key value
+
+abbrev pub is_setting : List ℕ → List ℕ → Bool
+is_setting key value = known_takes (key_of key) value
 
 -- the attributes of a new region, and of a new combination that is none
 abbrev pub region_attr : Attr

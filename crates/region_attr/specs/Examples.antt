@@ -3,7 +3,7 @@ use Rattle.std.specs.Prelude.{◌≡◌, ◌∷◌, [], Ok, Err, Some, None, ref
 use Rattle.region_attr.specs.Keys.{key_of}
 use Rattle.region_attr.specs.Values.{truth_of, number_to}
 use Rattle.region_attr.specs.Colours.{is_slash, pieces, words, colour_of}
-use Rattle.region_attr.specs.Attrs.{set_attr, region_attr, group_attr}
+use Rattle.region_attr.specs.Attrs.{set_attr, is_setting, region_attr, group_attr}
 use Rattle.region_attr.specs.declared.attr.AttrFault.TheVariants.{UnknownKey, BadValue}
 use Rattle.region_attr.specs.declared.key.Key.TheVariants.{Mater, Inherit}
 
@@ -84,3 +84,9 @@ set_density = refl
 
 pub set_nothing : set_attr (codes "colour") (codes "1 2 3") region_attr ≡ Err UnknownKey
 set_nothing = refl
+
+pub a_setting : is_setting (codes "id") (codes "5") ≡ true
+a_setting = refl
+
+pub no_setting : is_setting (codes "id") (codes " 5 ") ≡ false
+no_setting = refl

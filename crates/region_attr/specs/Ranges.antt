@@ -10,6 +10,10 @@ most_number = 999999
 abbrev pub most_los : ℕ
 most_los = 100
 
+-- of a part of a colour
+abbrev pub most_part : ℕ
+most_part = 255
+
 pub record HasRanges (attr : Attr) : Type 0 where
   pub id : attr.id ≤ most_number
   pub air : attr.air ≤ most_number

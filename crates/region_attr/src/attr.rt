@@ -1,4 +1,4 @@
-ghost use Rattle.std.specs.Prelude.{◌≡◌, ◌↔◌, OnOk, OnErr, IsSomeAnd, IsNone};
+ghost use Rattle.std.specs.Prelude.{◌≡◌, ◌↔◌, OnOk, OnErr, IsOk, IsSomeAnd, IsNone, IsTrue};
 ghost use Rattle.region_attr.specs.Keys.{key_of};
 ghost use Rattle.region_attr.specs.Attrs as attrs;
 ghost use Rattle.region_attr.specs.Ranges.{HasRanges};
@@ -115,6 +115,7 @@ impl Attr {
     /// 0 to 255, parted by blanks or by `/` without blanks. A refusal changes nothing.
     pub fn set(&mut self, key: &[u8], value: &[u8]) -> Result<(), AttrFault>
         ensures ok { OnOk result (attrs.set_attr key.now value.now self.old ≡ Ok self.new) }
+        ensures accepted { IsOk result ↔ IsTrue (attrs.is_setting key.now value.now) }
         ensures unknown { (result ≡ Err AttrFault.UnknownKey) ↔ IsNone (key_of key.now) }
         ensures bad { (result ≡ Err AttrFault.BadValue) ↔ IsSomeAnd (key_of key.now) (λ named. ¬ (attrs.IsValueOf named value.now)) }
         ensures err { OnErr result (self.new ≡ self.old) }

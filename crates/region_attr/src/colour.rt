@@ -123,11 +123,7 @@ fn of_pieces(text: &[u8]) -> Option<Rgb>
 {
     let (red, after_red) = split_piece(text)?;
     let (green, blue) = split_piece(after_red)?;
-    if has_slash(blue) {
-        None
-    } else {
-        of_parts(red, green, blue)
-    }
+    of_parts(red, green, blue)
 }
 
 fn has_slash(text: &[u8]) -> bool

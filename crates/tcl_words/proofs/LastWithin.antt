@@ -1,11 +1,11 @@
 -- The last token of a word is a token.
 use Rattle.std.proofs.Common.{◌≡◌, ℕ, zero, suc, ◌+◌, ◌-◌, ◌<◌, ◌≤◌, List, [], ◌∷◌, get_or, length, cond, Bool, true, false, arith, Some, None, refl, ap, sym, ◌∙◌, take_all}
-use Rattle.std.specs.Prelude.{count_by, filter_map, not, ◌==◌}
+use Rattle.std.specs.Prelude.{All, count_by, filter_map, not, ◌==◌}
 use Rattle.std.specs.List.{prefix_len, cons_option, range_with_len}
 use Rattle.std.proofs.lemmas.Bool.{eq-eqb, eqb-true, eqb-false}
 use Rattle.std.proofs.lemmas.List.Sums.{prefix_len_passes, prefix_len_stops, prefix_len-le-length}
 use Rattle.std.proofs.lemmas.List.FromFn.{length-range_with_len, get_or-range_with_len}
-use Rattle.tcl_words.specs.TopWords.{opens, closes, level, IsBalanced, word_last, word_at, top_words, AreWordsOf, IsWordOf}
+use Rattle.tcl_words.specs.TopWords.{opens, closes, level, IsBalanced, word_last, word_at, top_words, IsWordOf}
 use Rattle.tcl_words.specs.declared.token.Token.{Token}
 use Rattle.tcl_words.specs.declared.token.Word.{Word}
 
@@ -56,6 +56,10 @@ is_word ts i balanced within out = record {
   ends = eqb-true (level ts (word_last ts i + 1)) 0 (not_false (level ts (word_last ts i + 1) == 0) (q_stops (λ j. not (level ts (j + 1) == 0)) i (length ts - i) (omega (arith, last_within ts i balanced within))));
 }
 
+abbrev AreWordsOf : List Token → List Word → Type 0
+AreWordsOf tokens [] = Unit {0}
+AreWordsOf tokens (w ∷ ws) = IsWordOf tokens w × AreWordsOf tokens ws
+
 words_cons : (ts : List Token) (i : ℕ) (b : Bool) (ws : List Word) → (level ts i == 0) ≡ b → ((level ts i == 0) ≡ true → IsWordOf ts (record { first = i; last = word_last ts i })) → AreWordsOf ts ws → AreWordsOf ts (cons_option (cond b (Some (record { first = i; last = word_last ts i })) None) ws)
 words_cons ts i true ws is word rest = (word is, rest)
 words_cons ts i false ws is word rest = rest
@@ -64,11 +68,11 @@ words_range : (ts : List Token) (a n : ℕ) → IsBalanced ts → a + n ≤ leng
 words_range ts a zero balanced within = tt
 words_range ts a (suc n) balanced within = words_cons ts a (level ts a == 0) (filter_map (word_at ts) (range_with_len (a + 1) n)) refl (is_word ts a balanced (omega arith)) (words_range ts (a + 1) n balanced (omega arith))
 
-pub top_within : (ts : List Token) → IsBalanced ts → AreWordsOf ts (top_words ts)
-top_within ts balanced = words_range ts 0 (length ts) balanced (omega arith)
-
 -- a word from the list
-pub words_index : (ts : List Token) (ws : List Word) (i : ℕ) (d : Word) → AreWordsOf ts ws → i < length ws → IsWordOf ts (get_or ws i d)
+words_index : (ts : List Token) (ws : List Word) (i : ℕ) (d : Word) → AreWordsOf ts ws → i < length ws → IsWordOf ts (get_or ws i d)
 words_index ts [] i d all within = absurd (omega arith)
 words_index ts (w ∷ ws) zero d all within = all.0
 words_index ts (w ∷ ws) (suc i) d all within = words_index ts ws i d all.1 (omega arith)
+
+pub top_within : (ts : List Token) → IsBalanced ts → All (IsWordOf ts) (top_words ts)
+top_within ts balanced = λ i d within. words_index ts (top_words ts) i d (words_range ts 0 (length ts) balanced (omega arith)) within

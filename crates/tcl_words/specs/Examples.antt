@@ -1,5 +1,5 @@
 -- Examples, each proved by computing.
-use Rattle.std.specs.Prelude.{◌≡◌, [], ◌∷◌, Ok, Err, Some, None, refl, codes, map, pos, negsuc, replicate, true, false}
+use Rattle.std.specs.Prelude.{◌≡◌, [], ◌∷◌, ◌++◌, Ok, Err, Some, None, refl, codes, map, pos, negsuc, replicate, true, false}
 use Rattle.tcl_words.specs.GroupText.{is_group_text}
 use Rattle.tcl_words.specs.Reading.{words_of}
 use Rattle.tcl_words.specs.Tokens.{token, tokens_of}
@@ -16,11 +16,20 @@ two_atoms = refl
 pub a_group : words_of (codes "{ yes }") ≡ Ok (token Open 0 1 ∷ token Atom 2 5 ∷ token Close 6 7 ∷ [])
 a_group = refl
 
+pub no_words : words_of (codes " \t\r\n") ≡ Ok []
+no_words = refl
+
+pub empty_group_alone : words_of (codes "{}") ≡ Ok (token Open 0 1 ∷ token Close 1 2 ∷ [])
+empty_group_alone = refl
+
 pub semicolon_inside : words_of (codes "{;}") ≡ Ok (token Open 0 1 ∷ token Atom 1 2 ∷ token Close 2 3 ∷ [])
 semicolon_inside = refl
 
 pub semicolon_outside : words_of (codes "a ;}") ≡ Err (BadByte 2)
 semicolon_outside = refl
+
+pub backslash_inside : words_of (codes "{\\}") ≡ Err (BadByte 1)
+backslash_inside = refl
 
 pub touching : words_of (codes "a{b") ≡ Err (Extra 1)
 touching = refl
@@ -30,6 +39,9 @@ after_a_group = refl
 
 pub not_closed : words_of (codes "{a") ≡ Err Unclosed
 not_closed = refl
+
+pub nothing_open : words_of (codes "}{") ≡ Err (Extra 0)
+nothing_open = refl
 
 pub first_wins : words_of (codes "} \\") ≡ Err (Extra 0)
 first_wins = refl
@@ -67,6 +79,15 @@ no_fraction = refl
 
 pub too_deep : fault_at (replicate 4101 123) 4100 ≡ Some (TooDeep 4100)
 too_deep = refl
+
+pub extra_before_too_deep : fault_at (replicate 4100 123 ++ 97 ∷ 123 ∷ []) 4101 ≡ Some (Extra 4101)
+extra_before_too_deep = refl
+
+pub sign_alone : number_of (codes "-") ≡ None
+sign_alone = refl
+
+pub no_whole_part : number_of (codes ".5") ≡ None
+no_whole_part = refl
 
 pub two_groups : is_group_text (codes "a} {b") ≡ false
 two_groups = refl

@@ -1,5 +1,5 @@
 -- Texts that can stand between one pair of braces.
-use Rattle.std.specs.Prelude.{◌≡◌, ℕ, Bool, ◌&&◌, ◌==◌, List, [], ◌∷◌, ◌++◌, length, is_none}
+use Rattle.std.specs.Prelude.{ℕ, Bool, ◌&&◌, ◌==◌, List, [], ◌∷◌, ◌++◌, length, is_none}
 use Rattle.tcl_words.specs.Faults.{word_fault}
 use Rattle.tcl_words.specs.Tokens.{tokens_of}
 use Rattle.tcl_words.specs.TopWords.{top_words}

@@ -1,4 +1,4 @@
-ghost use Rattle.std.specs.Prelude.{◌≡◌, ◌<◌, ◌≤◌, ◌^◌, ◌+◌, ℕ, cond, length, take, count_by, IfOk};
+ghost use Rattle.std.specs.Prelude.{◌≡◌, ◌<◌, ◌≤◌, ◌^◌, ◌+◌, ℕ, cond, length, take, count_by, All, IfOk};
 ghost use Rattle.tcl_words.specs.TopWords as words;
 ghost use Rattle.std.specs.List.{slice_range};
 ghost use Rattle.std.specs.Option.{option_copied};
@@ -50,7 +50,7 @@ fn word_last(tokens: &[Token], first: usize, opened: usize, closed: usize) -> us
 pub fn top_words(alloc: Global, tokens: &[Token]) -> Result<Vec<Word>, Memory>
     requires { words.IsBalanced tokens.now }
     ensures words { IfOk result (λ found. found.items ≡ words.top_words tokens.now) }
-    ensures within { IfOk result (λ found. words.AreWordsOf tokens.now found.items) }
+    ensures within { IfOk result (λ found. All (words.IsWordOf tokens.now) found.items) }
 {
     let mut found = Vec::new(alloc);
     let mut opened = 0;

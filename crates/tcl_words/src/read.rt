@@ -1,4 +1,4 @@
-ghost use Rattle.std.specs.Prelude.{◌≡◌, ◌<◌, ◌^◌, length, IfOk, ◌≤◌, ◌+◌, cond, true};
+ghost use Rattle.std.specs.Prelude.{◌≡◌, ◌<◌, ◌^◌, List, length, IfOk, ◌≤◌, ◌+◌, cond, true};
 ghost use Rattle.tcl_words.specs.Bytes as bytes;
 ghost use Rattle.tcl_words.specs.Faults as faults;
 ghost use Rattle.tcl_words.specs.Tokens as tokens;
@@ -30,7 +30,8 @@ fn is_extra(byte: u8, last: u8, groups: u32) -> bool
         || (is_atom(byte) && is_close(last))
 }
 
-fn fault_of(byte: u8, last: u8, groups: u32, place: u32) -> Option<WordFault>
+/// What is wrong with a byte at a place, after this byte, inside so many groups.
+pub(crate) fn fault_of(byte: u8, last: u8, groups: u32, place: u32) -> Option<WordFault>
     ensures { result ≡ faults.fault_of byte last groups place }
 {
     if is_bad_at(byte, groups) {
@@ -45,7 +46,7 @@ fn fault_of(byte: u8, last: u8, groups: u32, place: u32) -> Option<WordFault>
 }
 
 /// How many groups are open after a byte that has no fault.
-fn groups_after(byte: u8, groups: u32) -> u32
+pub(crate) fn groups_after(byte: u8, groups: u32) -> u32
     requires few { groups ≤ 4100 }
     requires opens { bytes.is_open byte ≡ true → groups < 4100 }
     requires closes { bytes.is_close byte ≡ true → 0 < groups }
@@ -63,7 +64,7 @@ fn groups_after(byte: u8, groups: u32) -> u32
 
 /// The first fault of a text.
 fn first_fault(text: &[u8]) -> Option<WordFault>
-    requires { length text.now < 2 ^ 32 }
+    requires { length text.now < 2 ^ 31 }
     ensures { result ≡ faults.word_fault text.now }
 {
     let mut groups = 0;
@@ -107,7 +108,7 @@ fn run_end(text: &[u8], place: usize) -> usize
 
 /// The token that begins at a place.
 fn token_at(text: &[u8], place: usize) -> Option<Token>
-    requires short { length text.now < 2 ^ 32 }
+    requires short { length text.now < 2 ^ 31 }
     requires within { place < length text.now }
     ensures { result ≡ tokens.token_at text.now place }
 {
@@ -138,7 +139,7 @@ fn token_at(text: &[u8], place: usize) -> Option<Token>
 
 /// All tokens of a text.
 fn tokens_of(alloc: Global, text: &[u8]) -> Result<Vec<Token>, Memory>
-    requires { length text.now < 2 ^ 32 }
+    requires { length text.now < 2 ^ 31 }
     ensures { IfOk result (λ found. found.items ≡ tokens.tokens_of text.now) }
 {
     let mut found = Vec::new(alloc);
@@ -181,11 +182,12 @@ impl Words {
     }
 }
 
-/// The words of a text that may be longer than one from outside.
-pub(crate) fn read_tokens(alloc: Global, text: &[u8]) -> Result<Words, WordFault>
-    requires { length text.now < 2 ^ 32 }
+/// The words of a text of fewer than 2^31 bytes, or its first fault.
+pub fn read_words(alloc: Global, text: &[u8]) -> Result<Words, WordFault>
+    requires { length text.now < 2 ^ 31 }
     ensures exact { reading.Gives result text.now }
     ensures covers { IfOk result (λ words. Covers text.now 0 words) }
+    ensures only { IfOk result (λ words. (tokens : List Token) → Covers text.now 0 tokens → tokens ≡ words) }
     ensures tokens { IfOk result (λ words. AreTokensIn (length text.now) words) }
 {
     if let Some(fault) = first_fault(text) {
@@ -193,14 +195,4 @@ pub(crate) fn read_tokens(alloc: Global, text: &[u8]) -> Result<Words, WordFault
     }
     let tokens = tokens_of(alloc, text)?;
     Ok(Words { tokens })
-}
-
-/// The words of a text of fewer than 2^31 bytes, or its first fault.
-pub fn read_words(alloc: Global, text: &[u8]) -> Result<Words, WordFault>
-    requires { length text.now < 2 ^ 31 }
-    ensures exact { reading.Gives result text.now }
-    ensures covers { IfOk result (λ words. Covers text.now 0 words) }
-    ensures tokens { IfOk result (λ words. AreTokensIn (length text.now) words) }
-{
-    read_tokens(alloc, text)
 }

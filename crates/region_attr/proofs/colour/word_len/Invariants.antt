@@ -1,7 +1,6 @@
 use Rattle.std.proofs.Common.{◌≡◌, ◌+◌, drop}
-use Rattle.std.specs.List.{prefix_len}
 use Rattle.tcl_words.specs.Bytes.{is_blank}
-use Rattle.region_attr.specs.Colours.{is_slash, len_before}
+use Rattle.region_attr.specs.Colours.{len_before}
 use Rattle.region_attr.proofs.colour.word_len.Given as goal
 
 abbrev pub invariant-loop-count : goal.invariant-loop-count

@@ -1,8 +1,8 @@
 use Rattle.std.proofs.Common.{Some, None, append-nil}
 use Rattle.std.proofs.Common.{subst, List, ℕ, length, arith, ap, sym, ◌∙◌, ◌≡◌}
-use Rattle.std.specs.Prelude.{filter_map}
+use Rattle.std.specs.Prelude.{All, filter_map}
 use Rattle.std.specs.List.{range_with_len}
-use Rattle.tcl_words.specs.TopWords.{AreWordsOf}
+use Rattle.tcl_words.specs.TopWords.{IsWordOf}
 use Rattle.tcl_words.specs.declared.token.Word.{Word}
 use Rattle.tcl_words.proofs.LastWithin.{top_within}
 use Rattle.tcl_words.specs.Tokens.{token}
@@ -37,4 +37,4 @@ loop-first-preserved c =
 
 pub returns-clause-within : goal.returns-clause-within
 returns-clause-within c =
-    subst (λ (ws : List Word). AreWordsOf c.args.tokens.now ws) (ap (λ (n : ℕ). filter_map (word_at c.args.tokens.now) (range_with_len 0 n)) (let e : length c.args.tokens.now ≡ c.loop-first.first = omega arith in e) ∙ sym c.loop-first.invariant.words) (top_within c.args.tokens.now c.requires)
+    subst (λ (ws : List Word). All (IsWordOf c.args.tokens.now) ws) (ap (λ (n : ℕ). filter_map (word_at c.args.tokens.now) (range_with_len 0 n)) (let e : length c.args.tokens.now ≡ c.loop-first.first = omega arith in e) ∙ sym c.loop-first.invariant.words) (top_within c.args.tokens.now c.requires)

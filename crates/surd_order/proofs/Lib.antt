@@ -1,8 +1,15 @@
 pub mod RootLaws
+pub mod Approximation
+pub mod Witnesses
 pub mod AtMostLaws
 pub mod OrderLaws
 pub mod FractionOrder
+pub mod FractionSurdOrder
+pub mod SurdOrder
+pub mod SquareLaws
 pub mod SpellingLaws
+pub mod SurdSpelling
 pub mod LawProofs
 pub mod FracLemmas
 pub mod TextLengths
+pub mod Sizes

@@ -3,4 +3,5 @@ pub mod Order
 pub mod Spelling
 pub mod Laws
 pub mod Range
+pub mod Roots
 pub mod Text

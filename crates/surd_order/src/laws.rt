@@ -1,8 +1,10 @@
-ghost use Rattle.surd_order.specs.Laws.{FractionsAreOrdered, OrderIsTransitive, FractionsHaveOneSpelling};
+ghost use Rattle.surd_order.specs.Laws.{OrderIsTotal, OrderIsTransitive, SamePlaceIsTransitive, IsKeptBySamePlace, PlacesHaveOneSpelling};
 
 /// Laws of the order of positions, in range or not. The function does nothing: its contract is the laws.
 pub fn order_laws()
-    ensures ordered { FractionsAreOrdered }
+    ensures total { OrderIsTotal }
     ensures transitive { OrderIsTransitive }
-    ensures one_spelling { FractionsHaveOneSpelling }
+    ensures same_place { SamePlaceIsTransitive }
+    ensures kept { IsKeptBySamePlace }
+    ensures one_spelling { PlacesHaveOneSpelling }
 {}

@@ -3,7 +3,7 @@ ghost use Rattle.std.specs.Int.{IsGcd};
 ghost use Rattle.std.specs.Int.RustNames.{unsigned_abs};
 ghost use Rattle.surd_order.specs.Spelling.{fraction_of, IsFraction, IsSpelled, HaveSameFractions};
 
-use wide_core::gcd;
+use wide_core::{gcd, isqrt};
 
 /// A position on a ray: `p / q`, or `a + √k`, or with `plus` false `a - √k`.
 ///
@@ -75,6 +75,29 @@ impl Pos {
             Pos::reduced(-p, -q)
         } else {
             Pos::reduced(p, q)
+        }
+    }
+
+    /// The position `a + √k`, or with `plus` false `a - √k`, in its one spelling: the root of a square is
+    /// taken.
+    pub fn surd(a: i64, plus: bool, k: u64) -> Pos
+        requires { unsigned_abs a < 2 ^ 62 }
+        ensures spelled { IsSpelled result }
+        ensures same { HaveSameFractions result (Pos.Surd a plus k) }
+    {
+        let root = isqrt(k as u128);
+        if root * root < k as u128 {
+            Pos::Surd { a, plus, k }
+        } else if plus {
+            Pos::Frac {
+                p: a as i128 + root as i128,
+                q: 1,
+            }
+        } else {
+            Pos::Frac {
+                p: a as i128 - root as i128,
+                q: 1,
+            }
         }
     }
 }

@@ -1,5 +1,11 @@
-use Rattle.surd_order.proofs.LawProofs.{fractions_are_ordered, order_is_transitive, fractions_have_one_spelling}
+use Rattle.surd_order.proofs.LawProofs.{order_is_total, order_is_transitive, same_place_is_transitive, is_kept_by_same_place, places_have_one_spelling}
 use Rattle.surd_order.proofs.laws.order_laws.Goals as goal
 
 pub returns : goal.returns
-returns c = record { ordered = fractions_are_ordered; transitive = order_is_transitive; one_spelling = fractions_have_one_spelling }
+returns c = record {
+  total = order_is_total;
+  transitive = order_is_transitive;
+  same_place = same_place_is_transitive;
+  kept = is_kept_by_same_place;
+  one_spelling = places_have_one_spelling;
+}

@@ -1,4 +1,4 @@
-ghost use Rattle.std.specs.Prelude.{◌≡◌, ◌^◌, pos};
+ghost use Rattle.std.specs.Prelude.{◌≡◌, ◌↔◌, ◌^◌, pos, IsTrue};
 
 /// A point or a vector with whole components, in millimetres.
 #[derive(Clone, Copy, Debug, PartialEq, Eq, Hash)]
@@ -10,7 +10,7 @@ pub struct V3 {
 
 impl V3 {
     ghost use Rattle.lattice_core.specs.Limits.{IsBelow};
-    ghost use Rattle.lattice_core.specs.Vectors.{vector_sum};
+    ghost use Rattle.lattice_core.specs.Vectors.{vector_sum, zero_vector};
 
     /// The sum of two vectors.
     pub fn plus(self, other: V3) -> V3
@@ -23,5 +23,12 @@ impl V3 {
             y: self.y + other.y,
             z: self.z + other.z,
         }
+    }
+
+    /// Whether all components are 0.
+    pub fn is_zero(self) -> bool
+        ensures { IsTrue result ↔ (self ≡ zero_vector) }
+    {
+        self.x == 0 && self.y == 0 && self.z == 0
     }
 }

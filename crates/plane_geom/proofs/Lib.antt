@@ -1,0 +1,5 @@
+pub mod Sizes
+pub mod Cross
+pub mod Crossings
+pub mod Levels
+pub mod Placed

@@ -1,13 +1,15 @@
 -- A cross product stands at right angles on its two factors.
-use Rattle.std.proofs.Common.{◌≡◌, ◌∙◌, ℤ, pos, ◌-ℤ◌, ◌*ℤ◌, ap, sym, arith}
+use Rattle.std.proofs.Common.{◌≡◌, ◌∙◌, Bool, true, false, cond, Option, Some, None, refl, ℤ, pos, ◌-ℤ◌, ◌*ℤ◌, ap, sym, arith}
 use Rattle.std.proofs.lemmas.Int.{ints}
 use Rattle.std.proofs.Math.IntN.{*ℤ_comm}
 use Rattle.lattice_core.specs.declared.vector.V3.{V3}
-use Rattle.lattice_core.specs.Vectors.{dot_product, vector_difference}
+use Rattle.lattice_core.specs.Vectors.{dot_product, vector_difference, zero_vector}
 use Rattle.lattice_core.proofs.Products.{mul_swap, mul_sub}
 use Rattle.plane_geom.specs.declared.plane.Plane.{Plane}
 use Rattle.plane_geom.specs.Vectors.{cross_product}
-use Rattle.plane_geom.specs.Planes.{normal_of, IsThrough}
+use Rattle.plane_geom.specs.Planes.{normal_of, is_zero_vector, plane_of, IsThrough}
+use Rattle.lattice_core.proofs.Turning.{vector_same}
+use Rattle.plane_geom.proofs.Tests.{equal_from, and_left, and_right}
 
 pub sub_mul : (a b c : ℤ) → (a -ℤ b) *ℤ c ≡ (a *ℤ c) -ℤ (b *ℤ c)
 sub_mul a b c =
@@ -62,3 +64,21 @@ through_is plane a b c en ed =
 pub normal_is : (n u v a b c : V3) → n ≡ cross_product u v → u ≡ vector_difference b a → v ≡ vector_difference c a → n ≡ normal_of a b c
 normal_is n u v a b c en eu ev =
     en ∙ ap (λ (w : V3). cross_product w v) eu ∙ ap (cross_product (vector_difference b a)) ev
+
+-- whether a vector is zero
+pub through_none : (n a : V3) → n ≡ zero_vector → None ≡ cond (is_zero_vector n) None (Some (plane_of n a))
+through_none n a e = sym (ap (λ (b : Bool). cond b None (Some (plane_of n a))) (ap is_zero_vector e))
+
+zero_read : (v : V3) → is_zero_vector v ≡ true → v ≡ zero_vector
+zero_read v h =
+    let x : v.x ≡ pos 0 = equal_from v.x (pos 0) (and_left _ _ h) in
+    let y : v.y ≡ pos 0 = equal_from v.y (pos 0) (and_left _ _ (and_right _ _ h)) in
+    let z : v.z ≡ pos 0 = equal_from v.z (pos 0) (and_right _ _ (and_right _ _ h)) in
+    vector_same x y z
+
+some_at : (n a : V3) (b : Bool) → is_zero_vector n ≡ b → ¬ (n ≡ zero_vector) → Some (plane_of n a) ≡ cond b None (Some (plane_of n a))
+some_at n a true e not_zero = absurd (not_zero (zero_read n e))
+some_at n a false e not_zero = refl
+
+pub through_some : (n a : V3) → ¬ (n ≡ zero_vector) → Some (plane_of n a) ≡ cond (is_zero_vector n) None (Some (plane_of n a))
+through_some n a not_zero = some_at n a (is_zero_vector n) refl not_zero

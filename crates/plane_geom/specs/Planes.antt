@@ -1,7 +1,8 @@
 -- A plane (n, d) and the points that it holds: those with n · p at most d. A plane that a ray lies in holds it only
 -- where the first component of n that is not zero is negative, so that of two touching solids one has the ray.
-use Rattle.std.specs.Prelude.{◌≡◌, ◌≢◌, ◌⊎◌, ◌↔◌, ℕ, ◌+◌, ◌*◌, ◌/◌, ◌^◌, ◌<◌, ℤ, pos, ◌+ℤ◌, ◌-ℤ◌, ◌*ℤ◌, ◌<ℤ◌, ◌≤ℤ◌}
+use Rattle.std.specs.Prelude.{◌≡◌, ◌≢◌, ◌⊎◌, ◌↔◌, ℕ, ◌+◌, ◌*◌, ◌/◌, ◌^◌, ◌<◌, Bool, cond, ◌&&◌, Option, Some, None, ℤ, pos, ◌+ℤ◌, ◌-ℤ◌, ◌*ℤ◌, ◌<ℤ◌, ◌≤ℤ◌}
 use Rattle.std.specs.Int.RustNames.{unsigned_abs}
+use Rattle.std.specs.Ordering.{int_eq}
 use Rattle.lattice_core.specs.declared.vector.V3.{V3}
 use Rattle.lattice_core.specs.declared.ray.Dir.{Dir}
 use Rattle.lattice_core.specs.declared.ray.Ray.{Ray}
@@ -35,6 +36,10 @@ normal_of a b c = cross_product (vector_difference b a) (vector_difference c a)
 abbrev pub AreOnOneLine : V3 → V3 → V3 → Type 0
 AreOnOneLine a b c = normal_of a b c ≡ zero_vector
 
+-- how far a point lies beyond a plane, times the length of the normal
+abbrev pub height_over : Plane → V3 → ℤ
+height_over plane p = dot_product plane.n p -ℤ plane.d
+
 -- a point lies in a plane
 abbrev pub LiesIn : V3 → Plane → Type 0
 LiesIn p plane = dot_product plane.n p ≡ plane.d
@@ -45,6 +50,16 @@ pub record IsThrough (plane : Plane) (a b c : V3) : Type 0 where
   pub first : LiesIn a plane
   pub second : LiesIn b plane
   pub third : LiesIn c plane
+
+abbrev pub is_zero_vector : V3 → Bool
+is_zero_vector v = int_eq v.x (pos 0) && (int_eq v.y (pos 0) && int_eq v.z (pos 0))
+
+abbrev pub plane_of : V3 → V3 → Plane
+plane_of n p = record { n = n; d = dot_product n p }
+
+-- the plane through three points, where they are not on one line
+abbrev pub plane_through : V3 → V3 → V3 → Option Plane
+plane_through a b c = cond (is_zero_vector (normal_of a b c)) None (Some (plane_of (normal_of a b c) a))
 
 -- the plane that a placement takes a plane to
 abbrev pub placed_plane : Placement → Plane → Plane

@@ -1,4 +1,4 @@
-ghost use Rattle.std.specs.Prelude.{◌≡◌, ◌*ℤ◌, ◌-ℤ◌, ◌≤◌, pos};
+ghost use Rattle.std.specs.Prelude.{◌≡◌, ◌*ℤ◌, ◌-ℤ◌, ◌≤◌, ◌^◌, pos};
 ghost use Rattle.lattice_core.specs.Limits.{IsAtMost, IsWithin};
 ghost use Rattle.lattice_core.specs.Units.{unit_of};
 ghost use Rattle.lattice_core.specs.Vectors.{dot_product, vector_difference};
@@ -26,6 +26,27 @@ pub fn dot(normal: V3, point: V3) -> i128
     let x = product(normal.x, point.x);
     let y = product(normal.y, point.y);
     let z = product(normal.z, point.z);
+    x + y + z
+}
+
+/// A product of a normal's component and any number.
+fn high_product(component: i64, coordinate: i64) -> i128
+    requires { IsAtMost NORMAL component }
+    ensures value { result ≡ component *ℤ coordinate }
+    ensures size { IsAtMost (NORMAL *ℤ pos (2 ^ 63)) result }
+{
+    i128::from(component) * i128::from(coordinate)
+}
+
+/// The dot product of a normal and any point.
+pub fn high_dot(normal: V3, point: V3) -> i128
+    requires { IsWithin NORMAL normal }
+    ensures value { result ≡ dot_product normal point }
+    ensures size { IsAtMost (pos 3 *ℤ (NORMAL *ℤ pos (2 ^ 63))) result }
+{
+    let x = high_product(normal.x, point.x);
+    let y = high_product(normal.y, point.y);
+    let z = high_product(normal.z, point.z);
     x + y + z
 }
 

@@ -3,7 +3,7 @@ ghost use Rattle.lattice_core.specs.declared.limit.TheConstants.{COORD, SHIFT, W
 ghost use Rattle.lattice_core.specs.Limits.{IsAtMost, IsWithin};
 ghost use Rattle.plane_geom.specs.Edges.{FirstIsNegative, HoldsAlong};
 
-use crate::measure::{along, cross, dot, from_to, square, square_of_length};
+use crate::measure::{along, cross, dot, from_to, high_dot, square, square_of_length};
 use lattice_core::{Placement, Ray, V3};
 
 /// The half-space of the points `p` with `n · p` at most `d`.
@@ -32,7 +32,7 @@ impl Plane {
     ghost use Rattle.plane_geom.specs.declared.limit.TheConstants.{NORMAL, WORLD_OFFSET};
     ghost use Rattle.lattice_core.specs.Limits.{IsAtMost, IsWithin};
     ghost use Rattle.plane_geom.specs.Edges.{HoldsAlong};
-    ghost use Rattle.plane_geom.specs.Planes.{IsSolidPlane, IsWorldPlane, AreOnOneLine, IsThrough, placed_plane, slope_on, start_on, IsCrossing, IsSmallCrossing, level_of};
+    ghost use Rattle.plane_geom.specs.Planes.{IsSolidPlane, IsWorldPlane, AreOnOneLine, IsThrough, plane_through, placed_plane, slope_on, start_on, height_over, IsCrossing, IsSmallCrossing, level_of};
 
     /// The plane through three points, with the normal `(b - a) × (c - a)`, or `None` where they lie on one line.
     pub fn through(a: V3, b: V3, c: V3) -> Option<Plane>
@@ -40,6 +40,7 @@ impl Plane {
         requires second { IsWithin COORD b }
         requires third { IsWithin COORD c }
         ensures none { IsNone result ↔ AreOnOneLine a b c }
+        ensures value { result ≡ plane_through a b c }
         ensures plane { IfSome result (λ plane. IsThrough plane a b c) }
         ensures size { IfSome result IsSolidPlane }
     {
@@ -113,6 +114,14 @@ impl Plane {
         } else {
             gap > 0
         }
+    }
+
+    /// How far a point lies beyond the plane, times the normal's length: negative on the inner side.
+    pub fn height(&self, p: V3) -> i128
+        requires { IsSolidPlane self.now }
+        ensures { result ≡ height_over self.now p }
+    {
+        high_dot(self.n, p) - self.d
     }
 
     /// The brightness of the plane as the ray meets it, from 55 to 255.

@@ -1,5 +1,5 @@
 -- A cross product stands at right angles on its two factors.
-use Rattle.std.proofs.Common.{◌≡◌, ◌∙◌, Bool, true, false, cond, Option, Some, None, refl, ℤ, pos, ◌-ℤ◌, ◌*ℤ◌, ap, sym, arith}
+use Rattle.std.proofs.Common.{◌≡◌, ◌∙◌, Bool, true, false, cond, Some, None, refl, ℤ, pos, ◌-ℤ◌, ◌*ℤ◌, ap, sym, arith}
 use Rattle.std.proofs.lemmas.Int.{ints}
 use Rattle.std.proofs.Math.IntN.{*ℤ_comm}
 use Rattle.lattice_core.specs.declared.vector.V3.{V3}

@@ -1,6 +1,6 @@
 -- Points against planes.
-use Rattle.std.specs.Prelude.{ℤ, pos, Bool, true, List, Option, Some, None}
-use Rattle.std.specs.List.{list_all, list_any}
+use Rattle.std.specs.Prelude.{pos, Bool, true, List, Option, Some, None}
+use Rattle.std.specs.List.{list_all}
 use Rattle.std.specs.Ordering.{int_eq, int_cmp, is_lt, is_gt}
 use Rattle.lattice_core.specs.declared.vector.V3.{V3}
 use Rattle.plane_geom.specs.declared.plane.Plane.{Plane}

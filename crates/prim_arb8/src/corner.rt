@@ -8,12 +8,19 @@ ghost use Rattle.prim_arb8.specs.Points.{lies_in, lies_beyond, lies_before, are_
 use lattice_core::V3;
 use plane_geom::Plane;
 
+fn lies_in(plane: &Plane, p: V3) -> bool
+    requires { IsSolidPlane plane.now }
+    ensures { result ≡ lies_in plane.now p }
+{
+    plane.height(p) == 0
+}
+
 /// Whether all points lie in the plane.
 pub fn are_all_in(plane: &Plane, points: &[V3]) -> bool
     requires { IsSolidPlane plane.now }
     ensures { result ≡ list_all (lies_in plane.now) points.now }
 {
-    points.iter().all(|p| plane.height(*p) == 0)
+    points.iter().all(|p| lies_in(plane, *p))
 }
 
 /// Whether some point lies strictly beyond the plane.

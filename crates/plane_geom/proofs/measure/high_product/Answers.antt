@@ -1,7 +1,7 @@
-use Rattle.std.proofs.Common.{◌≡◌, ◌<◌, ◌*◌, ◌+◌, ◌^◌, FitsSigned, w64, rules, arith, pos, ℤ, ◌+ℤ◌, ◌-ℤ◌, ◌*ℤ◌, sym, ap, ◌∙◌, subst, refl, lit<}
+use Rattle.std.proofs.Common.{◌*◌, FitsSigned, arith, pos, ◌*ℤ◌, lit<}
 use Rattle.std.proofs.lemmas.Int.{ints, to_z-of_z}
 use mir.Syntax.{w128}
-use Rattle.lattice_core.specs.Limits.{IsAtMost, IsWithin}
+use Rattle.lattice_core.specs.Limits.{IsAtMost}
 use Rattle.plane_geom.proofs.Sizes.{product_size, fits128}
 use Rattle.plane_geom.proofs.measure.high_product.Goals as goal
 

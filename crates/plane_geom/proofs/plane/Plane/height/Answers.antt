@@ -1,7 +1,6 @@
-use Rattle.std.proofs.Common.{◌≡◌, ◌<◌, ◌*◌, ◌+◌, ◌^◌, FitsSigned, w64, rules, arith, pos, ℤ, ◌+ℤ◌, ◌-ℤ◌, ◌*ℤ◌, sym, ap, ◌∙◌, subst, refl, lit<}
-use Rattle.std.proofs.lemmas.Int.{ints, to_z-of_z}
+use Rattle.std.proofs.Common.{FitsSigned, ℤ, ◌-ℤ◌, ap, lit<}
+use Rattle.std.proofs.lemmas.Int.{to_z-of_z}
 use mir.Syntax.{w128}
-use Rattle.lattice_core.specs.Limits.{IsAtMost, IsWithin}
 use Rattle.plane_geom.proofs.Sizes.{difference_size, fits128}
 use Rattle.plane_geom.proofs.plane.Plane.height.Goals as goal
 

@@ -1,3 +1,12 @@
+ghost use Rattle.std.specs.Prelude.{◌↔◌, ◌≡◌, IsTrue};
+ghost use Rattle.lattice_core.specs.declared.limit.TheConstants.{WORLD};
+ghost use Rattle.lattice_core.specs.Limits.{IsWithin};
+ghost use Rattle.lattice_core.specs.Boxes.{IsHull, IsMeet, IsTidy, MeetsRay};
+ghost use Rattle.lattice_core.specs.Spans.{IsNonEmpty, IsTidyOf, hull_span, meet_span};
+
+use crate::extent::{hull_high, hull_low, is_ordered, meet_high, meet_low, meets_reach};
+use crate::ray::Ray;
+
 /// One side of a box: open, or at a whole coordinate in millimetres, which belongs to the box.
 #[derive(Clone, Copy, Debug, PartialEq, Eq, Hash)]
 pub enum Side {
@@ -5,8 +14,8 @@ pub enum Side {
     At(i64),
 }
 
-/// A closed box along the axes, without points or with six sides. Of a side that lies beyond its opposite one the
-/// span has no points either.
+/// A closed box along the axes, without points or with six sides. A span of which a low side lies beyond the high one
+/// has no points either.
 #[derive(Clone, Copy, Debug, PartialEq, Eq, Hash)]
 pub enum Box3 {
     Empty,
@@ -18,4 +27,148 @@ pub enum Box3 {
         zlo: Side,
         zhi: Side,
     },
+}
+
+/// The least box that holds the points of two.
+pub fn hull(a: &Box3, b: &Box3) -> Box3
+    ensures hull { IsHull result a.now b.now }
+    ensures tidy { IsTidy result }
+{
+    if !has_points(a) {
+        return tidy(*b);
+    }
+    if !has_points(b) {
+        return *a;
+    }
+    hull_of_spans(a, b)
+}
+
+fn hull_of_spans(a: &Box3, b: &Box3) -> Box3
+    requires a { IsNonEmpty a.now }
+    requires b { IsNonEmpty b.now }
+    ensures { result ≡ hull_span a.now b.now }
+{
+    match (*a, *b) {
+        (
+            Box3::Span {
+                xlo,
+                xhi,
+                ylo,
+                yhi,
+                zlo,
+                zhi,
+            },
+            Box3::Span {
+                xlo: xlo_2,
+                xhi: xhi_2,
+                ylo: ylo_2,
+                yhi: yhi_2,
+                zlo: zlo_2,
+                zhi: zhi_2,
+            },
+        ) => Box3::Span {
+            xlo: hull_low(xlo, xlo_2),
+            xhi: hull_high(xhi, xhi_2),
+            ylo: hull_low(ylo, ylo_2),
+            yhi: hull_high(yhi, yhi_2),
+            zlo: hull_low(zlo, zlo_2),
+            zhi: hull_high(zhi, zhi_2),
+        },
+        _ => Box3::Empty,
+    }
+}
+
+/// The box of the points that lie in both.
+pub fn meet(a: &Box3, b: &Box3) -> Box3
+    ensures meet { IsMeet result a.now b.now }
+    ensures tidy { IsTidy result }
+{
+    tidy(meet_of_spans(a, b))
+}
+
+fn meet_of_spans(a: &Box3, b: &Box3) -> Box3
+    ensures { result ≡ meet_span a.now b.now }
+{
+    match (*a, *b) {
+        (
+            Box3::Span {
+                xlo,
+                xhi,
+                ylo,
+                yhi,
+                zlo,
+                zhi,
+            },
+            Box3::Span {
+                xlo: xlo_2,
+                xhi: xhi_2,
+                ylo: ylo_2,
+                yhi: yhi_2,
+                zlo: zlo_2,
+                zhi: zhi_2,
+            },
+        ) => Box3::Span {
+            xlo: meet_low(xlo, xlo_2),
+            xhi: meet_high(xhi, xhi_2),
+            ylo: meet_low(ylo, ylo_2),
+            yhi: meet_high(yhi, yhi_2),
+            zlo: meet_low(zlo, zlo_2),
+            zhi: meet_high(zhi, zhi_2),
+        },
+        _ => Box3::Empty,
+    }
+}
+
+/// Whether some point of the ray lies in the box. A box and a ray that only touch do.
+pub fn box_meets_ray(b: &Box3, ray: &Ray) -> bool
+    requires { IsWithin WORLD ray.now.origin }
+    ensures { IsTrue result ↔ MeetsRay b.now ray.now }
+{
+    let Box3::Span {
+        xlo,
+        xhi,
+        ylo,
+        yhi,
+        zlo,
+        zhi,
+    } = *b
+    else {
+        return false;
+    };
+    let step = ray.dir.unit();
+    if !meets_reach(xlo, xhi, ray.origin.x, step.x) {
+        return false;
+    }
+    if !meets_reach(ylo, yhi, ray.origin.y, step.y) {
+        return false;
+    }
+    meets_reach(zlo, zhi, ray.origin.z, step.z)
+}
+
+fn has_points(b: &Box3) -> bool
+    ensures { IsTrue result ↔ IsNonEmpty b.now }
+{
+    match *b {
+        Box3::Empty => false,
+        Box3::Span {
+            xlo,
+            xhi,
+            ylo,
+            yhi,
+            zlo,
+            zhi,
+        } => {
+            let x = is_ordered(xlo, xhi);
+            let y = is_ordered(ylo, yhi);
+            let z = is_ordered(zlo, zhi);
+            x && y && z
+        }
+    }
+}
+
+/// The box, or `Empty` where it has no points.
+fn tidy(b: Box3) -> Box3
+    ensures { IsTidyOf b result }
+{
+    if has_points(&b) { b } else { Box3::Empty }
 }

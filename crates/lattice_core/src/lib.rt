@@ -2,15 +2,17 @@
 #![tactic(auto)]
 
 mod boxes;
+mod extent;
 mod limit;
 mod placement;
 mod ray;
+mod row;
 mod turn;
 mod vector;
 
-pub use boxes::{Box3, Side};
+pub use boxes::{Box3, Side, box_meets_ray, hull, meet};
 pub use limit::{COORD, FAR, REACH, SHIFT, WORLD};
-pub use placement::{MatrixFault, Placement};
+pub use placement::{MatrixFault, Placement, compose, of_matrix};
 pub use ray::{Dir, Ray};
 pub use turn::Turn;
 pub use vector::V3;

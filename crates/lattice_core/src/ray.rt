@@ -1,3 +1,7 @@
+ghost use Rattle.std.specs.Prelude.{◌≡◌, pos};
+ghost use Rattle.lattice_core.specs.Limits.{IsWithin};
+ghost use Rattle.lattice_core.specs.Units.{unit_of};
+
 use crate::vector::V3;
 
 /// A signed axis direction.
@@ -16,4 +20,22 @@ pub enum Dir {
 pub struct Ray {
     pub origin: V3,
     pub dir: Dir,
+}
+
+impl Dir {
+    /// The vector of length 1 in this direction.
+    pub fn unit(self) -> V3
+        ensures value { result ≡ unit_of self }
+        ensures size { IsWithin (pos 1) result }
+    {
+        let (x, y, z) = match self {
+            Dir::PlusX => (1, 0, 0),
+            Dir::MinusX => (-1, 0, 0),
+            Dir::PlusY => (0, 1, 0),
+            Dir::MinusY => (0, -1, 0),
+            Dir::PlusZ => (0, 0, 1),
+            Dir::MinusZ => (0, 0, -1),
+        };
+        V3 { x, y, z }
+    }
 }

@@ -1,0 +1,11 @@
+pub mod Limits
+pub mod Vectors
+pub mod Turns
+pub mod Placements
+pub mod Boxes
+pub mod Rays
+pub mod Rows
+pub mod Matrices
+pub mod Extents
+pub mod Spans
+pub mod Units

@@ -1,0 +1,6 @@
+pub mod Tests
+pub mod Sizes
+pub mod Cross
+pub mod Crossings
+pub mod Levels
+pub mod Placed

@@ -1,0 +1,57 @@
+use Rattle.std.proofs.Common.{FitsSigned, w64, rules, ℤ, ◌+ℤ◌, ◌*ℤ◌, ap, ◌∙◌, lit<}
+use Rattle.std.proofs.lemmas.Int.{to_z-of_z}
+use mir.Syntax.{w128}
+use Rattle.plane_geom.proofs.Sizes.{sum_size, fits128}
+use Rattle.plane_geom.proofs.measure.dot.Goals as goal
+
+pub overflow_add-result : goal.overflow_add-result
+overflow_add-result c =
+    let x = c.product-x.result in
+    let y = c.product-y.result in
+    let fx : FitsSigned w128 c.product-x.result = fits128 2251799813685248 x (lit< tt) c.product-x.ensures.size in
+    let fy : FitsSigned w128 c.product-y.result = fits128 2251799813685248 y (lit< tt) c.product-y.ensures.size in
+    let two = sum_size 2251799813685248 2251799813685248 x y c.product-x.ensures.size c.product-y.ensures.size in
+    let f2 : FitsSigned w128 (c.product-x.result +ℤ c.product-y.result) = fits128 4503599627370496 (x +ℤ y) (lit< tt) two in
+    simp to_z-of_z f2
+
+pub overflow_add-result-2 : goal.overflow_add-result-2
+overflow_add-result-2 c =
+    let x = c.product-x.result in
+    let y = c.product-y.result in
+    let z = c.product-z.result in
+    let fx : FitsSigned w128 c.product-x.result = fits128 2251799813685248 x (lit< tt) c.product-x.ensures.size in
+    let fy : FitsSigned w128 c.product-y.result = fits128 2251799813685248 y (lit< tt) c.product-y.ensures.size in
+    let fz : FitsSigned w128 c.product-z.result = fits128 2251799813685248 z (lit< tt) c.product-z.ensures.size in
+    let two = sum_size 2251799813685248 2251799813685248 x y c.product-x.ensures.size c.product-y.ensures.size in
+    let f2 : FitsSigned w128 (c.product-x.result +ℤ c.product-y.result) = fits128 4503599627370496 (x +ℤ y) (lit< tt) two in
+    let three = sum_size 4503599627370496 2251799813685248 (x +ℤ y) z two c.product-z.ensures.size in
+    let f3 : FitsSigned w128 ((c.product-x.result +ℤ c.product-y.result) +ℤ c.product-z.result) = fits128 6755399441055744 ((x +ℤ y) +ℤ z) (lit< tt) three in
+    simp to_z-of_z f3
+
+pub returns : goal.returns
+returns c =
+    let x = c.product-x.result in
+    let y = c.product-y.result in
+    let z = c.product-z.result in
+    let fx : FitsSigned w128 c.product-x.result = fits128 2251799813685248 x (lit< tt) c.product-x.ensures.size in
+    let fy : FitsSigned w128 c.product-y.result = fits128 2251799813685248 y (lit< tt) c.product-y.ensures.size in
+    let fz : FitsSigned w128 c.product-z.result = fits128 2251799813685248 z (lit< tt) c.product-z.ensures.size in
+    let two = sum_size 2251799813685248 2251799813685248 x y c.product-x.ensures.size c.product-y.ensures.size in
+    let f2 : FitsSigned w128 (c.product-x.result +ℤ c.product-y.result) = fits128 4503599627370496 (x +ℤ y) (lit< tt) two in
+    let three = sum_size 4503599627370496 2251799813685248 (x +ℤ y) z two c.product-z.ensures.size in
+    let f3 : FitsSigned w128 ((c.product-x.result +ℤ c.product-y.result) +ℤ c.product-z.result) = fits128 6755399441055744 ((x +ℤ y) +ℤ z) (lit< tt) three in
+    let ax : FitsSigned w64 c.args.normal.x = search rules in
+    let ay : FitsSigned w64 c.args.normal.y = search rules in
+    let az : FitsSigned w64 c.args.normal.z = search rules in
+    let bx : FitsSigned w64 c.args.point.x = search rules in
+    let by : FitsSigned w64 c.args.point.y = search rules in
+    let bz : FitsSigned w64 c.args.point.z = search rules in
+    let ex = simp to_z-of_z at c.product-x.ensures.value in
+    let ey = simp to_z-of_z at c.product-y.ensures.value in
+    let ez = simp to_z-of_z at c.product-z.ensures.value in
+    let a = c.args.normal in
+    let b = c.args.point in
+    simp to_z-of_z (
+    ap (λ (u : ℤ). (u +ℤ y) +ℤ z) ex
+    ∙ ap (λ (u : ℤ). ((a.x *ℤ b.x) +ℤ u) +ℤ z) ey
+    ∙ ap (λ (u : ℤ). ((a.x *ℤ b.x) +ℤ (a.y *ℤ b.y)) +ℤ u) ez)

@@ -1,0 +1,71 @@
+use Rattle.std.proofs.Common.{FitsSigned, w64, rules, ℤ, ◌+ℤ◌, ◌*ℤ◌, ap, ◌∙◌, lit<}
+use Rattle.std.proofs.lemmas.Int.{to_z-of_z}
+use mir.Syntax.{w128}
+use Rattle.plane_geom.proofs.Sizes.{sum_size, fits128}
+use Rattle.plane_geom.proofs.measure.high_dot.Goals as goal
+
+pub overflow_add-result : goal.overflow_add-result
+overflow_add-result c =
+    let x = c.high_product-x.result in
+    let y = c.high_product-y.result in
+    let fx : FitsSigned w128 c.high_product-x.result = fits128 19807040628566084398385987584 x (lit< tt) c.high_product-x.ensures.size in
+    let fy : FitsSigned w128 c.high_product-y.result = fits128 19807040628566084398385987584 y (lit< tt) c.high_product-y.ensures.size in
+    let two = sum_size 19807040628566084398385987584 19807040628566084398385987584 x y c.high_product-x.ensures.size c.high_product-y.ensures.size in
+    let f2 : FitsSigned w128 (c.high_product-x.result +ℤ c.high_product-y.result) = fits128 39614081257132168796771975168 (x +ℤ y) (lit< tt) two in
+    simp to_z-of_z f2
+
+pub overflow_add-result-2 : goal.overflow_add-result-2
+overflow_add-result-2 c =
+    let x = c.high_product-x.result in
+    let y = c.high_product-y.result in
+    let z = c.high_product-z.result in
+    let fx : FitsSigned w128 c.high_product-x.result = fits128 19807040628566084398385987584 x (lit< tt) c.high_product-x.ensures.size in
+    let fy : FitsSigned w128 c.high_product-y.result = fits128 19807040628566084398385987584 y (lit< tt) c.high_product-y.ensures.size in
+    let fz : FitsSigned w128 c.high_product-z.result = fits128 19807040628566084398385987584 z (lit< tt) c.high_product-z.ensures.size in
+    let two = sum_size 19807040628566084398385987584 19807040628566084398385987584 x y c.high_product-x.ensures.size c.high_product-y.ensures.size in
+    let f2 : FitsSigned w128 (c.high_product-x.result +ℤ c.high_product-y.result) = fits128 39614081257132168796771975168 (x +ℤ y) (lit< tt) two in
+    let three = sum_size 39614081257132168796771975168 19807040628566084398385987584 (x +ℤ y) z two c.high_product-z.ensures.size in
+    let f3 : FitsSigned w128 ((c.high_product-x.result +ℤ c.high_product-y.result) +ℤ c.high_product-z.result) = fits128 59421121885698253195157962752 ((x +ℤ y) +ℤ z) (lit< tt) three in
+    simp to_z-of_z f3
+
+pub returns-clause-size : goal.returns-clause-size
+returns-clause-size c =
+    let x = c.high_product-x.result in
+    let y = c.high_product-y.result in
+    let z = c.high_product-z.result in
+    let fx : FitsSigned w128 c.high_product-x.result = fits128 19807040628566084398385987584 x (lit< tt) c.high_product-x.ensures.size in
+    let fy : FitsSigned w128 c.high_product-y.result = fits128 19807040628566084398385987584 y (lit< tt) c.high_product-y.ensures.size in
+    let fz : FitsSigned w128 c.high_product-z.result = fits128 19807040628566084398385987584 z (lit< tt) c.high_product-z.ensures.size in
+    let two = sum_size 19807040628566084398385987584 19807040628566084398385987584 x y c.high_product-x.ensures.size c.high_product-y.ensures.size in
+    let f2 : FitsSigned w128 (c.high_product-x.result +ℤ c.high_product-y.result) = fits128 39614081257132168796771975168 (x +ℤ y) (lit< tt) two in
+    let three = sum_size 39614081257132168796771975168 19807040628566084398385987584 (x +ℤ y) z two c.high_product-z.ensures.size in
+    let f3 : FitsSigned w128 ((c.high_product-x.result +ℤ c.high_product-y.result) +ℤ c.high_product-z.result) = fits128 59421121885698253195157962752 ((x +ℤ y) +ℤ z) (lit< tt) three in
+    simp to_z-of_z three
+
+pub returns-clause-value : goal.returns-clause-value
+returns-clause-value c =
+    let x = c.high_product-x.result in
+    let y = c.high_product-y.result in
+    let z = c.high_product-z.result in
+    let fx : FitsSigned w128 c.high_product-x.result = fits128 19807040628566084398385987584 x (lit< tt) c.high_product-x.ensures.size in
+    let fy : FitsSigned w128 c.high_product-y.result = fits128 19807040628566084398385987584 y (lit< tt) c.high_product-y.ensures.size in
+    let fz : FitsSigned w128 c.high_product-z.result = fits128 19807040628566084398385987584 z (lit< tt) c.high_product-z.ensures.size in
+    let two = sum_size 19807040628566084398385987584 19807040628566084398385987584 x y c.high_product-x.ensures.size c.high_product-y.ensures.size in
+    let f2 : FitsSigned w128 (c.high_product-x.result +ℤ c.high_product-y.result) = fits128 39614081257132168796771975168 (x +ℤ y) (lit< tt) two in
+    let three = sum_size 39614081257132168796771975168 19807040628566084398385987584 (x +ℤ y) z two c.high_product-z.ensures.size in
+    let f3 : FitsSigned w128 ((c.high_product-x.result +ℤ c.high_product-y.result) +ℤ c.high_product-z.result) = fits128 59421121885698253195157962752 ((x +ℤ y) +ℤ z) (lit< tt) three in
+    let ax : FitsSigned w64 c.args.normal.x = search rules in
+    let ay : FitsSigned w64 c.args.normal.y = search rules in
+    let az : FitsSigned w64 c.args.normal.z = search rules in
+    let bx : FitsSigned w64 c.args.point.x = search rules in
+    let by : FitsSigned w64 c.args.point.y = search rules in
+    let bz : FitsSigned w64 c.args.point.z = search rules in
+    let ex = simp to_z-of_z at c.high_product-x.ensures.value in
+    let ey = simp to_z-of_z at c.high_product-y.ensures.value in
+    let ez = simp to_z-of_z at c.high_product-z.ensures.value in
+    let a = c.args.normal in
+    let b = c.args.point in
+    simp to_z-of_z (
+    ap (λ (u : ℤ). (u +ℤ y) +ℤ z) ex
+    ∙ ap (λ (u : ℤ). ((a.x *ℤ b.x) +ℤ u) +ℤ z) ey
+    ∙ ap (λ (u : ℤ). ((a.x *ℤ b.x) +ℤ (a.y *ℤ b.y)) +ℤ u) ez)

@@ -1,0 +1,58 @@
+ghost use Rattle.std.specs.Prelude.{◌≡◌, ◌≤◌, All, Some, None};
+ghost use Rattle.lattice_core.specs.declared.limit.TheConstants.{COORD};
+ghost use Rattle.lattice_core.specs.Limits.{IsWithin};
+ghost use Rattle.prim_arb8.specs.Faces.{planes_of, first_fault, cases_of};
+
+use crate::face::{fault_of, planes_of};
+use lattice_core::V3;
+use plane_geom::{Plane, ShapeFault};
+
+/// A convex solid of eight vertices: the points that the planes of its faces and of the box of its vertices hold.
+/// The faces 1 to 6 have the vertices 1234, 5678, 1265, 2376, 3487 and 4158, and vertices may coincide. The faces 7 to
+/// 12 are those of the box: x at most, x at least, y at most, y at least, z at most and z at least.
+#[derive(Clone, Copy, Debug)]
+pub struct Arb8 {
+    vertices: [V3; 8],
+    planes: [Option<Plane>; 12],
+    pub ghost size: { All (IsWithin COORD) vertices },
+    pub ghost sides: { planes ≡ planes_of vertices },
+    pub ghost sound: { first_fault (cases_of vertices) ≡ None },
+}
+
+impl Arb8 {
+    ghost use Rattle.std.specs.Prelude.{◌≡◌, ◌≤◌, All, MatchResult, Some, None};
+    ghost use Rattle.lattice_core.specs.declared.limit.TheConstants.{COORD};
+    ghost use Rattle.lattice_core.specs.Limits.{IsWithin};
+    ghost use Rattle.prim_arb8.specs.Faces.{first_fault, cases_of, plane_at};
+
+    /// The solid of these vertices, or the first fault: `Flat`, then face by face `NotPlanar` and `NotConvex`.
+    pub fn new(v: [V3; 8]) -> Result<Arb8, ShapeFault>
+        requires { All (IsWithin COORD) v }
+        ensures fault { MatchResult result (λ arb8. first_fault (cases_of v) ≡ None) (λ e. first_fault (cases_of v) ≡ Some e) }
+        ensures vertices { MatchResult result (λ arb8. arb8.vertices ≡ v) (λ e. Unit {0}) }
+    {
+        match fault_of(&v) {
+            Some(fault) => Err(fault),
+            None => Ok(Arb8 {
+                vertices: v,
+                planes: planes_of(&v),
+            }),
+        }
+    }
+
+    /// The vertices 1 to 8.
+    pub fn vertices(&self) -> [V3; 8]
+        ensures value { result ≡ self.now.vertices }
+        ensures size { All (IsWithin COORD) result }
+    {
+        self.vertices
+    }
+
+    /// The outward plane of a face from 1 to 12, or `None` where the face is degenerate.
+    pub fn plane(&self, face: u8) -> Option<Plane>
+        requires { (1 ≤ face) × (face ≤ 12) }
+        ensures { result ≡ plane_at self.now.vertices face }
+    {
+        self.planes[usize::from(face - 1)]
+    }
+}

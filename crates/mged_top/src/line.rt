@@ -1,8 +1,8 @@
 //! Reads the command of a line.
-ghost use Rattle.std.specs.Prelude.{◌≡◌, ◌+◌, ◌<◌, ◌≤◌, ◌^◌, ◌∷◌, ◌++◌, [], length, map, find, not, Some, IfOk, OnOk, IfNone, IfSome};
+ghost use Rattle.std.specs.Prelude.{All, ◌≡◌, ◌+◌, ◌<◌, ◌≤◌, ◌^◌, ◌∷◌, ◌++◌, [], length, map, find, not, Some, IfOk, OnOk, IfNone, IfSome};
 ghost use Rattle.std.specs.Option.{option_map};
 ghost use Rattle.std.specs.Int.RustNames.{unsigned_abs};
-ghost use Rattle.tcl_words.specs.TopWords.{atom_of, AreTokensIn, AreWordsOf};
+ghost use Rattle.tcl_words.specs.TopWords.{atom_of, AreTokensIn, IsWordOf};
 ghost use Rattle.tcl_words.specs.Bytes as bytes;
 ghost use Rattle.mged_top.specs.Answers.{command_entry};
 ghost use Rattle.mged_top.specs.Commands as commands;
@@ -26,7 +26,7 @@ fn word_atoms<'a>(
     words: &[Word],
 ) -> Result<Option<Vec<&'a [u8]>>, Memory>
     requires tokens { AreTokensIn (length line.now) tokens.now }
-    requires words { AreWordsOf tokens.now words.now }
+    requires words { All (IsWordOf tokens.now) words.now }
     ensures { IfOk result (λ found. option_map (λ atoms. map (λ a. a.now) atoms.items) found ≡ commands.all_atoms (map (atom_of line.now tokens.now) words.now)) }
 {
     let mut atoms = Vec::new(alloc);

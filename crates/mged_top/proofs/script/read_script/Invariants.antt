@@ -1,4 +1,4 @@
-use Rattle.std.proofs.Common.{◌≡◌, ◌≤◌, ◌+◌, ◌++◌, All, length, map, vec_len, List, ℕ}
+use Rattle.std.proofs.Common.{◌≡◌, ◌≤◌, ◌+◌, ◌++◌, All, length, map}
 use Rattle.std.specs.List.{position_from}
 use Rattle.transcript.specs.Lines.{lines_in}
 use Rattle.mged_top.specs.Answers.{HasSession, command_entry}

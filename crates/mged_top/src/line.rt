@@ -6,6 +6,7 @@ ghost use Rattle.tcl_words.specs.TopWords.{atom_of, AreTokensIn, IsWordOf};
 ghost use Rattle.tcl_words.specs.Bytes as bytes;
 ghost use Rattle.mged_top.specs.Answers.{command_entry};
 ghost use Rattle.mged_top.specs.Commands as commands;
+ghost use Rattle.mged_top.specs.Readable.{IsReadable};
 ghost use Rattle.mged_top.specs.Scripts as scripts;
 
 use crate::command::{Command, Edit, Query, Refusal, ScriptCommand, ViewFault};
@@ -275,7 +276,8 @@ pub fn push_command(
     line: &[u8],
 ) -> Result<(), Memory>
     requires { length line.now < 2 ^ 31 }
-    ensures { OnOk result (map command_entry commands.new ≡ map command_entry commands.old ++ scripts.commands_in (line.now ∷ [])) }
+    ensures pushed { OnOk result (map command_entry commands.new ≡ map command_entry commands.old ++ scripts.commands_in (line.now ∷ [])) }
+    ensures readable { OnOk result (All IsReadable (map command_entry commands.old) → All IsReadable (map command_entry commands.new)) }
 {
     if is_no_command(line) {
         return Ok(());

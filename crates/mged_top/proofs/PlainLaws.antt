@@ -1,24 +1,19 @@
 -- The command of a line has names and refusals that stand on one line.
-use Rattle.std.proofs.Common.{zero, suc, not, get_or, append-nil, ◌≡◌, ◌≢◌, ◌<◌, ◌+◌, ◌++◌, ◌^◌, ◌==◌, ◌&&◌, ℕ, ℤ, Bool, true, false, cond, List, [], ◌∷◌, All, Option, Some, None, Result, Ok, Err, is_ok, IsOk, length, map, codes, decimal, bytes_eq, drop, slice_index, refl, ap, sym, subst, ◌∙◌, arith, true≢false, eqb-true}
+use Rattle.std.proofs.Common.{zero, suc, get_or, ◌≡◌, ◌<◌, ◌+◌, ◌++◌, ◌^◌, ◌==◌, ◌&&◌, ℕ, ℤ, Bool, true, false, cond, List, [], ◌∷◌, All, Option, Some, None, is_ok, length, map, codes, decimal, bytes_eq, refl, sym, subst, arith, true≢false, eqb-true}
 use Rattle.std.proofs.lemmas.Bool.{and_parts}
 use Rattle.std.specs.List.{AllByRecursion}
-use Rattle.std.specs.Option.{option_map}
 use Rattle.std.proofs.lemmas.List.Elements.{All-head, All-tail, All-append}
 use Rattle.std.proofs.lemmas.List.{length-map}
 use Rattle.lattice_core.specs.declared.ray.Dir.{Dir}
-use Rattle.lattice_core.specs.declared.vector.V3.{V3}
 use Rattle.name_core.specs.NameText.{IsName, is_first_byte, is_next_byte, read_name}
 use Rattle.name_core.proofs.NameLaws.{accepted}
 use Rattle.transcript.specs.Merge.{Entry}
 use Rattle.transcript.specs.Lines.{Lacks}
 use Rattle.transcript.proofs.LineLaws.{lacks_append, decimal_lacks}
 use Rattle.transcript.proofs.TranscriptLaws.{computed}
-use Rattle.tcl_words.specs.Reading.{words_of}
-use Rattle.mged_top.specs.Commands.{unless_refused, name_fault, number_fault, solid_number, view_number, half_in, half_fault, half_command, in_command, direction_of, world_fault, is_from_world, is_zero, vector_in, ray_of, shot_from, shot_command, nirt_command, command_in, command_of, atoms_of}
+use Rattle.mged_top.specs.Commands.{unless_refused, name_fault, number_fault, solid_number, view_number, half_in, half_fault, half_command, in_command, direction_of, world_fault, is_from_world, is_zero, vector_in, ray_of, shot_command, nirt_command, command_in, command_of, atoms_of}
 use Rattle.mged_top.specs.Readable.{IsPlain, IsPlainRefusal, IsReadable}
-use Rattle.mged_top.specs.Scripts.{command_line, commands_in, is_no_command}
-use Rattle.mged_top.specs.Refusals.{refusal_text}
-use Rattle.mged_top.specs.declared.half_space.HalfSpace.{HalfSpace}
+use Rattle.mged_top.specs.Scripts.{command_line}
 use Rattle.mged_top.specs.declared.half_space.ShapeFault.TheVariants.{ZeroNormal}
 use Rattle.mged_top.specs.declared.command.ViewFault.TheVariants.{World}
 use Rattle.mged_top.specs.declared.command.Command.{Command}

@@ -88,6 +88,7 @@ fn read_numbers(atoms: &[&[u8]], word: u32, most: u64, out: &mut [i64]) -> Optio
 }
 
 const SOLID_NUMBER: u64 = 16_384;
+
 const VIEW_NUMBER: u64 = 999_999_999;
 
 fn is_zero(v: &V3) -> bool

@@ -13,3 +13,4 @@ pub mod LawProofs
 pub mod FracLemmas
 pub mod TextLengths
 pub mod Sizes
+pub mod Examples

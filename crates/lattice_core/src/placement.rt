@@ -1,6 +1,7 @@
 ghost use Rattle.std.specs.Prelude.{◌≡◌, ◌↔◌, pos, ◌≤ℤ◌, ◌≤◌, IfOk, IsTrue, Result, Err};
 ghost use Rattle.lattice_core.specs.declared.vector.V3.{V3};
 ghost use Rattle.lattice_core.specs.Limits.{IsAtMost, IsWithin, IsBelow};
+ghost use Rattle.lattice_core.specs.Vectors.{zero_vector};
 ghost use Rattle.lattice_core.specs.Matrices.{HasLastRow, numbers_at, fourth_column};
 ghost use Rattle.lattice_core.specs.Placements.{placed, matrix_of, IsPlacementMatrix, IsFarMatrix, IsComposed};
 
@@ -110,7 +111,9 @@ fn is_at_most(limit: i64, component: i64) -> bool
 impl Placement {
     /// The placement that moves nothing.
     pub fn identity() -> Placement
-        ensures { (p : V3) → placed result p ≡ p }
+        ensures turn { result.turn.number ≡ 0 }
+        ensures shift { result.shift ≡ zero_vector }
+        ensures value { (p : V3) → placed result p ≡ p }
     {
         Placement {
             turn: Turn::identity(),

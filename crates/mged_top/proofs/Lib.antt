@@ -1,3 +1,4 @@
+pub mod PlaceLaws
 pub mod WriteLaws
 pub mod LineLaws
 pub mod ScriptLaws

@@ -1,20 +1,30 @@
 -- The command of a line has names and refusals that stand on one line.
-use Rattle.std.proofs.Common.{zero, suc, get_or, ◌≡◌, ◌<◌, ◌+◌, ◌++◌, ◌^◌, ◌==◌, ◌&&◌, ℕ, ℤ, Bool, true, false, cond, List, [], ◌∷◌, All, Option, Some, None, is_ok, length, map, codes, decimal, bytes_eq, refl, sym, subst, arith, true≢false, eqb-true}
+use Rattle.std.proofs.Common.{zero, suc, get_or, ◌≡◌, ◌<◌, ◌+◌, ◌++◌, ◌^◌, ◌==◌, ◌&&◌, ℕ, ℤ, Bool, true, false, cond, List, [], ◌∷◌, All, Option, Some, None, Result, Ok, Err, is_ok, length, map, codes, decimal, bytes_eq, refl, sym, subst, arith, true≢false, eqb-true}
 use Rattle.std.proofs.lemmas.Bool.{and_parts}
 use Rattle.std.specs.List.{AllByRecursion}
 use Rattle.std.proofs.lemmas.List.Elements.{All-head, All-tail, All-append}
 use Rattle.std.proofs.lemmas.List.{length-map}
 use Rattle.lattice_core.specs.declared.ray.Dir.{Dir}
+use Rattle.lattice_core.specs.declared.vector.V3.{V3}
+use Rattle.lattice_core.specs.declared.limit.TheConstants.{WORLD}
+use Rattle.lattice_core.specs.Limits.{IsAtMost, IsWithin}
 use Rattle.name_core.specs.NameText.{IsName, is_first_byte, is_next_byte, read_name}
 use Rattle.name_core.proofs.NameLaws.{accepted}
 use Rattle.transcript.specs.Merge.{Entry}
 use Rattle.transcript.specs.Lines.{Lacks}
 use Rattle.transcript.proofs.LineLaws.{lacks_append, decimal_lacks}
 use Rattle.transcript.proofs.TranscriptLaws.{computed}
-use Rattle.mged_top.specs.Commands.{unless_refused, name_fault, number_fault, solid_number, view_number, half_in, half_fault, half_command, in_command, direction_of, world_fault, is_from_world, is_zero, vector_in, ray_of, shot_command, nirt_command, command_in, command_of, atoms_of}
+use Rattle.mged_top.specs.Commands.{unless_refused, name_fault, number_fault, solid_number, view_number, make_command, solid_command, kind_command, in_command, direction_of, world_fault, is_from_world, is_in_world, ray_of, shot_command, nirt_command, command_in, command_of, atoms_of}
 use Rattle.mged_top.specs.Readable.{IsPlain, IsPlainRefusal, IsReadable}
 use Rattle.mged_top.specs.Scripts.{command_line}
-use Rattle.mged_top.specs.declared.half_space.ShapeFault.TheVariants.{ZeroNormal}
+use Rattle.plane_geom.specs.declared.fault.ShapeFault.{ShapeFault}
+use Rattle.plane_geom.specs.declared.fault.ShapeFault.TheVariants.{Flat, NotPlanar, NotConvex, Radius, ZeroNormal}
+use Rattle.solid_set.specs.declared.solid.Solid.{Solid}
+use Rattle.mged_top.specs.declared.solid.SolidKind.{SolidKind}
+use Rattle.mged_top.specs.declared.solid.SolidKind.TheVariants.{Half, Rpp, Arb8}
+use Rattle.mged_top.proofs.PlaceLaws.{decimal_one_line}
+use Rattle.mged_top.specs.Solids.{kind_of, number_count, solid_made, vector_at}
+use Rattle.mged_top.specs.Refusals.{shape_text}
 use Rattle.mged_top.specs.declared.command.ViewFault.TheVariants.{World}
 use Rattle.mged_top.specs.declared.command.Command.{Command}
 use Rattle.mged_top.specs.declared.command.Command.TheVariants.{Bad, Edit, Query}
@@ -45,8 +55,15 @@ plain_number word few = record { one_line = lacks_append 10 (codes "number ") (d
 plain_world : IsPlainRefusal (View World)
 plain_world = record { one_line = computed 10 (codes "view world") refl; other = refl }
 
-plain_normal : IsPlainRefusal (Shape ZeroNormal)
-plain_normal = record { one_line = computed 10 (codes "shape normal") refl; other = refl }
+shape_one_line : (fault : ShapeFault) → Lacks 10 (shape_text fault)
+shape_one_line Flat = computed 10 (codes "flat") refl
+shape_one_line (NotPlanar face) = lacks_append 10 (codes "planar ") (decimal face) (computed 10 (codes "planar ") refl) (decimal_one_line face)
+shape_one_line (NotConvex face) = lacks_append 10 (codes "convex ") (decimal face) (computed 10 (codes "convex ") refl) (decimal_one_line face)
+shape_one_line Radius = computed 10 (codes "radius") refl
+shape_one_line ZeroNormal = computed 10 (codes "normal") refl
+
+plain_shape : (fault : ShapeFault) → IsPlainRefusal (Shape fault)
+plain_shape fault = record { one_line = lacks_append 10 (codes "shape ") (shape_text fault) (computed 10 (codes "shape ") refl) (shape_one_line fault); other = refl }
 
 abbrev MayBePlain : Option Refusal → Type 0
 MayBePlain None = Unit {0}
@@ -78,29 +95,48 @@ named false refusal h = absurd cc
 name_read : (word : ℕ) (atom : List ℕ) → name_fault word atom ≡ None → Lacks 10 atom
 name_read word atom h = name_lacks atom ((accepted atom).0 (named (is_ok (read_name atom)) (Name word) h))
 
-half_plain : (name : List ℕ) (numbers : List (Option ℤ)) → length numbers < 2 ^ 32 → IsPlain (half_command name numbers)
-half_plain name numbers few =
-    unless_plain (name_fault 2 name ∷ number_fault 4 numbers ∷ half_fault (half_in numbers) ∷ []) (Edit (Make name (half_in numbers)))
-    (may_if (is_ok (read_name name)) (Name 2) (plain_name 2 (omega arith)), (may_number 4 numbers (omega (arith, few)), (may_unless (is_zero (half_in numbers).n) (Shape ZeroNormal) plain_normal, tt)))
-    (λ all. name_read 2 name all.0)
+make_plain : (name : List ℕ) (made : Result Solid ShapeFault) → Lacks 10 name → IsPlain (make_command name made)
+make_plain name (Ok solid) h = h
+make_plain name (Err fault) h = plain_shape fault
+
+solid_plain : (name : List ℕ) (kind : SolidKind) (numbers : List (Option ℤ)) → length numbers < 2 ^ 32 → IsPlain (solid_command name kind numbers)
+solid_plain name kind numbers few =
+    unless_plain (name_fault 2 name ∷ number_fault 4 numbers ∷ []) (make_command name (solid_made kind numbers))
+    (may_if (is_ok (read_name name)) (Name 2) (plain_name 2 (omega arith)), (may_number 4 numbers (omega (arith, few)), tt))
+    (λ all. make_plain name (solid_made kind numbers) (name_read 2 name all.0))
+
+in_range : (c : ℤ) → is_in_world c ≡ true → IsAtMost WORLD c
+in_range c h = ?
+
+world_read : (origin : V3) → world_fault origin ≡ None → IsWithin WORLD origin
+world_read origin h = ?
 
 shot_plain : (numbers : List (Option ℤ)) (dir : Option Dir) (name : List ℕ) → length numbers < 2 ^ 32 → IsPlain (shot_command numbers dir name)
 shot_plain numbers None name few = plain_syntax
 shot_plain numbers (Some dir) name few =
-    unless_plain (name_fault 6 name ∷ number_fault 2 numbers ∷ world_fault (vector_in numbers) ∷ []) (Query (Shot (ray_of (vector_in numbers) dir) name))
-    (may_if (is_ok (read_name name)) (Name 6) (plain_name 6 (omega arith)), (may_number 2 numbers (omega (arith, few)), (may_if (is_from_world (vector_in numbers)) (View World) plain_world, tt)))
-    (λ all. name_read 6 name all.0)
+    unless_plain (name_fault 6 name ∷ number_fault 2 numbers ∷ world_fault (vector_at numbers 0) ∷ []) (Query (Shot (ray_of (vector_at numbers 0) dir) name))
+    (may_if (is_ok (read_name name)) (Name 6) (plain_name 6 (omega arith)), (may_number 2 numbers (omega (arith, few)), (may_if (is_from_world (vector_at numbers 0)) (View World) plain_world, tt)))
+    (λ all. record { one_line = name_read 6 name all.0; in_world = world_read (vector_at numbers 0) all.1.1.0 })
 
-in_plain : (atoms : List (List ℕ)) → IsPlain (in_command atoms)
-in_plain [] = plain_syntax
-in_plain (a ∷ []) = plain_syntax
-in_plain (name ∷ kind ∷ numbers) =
-    plain_cond (bytes_eq kind (codes "half") && length numbers == 4) (half_command name (map solid_number numbers)) (Bad Syntax)
-    (λ e. half_plain name (map solid_number numbers) (omega (arith, length-map numbers solid_number, eqb-true _ _ (and_parts (bytes_eq kind (codes "half")) (length numbers == 4) e).1))) plain_syntax
+few_numbers : (kind : SolidKind) → number_count kind < 2 ^ 32
+few_numbers Half = omega arith
+few_numbers Rpp = omega arith
+few_numbers Arb8 = omega arith
+
+kind_plain : (name : List ℕ) (kind : Option SolidKind) (atoms : List (List ℕ)) → IsPlain (kind_command name kind atoms)
+kind_plain name None atoms = plain_syntax
+kind_plain name (Some kind) atoms =
+    plain_cond (length atoms == number_count kind) (solid_command name kind (map solid_number atoms)) (Bad Syntax)
+    (λ e. solid_plain name kind (map solid_number atoms) (omega (arith, length-map atoms solid_number, eqb-true _ _ e, few_numbers kind))) plain_syntax
   where
     plain_cond : (t : Bool) (x y : Command) → (t ≡ true → IsPlain x) → IsPlain y → IsPlain (cond t x y)
     plain_cond true x y h k = h refl
     plain_cond false x y h k = k
+
+in_plain : (atoms : List (List ℕ)) → IsPlain (in_command atoms)
+in_plain [] = plain_syntax
+in_plain (a ∷ []) = plain_syntax
+in_plain (name ∷ kind ∷ atoms) = kind_plain name (kind_of kind) atoms
 
 nirt_plain : (atoms : List (List ℕ)) → IsPlain (nirt_command atoms)
 nirt_plain [] = plain_syntax

@@ -23,7 +23,12 @@ use Rattle.mged_top.specs.Outcomes.{IsLineOutcome}
 use Rattle.mged_top.specs.Readable.{IsPlain, IsReadable}
 use Rattle.mged_top.specs.Replies.{core_rules, start_from, made, shot, edited, outcome_of, edit_outcome, shown}
 use Rattle.mged_top.specs.declared.answer.Answer.{Answer}
-use Rattle.mged_top.specs.declared.half_space.HalfSpace.{HalfSpace}
+use Rattle.solid_set.specs.declared.solid.Solid.{Solid}
+use Rattle.surd_order.specs.declared.position.Seg.{Seg}
+use Rattle.solid_set.specs.Segments.{segment_of}
+use Rattle.mged_top.specs.Shots.{own_surface, partition_lines}
+use Rattle.mged_top.specs.Readable.{IsPlainShot}
+use Rattle.mged_top.proofs.PlaceLaws.{partition_one_line}
 use Rattle.mged_top.specs.declared.command.Command.{Command}
 use Rattle.mged_top.specs.declared.command.Command.TheVariants.{Bad, Edit as IsEdit, Query as IsQuery}
 use Rattle.mged_top.specs.declared.command.Edit.TheVariants.{Make}
@@ -41,23 +46,27 @@ edited_fits : (d : Entries) (c : Command) → Any d → IsPlain c → IfSomeKeep
 edited_fits d (Bad refusal) h k = tt
 edited_fits d (IsEdit (Make name solid)) h k = made_fits d name solid (solid_at d name)
   where
-    made_fits : (d : Entries) (name : List ℕ) (solid : HalfSpace) (there : Option HalfSpace) → IfSomeKeeps Any (Rattle.std.specs.Result.result_ok (made d name solid there))
+    made_fits : (d : Entries) (name : List ℕ) (solid : Solid) (there : Option Solid) → IfSomeKeeps Any (Rattle.std.specs.Result.result_ok (made d name solid there))
     made_fits d name solid (Some x) = tt
     made_fits d name solid None = tt
 edited_fits d (IsQuery query) h k = tt
 
-made_reply : (d : Entries) (name : List ℕ) (solid : HalfSpace) (there : Option HalfSpace) → Lacks 10 name → IsPrintableReply (shown (edit_outcome (made d name solid there)))
+made_reply : (d : Entries) (name : List ℕ) (solid : Solid) (there : Option Solid) → Lacks 10 name → IsPrintableReply (shown (edit_outcome (made d name solid there)))
 made_reply d name solid (Some x) h = lacks_append 10 (codes "exists ") name (computed 10 (codes "exists ") refl) h
 made_reply d name solid None h = (tt, omega arith)
 
-shot_reply : (ray : Ray) (name : List ℕ) (there : Option HalfSpace) → Lacks 10 name → IsPrintableReply (shown (shot ray name there))
+lines_fit : (name : List ℕ) (seg : Option Seg) → Lacks 10 name → AllByRecursion (Lacks 10) (partition_lines name seg) × (length (partition_lines name seg) < 2 ^ 64)
+lines_fit name None h = (tt, omega arith)
+lines_fit name (Some seg) h = ((partition_one_line name seg h, tt), omega arith)
+
+shot_reply : (ray : Ray) (name : List ℕ) (there : Option Solid) → Lacks 10 name → IsPrintableReply (shown (shot ray name there))
 shot_reply ray name None h = lacks_append 10 (codes "missing ") name (computed 10 (codes "missing ") refl) h
-shot_reply ray name (Some solid) h = (tt, omega arith)
+shot_reply ray name (Some solid) h = lines_fit name (segment_of (own_surface solid) ray) h
 
 reply_fits : (d : Entries) (own : Unit {0}) (c : Command) → Any d → None_own own → IsPlain c → IsPrintableReply (shown (outcome_of d c))
 reply_fits d own (Bad refusal) h q k = k.one_line
 reply_fits d own (IsEdit (Make name solid)) h q k = made_reply d name solid (solid_at d name) k
-reply_fits d own (IsQuery (Shot ray name)) h q k = shot_reply ray name (solid_at d name) k
+reply_fits d own (IsQuery (Shot ray name)) h q k = shot_reply ray name (solid_at d name) k.one_line
 
 -- none of them says memory
 exists_tells : (name : List ℕ) → bytes_eq (codes "exists " ++ name) (codes "memory") ≡ false
@@ -66,11 +75,11 @@ exists_tells name = refl
 missing_tells : (name : List ℕ) → bytes_eq (codes "missing " ++ name) (codes "memory") ≡ false
 missing_tells name = refl
 
-made_tells : (d : Entries) (name : List ℕ) (solid : HalfSpace) (there : Option HalfSpace) → says_memory (shown (edit_outcome (made d name solid there))) ≡ false
+made_tells : (d : Entries) (name : List ℕ) (solid : Solid) (there : Option Solid) → says_memory (shown (edit_outcome (made d name solid there))) ≡ false
 made_tells d name solid (Some x) = exists_tells name
 made_tells d name solid None = refl
 
-shot_tells : (ray : Ray) (name : List ℕ) (there : Option HalfSpace) → says_memory (shown (shot ray name there)) ≡ false
+shot_tells : (ray : Ray) (name : List ℕ) (there : Option Solid) → says_memory (shown (shot ray name there)) ≡ false
 shot_tells ray name None = missing_tells name
 shot_tells ray name (Some solid) = refl
 

@@ -13,7 +13,10 @@ use Rattle.tcl_words.specs.Reading.{words_of}
 use Rattle.tcl_words.specs.TopWords.{top_words, atom_of}
 use Rattle.tcl_words.specs.declared.fault.WordFault.{WordFault}
 use Rattle.tcl_words.specs.declared.token.Token.{Token}
-use Rattle.mged_top.specs.declared.half_space.HalfSpace.{HalfSpace}
+use Rattle.plane_geom.specs.declared.fault.ShapeFault.{ShapeFault}
+use Rattle.solid_set.specs.declared.solid.Solid.{Solid}
+use Rattle.mged_top.specs.declared.solid.SolidKind.{SolidKind}
+use Rattle.mged_top.specs.Solids.{kind_of, number_count, solid_made, vector_at}
 use Rattle.mged_top.specs.declared.command.Command.{Command}
 use Rattle.mged_top.specs.declared.command.Command.TheVariants.{Bad, Edit, Query}
 use Rattle.mged_top.specs.declared.command.Edit.TheVariants.{Make}
@@ -21,7 +24,6 @@ use Rattle.mged_top.specs.declared.command.Query.TheVariants.{Shot}
 use Rattle.mged_top.specs.declared.command.Refusal.{Refusal}
 use Rattle.mged_top.specs.declared.command.Refusal.TheVariants.{Syntax, Name, Number, View, Shape}
 use Rattle.mged_top.specs.declared.command.ViewFault.TheVariants.{World}
-use Rattle.mged_top.specs.declared.half_space.ShapeFault.TheVariants.{ZeroNormal}
 
 -- the words of a line, where each is an atom or a group of one atom
 abbrev pub all_atoms : List (Option (List ℕ)) → Option (List (List ℕ))
@@ -68,32 +70,23 @@ number_fault word [] = None
 number_fault word (None ∷ rest) = Some (Number word)
 number_fault word (Some n ∷ rest) = number_fault (word + 1) rest
 
-abbrev pub nth_number : List (Option ℤ) → ℕ → ℤ
-nth_number numbers i = unwrap_or (slice_index_or numbers i None) (pos 0)
+abbrev pub make_command : List ℕ → Result Solid ShapeFault → Command
+make_command name (Ok solid) = Edit (Make name solid)
+make_command name (Err fault) = Bad (Shape fault)
 
--- three numbers as a vector
-abbrev pub vector_in : List (Option ℤ) → V3
-vector_in numbers = record { x = nth_number numbers 0; y = nth_number numbers 1; z = nth_number numbers 2 }
+-- `in NAME KIND` and the numbers of that kind
+abbrev pub solid_command : List ℕ → SolidKind → List (Option ℤ) → Command
+solid_command name kind numbers =
+    unless_refused (name_fault 2 name ∷ number_fault 4 numbers ∷ []) (make_command name (solid_made kind numbers))
 
-abbrev pub is_zero : V3 → Bool
-is_zero v = int_eq v.x (pos 0) && int_eq v.y (pos 0) && int_eq v.z (pos 0)
-
-abbrev pub half_in : List (Option ℤ) → HalfSpace
-half_in numbers = record { n = vector_in numbers; d = nth_number numbers 3 }
-
--- a half-space has a normal
-abbrev pub half_fault : HalfSpace → Option Refusal
-half_fault half = if is_zero half.n then Some (Shape ZeroNormal) else None
-
--- `in NAME half NX NY NZ D`
-abbrev pub half_command : List ℕ → List (Option ℤ) → Command
-half_command name numbers =
-    unless_refused (name_fault 2 name ∷ number_fault 4 numbers ∷ half_fault (half_in numbers) ∷ []) (Edit (Make name (half_in numbers)))
+abbrev pub kind_command : List ℕ → Option SolidKind → List (List ℕ) → Command
+kind_command name None atoms = Bad Syntax
+kind_command name (Some kind) atoms = if length atoms == number_count kind then solid_command name kind (map solid_number atoms) else Bad Syntax
 
 abbrev pub in_command : List (List ℕ) → Command
 in_command [] = Bad Syntax
 in_command (name ∷ []) = Bad Syntax
-in_command (name ∷ kind ∷ numbers) = if bytes_eq kind (codes "half") && length numbers == 4 then half_command name (map solid_number numbers) else Bad Syntax
+in_command (name ∷ kind ∷ atoms) = kind_command name (kind_of kind) atoms
 
 abbrev pub direction_of : List ℕ → Option Dir
 direction_of word =
@@ -124,7 +117,7 @@ shot_from origin dir name = unless_refused (world_fault origin ∷ []) (Query (S
 abbrev pub shot_command : List (Option ℤ) → Option Dir → List ℕ → Command
 shot_command numbers None name = Bad Syntax
 shot_command numbers (Some dir) name =
-    unless_refused (name_fault 6 name ∷ number_fault 2 numbers ∷ world_fault (vector_in numbers) ∷ []) (Query (Shot (ray_of (vector_in numbers) dir) name))
+    unless_refused (name_fault 6 name ∷ number_fault 2 numbers ∷ world_fault (vector_at numbers 0) ∷ []) (Query (Shot (ray_of (vector_at numbers 0) dir) name))
 
 abbrev pub nirt_command : List (List ℕ) → Command
 nirt_command (x ∷ y ∷ z ∷ dir ∷ name ∷ []) = shot_command (map view_number (x ∷ y ∷ z ∷ [])) (direction_of dir) name

@@ -1,5 +1,7 @@
 pub mod Refusals
 pub mod Directories
+pub mod Solids
+pub mod Shots
 pub mod Commands
 pub mod Scripts
 pub mod Readings

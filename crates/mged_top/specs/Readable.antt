@@ -1,5 +1,9 @@
--- Commands of which each answer stands on lines of its own, and is told from want of memory.
-use Rattle.std.specs.Prelude.{◌≡◌, bytes_eq, codes, false}
+-- Commands of which each answer stands on lines of its own, and is told from want of memory. A ray starts in the
+-- world.
+use Rattle.std.specs.Prelude.{◌≡◌, ℕ, List, bytes_eq, codes, false}
+use Rattle.lattice_core.specs.declared.ray.Ray.{Ray}
+use Rattle.lattice_core.specs.declared.limit.TheConstants.{WORLD}
+use Rattle.lattice_core.specs.Limits.{IsWithin}
 use Rattle.transcript.specs.Lines.{Lacks}
 use Rattle.transcript.specs.Merge.{Entry}
 use Rattle.mged_top.specs.Refusals.{refusal_text}
@@ -19,8 +23,13 @@ pub record IsPlainRefusal (refusal : Refusal) : Type 0 where
 abbrev pub IsPlainEdit : Edit → Type 0
 IsPlainEdit (Make name solid) = Lacks 10 name
 
+-- a shot from the world
+pub record IsPlainShot (ray : Ray) (name : List ℕ) : Type 0 where
+  pub one_line : Lacks 10 name
+  pub in_world : IsWithin WORLD ray.origin
+
 abbrev pub IsPlainQuery : Query → Type 0
-IsPlainQuery (Shot ray name) = Lacks 10 name
+IsPlainQuery (Shot ray name) = IsPlainShot ray name
 
 abbrev pub IsPlain : Command → Type 0
 IsPlain (Bad refusal) = IsPlainRefusal refusal

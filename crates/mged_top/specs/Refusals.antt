@@ -2,8 +2,8 @@
 use Rattle.std.specs.Prelude.{ℕ, List, ◌++◌, codes, decimal}
 use Rattle.mged_top.specs.declared.command.ViewFault.{ViewFault}
 use Rattle.mged_top.specs.declared.command.ViewFault.TheVariants.{World}
-use Rattle.mged_top.specs.declared.half_space.ShapeFault.{ShapeFault}
-use Rattle.mged_top.specs.declared.half_space.ShapeFault.TheVariants.{ZeroNormal}
+use Rattle.plane_geom.specs.declared.fault.ShapeFault.{ShapeFault}
+use Rattle.plane_geom.specs.declared.fault.ShapeFault.TheVariants.{Flat, NotPlanar, NotConvex, Radius, ZeroNormal}
 use Rattle.mged_top.specs.declared.command.Refusal.{Refusal}
 use Rattle.mged_top.specs.declared.command.Refusal.TheVariants.{Syntax, Name, Number, View, Shape, Exists, Missing, Memory}
 
@@ -11,6 +11,10 @@ abbrev pub view_text : ViewFault → List ℕ
 view_text World = codes "world"
 
 abbrev pub shape_text : ShapeFault → List ℕ
+shape_text Flat = codes "flat"
+shape_text (NotPlanar face) = codes "planar " ++ decimal face
+shape_text (NotConvex face) = codes "convex " ++ decimal face
+shape_text Radius = codes "radius"
 shape_text ZeroNormal = codes "normal"
 
 abbrev pub refusal_text : Refusal → List ℕ

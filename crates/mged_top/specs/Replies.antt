@@ -6,7 +6,8 @@ use Rattle.outside_core.specs.declared.traits.File.{File}
 use Rattle.transcript.specs.Run.{Reply, Accepted, Refused, Rules, State}
 use Rattle.mged_top.specs.Directories.{Entries, solid_at}
 use Rattle.mged_top.specs.Refusals.{refusal_text}
-use Rattle.mged_top.specs.declared.half_space.HalfSpace.{HalfSpace}
+use Rattle.solid_set.specs.declared.solid.Solid.{Solid}
+use Rattle.mged_top.specs.Shots.{shot_lines}
 use Rattle.mged_top.specs.declared.command.Command.{Command}
 use Rattle.mged_top.specs.declared.command.Command.TheVariants.{Bad, Edit as IsEdit, Query as IsQuery}
 use Rattle.mged_top.specs.declared.command.Edit.{Edit}
@@ -17,7 +18,7 @@ use Rattle.mged_top.specs.declared.command.Refusal.{Refusal}
 use Rattle.mged_top.specs.declared.command.Refusal.TheVariants.{Exists, Missing}
 
 -- a new object goes to the end of the directory, where its name is not there yet
-abbrev pub made : Entries → List ℕ → HalfSpace → Option HalfSpace → Result Entries Refusal
+abbrev pub made : Entries → List ℕ → Solid → Option Solid → Result Entries Refusal
 made entries name solid (Some there) = Err (Exists name)
 made entries name solid None = Ok (entries ++ (name, solid) ∷ [])
 
@@ -26,9 +27,9 @@ abbrev pub applied : Entries → Edit → Result Entries Refusal
 applied entries (Make name solid) = made entries name solid (solid_at entries name)
 
 -- the body of a shot, whose object is there or not
-abbrev pub shot : Ray → List ℕ → Option HalfSpace → Result (List (List ℕ)) Refusal
+abbrev pub shot : Ray → List ℕ → Option Solid → Result (List (List ℕ)) Refusal
 shot ray name None = Err (Missing name)
-shot ray name (Some solid) = Ok []
+shot ray name (Some solid) = Ok (shot_lines ray name solid)
 
 -- the body of a query, or why it is refused
 abbrev pub looked : Entries → Query → Result (List (List ℕ)) Refusal

@@ -1,10 +1,12 @@
 ghost use Rattle.std.specs.Prelude.{◌≡◌, ◌≤◌, ◌<◌, ◌+◌, ◌^◌, IfOk, OnOk, OnErr};
 ghost use Rattle.transcript.specs.Run.{answer_of, book_after};
 ghost use Rattle.mged_top.specs.Answers.{core_book, core_answer, unmarked};
+ghost use Rattle.mged_top.specs.Readable.{IsPlain, IsPlainQuery};
 ghost use Rattle.mged_top.specs.Replies.{core_rules, looked};
 
 use crate::command::{Command, Query, Refusal};
 use crate::directory::Directory;
+use crate::shot::shoot;
 use memory_core::Memory;
 use std::alloc::Global;
 use transcript::Body;
@@ -29,12 +31,13 @@ fn look(
     directory: &Directory,
     query: &Query,
 ) -> Result<Result<Body, Refusal>, Memory>
+    requires { IsPlainQuery query.now }
     ensures { IfOk result (λ outcome. outcome ≡ looked directory.now query.now) }
 {
     match query {
-        Query::Shot { ray: _, name } => match directory.get(name) {
+        Query::Shot { ray, name } => match directory.get(name) {
             None => Ok(Err(Refusal::Missing(*name))),
-            Some(_) => Ok(Ok(Body::new(alloc))),
+            Some(solid) => Ok(Ok(shoot(alloc, ray, name, solid)?)),
         },
     }
 }
@@ -42,7 +45,8 @@ fn look(
 /// The core step on one thread: what a command is answered, and the book after it. Want of memory leaves the
 /// book as it was.
 pub fn answer_command(alloc: Global, book: &mut Book, command: &Command) -> Result<Answer, Memory>
-    requires { book.old.version + 1 < 2 ^ 32 }
+    requires version { book.old.version + 1 < 2 ^ 32 }
+    requires plain { IsPlain command.now }
     ensures answer { IfOk result (λ answer. core_answer answer ≡ answer_of core_rules (core_book book.old) tt (unmarked command.now)) }
     ensures book { OnOk result (core_book book.new ≡ book_after core_rules (core_book book.old) (unmarked command.now)) }
     ensures stays { OnErr result (book.new ≡ book.old) }

@@ -1,10 +1,11 @@
-ghost use Rattle.std.specs.Prelude.{◌≡◌};
-ghost use Rattle.mged_top.specs.Refusals.{refusal_text};
+ghost use Rattle.std.specs.Prelude.{◌≡◌, ◌≤◌, ◌++◌, length};
+ghost use Rattle.mged_top.specs.Refusals.{refusal_text, shape_text};
 
-use crate::half_space::{HalfSpace, ShapeFault};
 use fixed_text::FixedText;
 use lattice_core::Ray;
 use name_core::Name;
+use plane_geom::ShapeFault;
+use solid_set::Solid;
 use std::sync::Arc;
 
 /// Why a command is refused. The first that holds is answered, in this order.
@@ -38,6 +39,25 @@ pub enum ViewFault {
 /// The text of a refusal.
 pub type RefusalText = FixedText<96>;
 
+fn push_shape(fault: ShapeFault, out: &mut RefusalText)
+    requires { length out.old ≤ 32 }
+    ensures { out.new ≡ out.old ++ shape_text fault }
+{
+    match fault {
+        ShapeFault::Flat => out.push(b"flat"),
+        ShapeFault::NotPlanar(face) => {
+            out.push(b"planar ");
+            out.push_number(face);
+        }
+        ShapeFault::NotConvex(face) => {
+            out.push(b"convex ");
+            out.push_number(face);
+        }
+        ShapeFault::Radius => out.push(b"radius"),
+        ShapeFault::ZeroNormal => out.push(b"normal"),
+    }
+}
+
 impl Refusal {
     /// Writes the text of the refusal in place of what `out` held.
     pub fn write_text(&self, out: &mut RefusalText)
@@ -55,7 +75,10 @@ impl Refusal {
                 out.push_number(*word);
             }
             Refusal::View(ViewFault::World) => out.push(b"view world"),
-            Refusal::Shape(ShapeFault::ZeroNormal) => out.push(b"shape normal"),
+            Refusal::Shape(fault) => {
+                out.push(b"shape ");
+                push_shape(*fault, out);
+            }
             Refusal::Exists(name) => {
                 out.push(b"exists ");
                 out.push(name.bytes());
@@ -73,7 +96,7 @@ impl Refusal {
 #[derive(Debug, Drop)]
 pub enum Edit {
     /// Appends a new object.
-    Make { name: Name, solid: HalfSpace },
+    Make { name: Name, solid: Solid },
 }
 
 /// A command that looks at the directory.

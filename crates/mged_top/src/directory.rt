@@ -4,16 +4,16 @@ ghost use Rattle.mged_top.specs.Answers.{IsApplied};
 ghost use Rattle.mged_top.specs.Directories.{solid_at};
 
 use crate::command::{Edit, Refusal};
-use crate::half_space::HalfSpace;
 use indexmap::IndexMap;
 use name_core::Name;
+use solid_set::Solid;
 use std::alloc::Global;
 use std::marker::Model;
 
 /// The named solids. Contracts see the list of names and solids, in the order in which they were made.
 #[derive(Drop)]
 pub struct Directory {
-    solids: IndexMap<Name, HalfSpace>,
+    solids: IndexMap<Name, Solid>,
 }
 
 impl Model for Directory {
@@ -35,7 +35,7 @@ impl Directory {
     }
 
     /// The solid of this name, or None exactly where it isn't there.
-    pub fn get(&self, name: &Name) -> Option<&HalfSpace>
+    pub fn get(&self, name: &Name) -> Option<&Solid>
         ensures { option_copied result ≡ solid_at self.now name.now }
     {
         self.solids.get(name)
@@ -50,7 +50,7 @@ impl Directory {
         }
     }
 
-    fn make(&mut self, name: &Name, solid: &HalfSpace) -> Result<(), Refusal>
+    fn make(&mut self, name: &Name, solid: &Solid) -> Result<(), Refusal>
         ensures { IsApplied result (Edit.Make name.now solid.now) self.old self.new }
     {
         if self.solids.contains_key(name) {

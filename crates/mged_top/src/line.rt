@@ -8,9 +8,12 @@ ghost use Rattle.mged_top.specs.Answers.{command_entry};
 ghost use Rattle.mged_top.specs.Commands as commands;
 ghost use Rattle.mged_top.specs.Readable.{IsReadable};
 ghost use Rattle.mged_top.specs.Scripts as scripts;
+ghost use Rattle.mged_top.specs.Solids as solids;
+ghost use Rattle.lattice_core.specs.declared.limit.TheConstants.{COORD};
+ghost use Rattle.lattice_core.specs.Limits.{IsAtMost};
 
 use crate::command::{Command, Edit, Query, Refusal, ScriptCommand, ViewFault};
-use crate::half_space::{HalfSpace, ShapeFault};
+use crate::solid::{SolidKind, vector_at};
 use item_list::Items;
 use lattice_core::{Dir, Ray, V3, WORLD};
 use memory_core::Memory;
@@ -59,7 +62,7 @@ fn atoms<'a>(alloc: Global, line: &'a [u8]) -> Result<Option<Vec<&'a [u8]>>, Mem
 fn number_to(atom: &[u8], most: u64) -> Option<i64>
     requires { most < 2 ^ 62 }
     ensures number { result ≡ commands.number_to most atom.now }
-    ensures within { IfSome result (λ n. unsigned_abs n < 2 ^ 62) }
+    ensures within { IfSome result (λ n. unsigned_abs n ≤ most) }
 {
     let number = read_number(atom)?;
     if number.unsigned_abs() <= most {
@@ -76,6 +79,7 @@ fn read_numbers(atoms: &[&[u8]], word: u32, most: u64, out: &mut [i64]) -> Optio
     requires few { word + length atoms.now < 2 ^ 32 }
     requires most { most < 2 ^ 62 }
     ensures fault { result ≡ commands.number_fault word (map (commands.number_to most) (map (λ a. a.now) atoms.now)) }
+    ensures within { IfNone result (All (λ n. unsigned_abs n ≤ most) out.new) }
     ensures read { IfNone result (map (commands.number_to most) (map (λ a. a.now) atoms.now) ≡ map (λ n. Some n) out.new) }
 {
     for (i, atom) in atoms.iter().enumerate() {
@@ -90,12 +94,6 @@ fn read_numbers(atoms: &[&[u8]], word: u32, most: u64, out: &mut [i64]) -> Optio
 const SOLID_NUMBER: u64 = 16_384;
 
 const VIEW_NUMBER: u64 = 999_999_999;
-
-fn is_zero(v: &V3) -> bool
-    ensures { result ≡ commands.is_zero v.now }
-{
-    v.x == 0 && v.y == 0 && v.z == 0
-}
 
 fn is_in_world(c: i64) -> bool
     ensures { result ≡ commands.is_in_world c }
@@ -123,53 +121,46 @@ fn direction(word: &[u8]) -> Option<Dir>
     }
 }
 
-/// Reads `in NAME half NX NY NZ D`.
-fn half_command(name: &[u8], atoms: &[&[u8]]) -> Command
-    requires { length atoms.now ≡ 4 }
-    ensures { result ≡ commands.half_command name.now (map commands.solid_number (map (λ a. a.now) atoms.now)) }
+/// Makes the solid of a kind by its numbers.
+fn make_command(name: Name, kind: SolidKind, numbers: &[i64]) -> Command
+    requires count { length numbers.now ≡ solids.number_count kind }
+    requires size { All (IsAtMost COORD) numbers.now }
+    ensures { result ≡ commands.make_command name (solids.solid_made kind (map (λ n. Some n) numbers.now)) }
+{
+    match kind.make(numbers) {
+        Ok(solid) => Command::Edit(Edit::Make { name, solid }),
+        Err(fault) => Command::Bad(Refusal::Shape(fault)),
+    }
+}
+
+/// Reads `in NAME KIND` and the numbers of that kind.
+fn solid_command(name: &[u8], kind: SolidKind, atoms: &[&[u8]]) -> Command
+    requires { length atoms.now ≡ solids.number_count kind }
+    ensures { result ≡ commands.solid_command name.now kind (map commands.solid_number (map (λ a. a.now) atoms.now)) }
 {
     let Ok(name) = Name::read(name) else {
         return Command::Bad(Refusal::Name(2));
     };
-    let mut numbers = [0; 4];
-    if let Some(refusal) = read_numbers(atoms, 4, SOLID_NUMBER, &mut numbers) {
+    let mut numbers = [0; 24];
+    let numbers = &mut numbers[..atoms.len()];
+    if let Some(refusal) = read_numbers(atoms, 4, SOLID_NUMBER, numbers) {
         return Command::Bad(refusal);
     }
-    let n = vector(&numbers);
-    if is_zero(&n) {
-        return Command::Bad(Refusal::Shape(ShapeFault::ZeroNormal));
-    }
-    Command::Edit(Edit::Make {
-        name,
-        solid: HalfSpace { n, d: numbers[3] },
-    })
+    make_command(name, kind, numbers)
 }
 
-/// Reads what follows `in`: `NAME half NX NY NZ D`.
+/// Reads what follows `in`: `NAME KIND` and the numbers of that kind.
 fn in_command(atoms: &[&[u8]]) -> Command
     ensures { result ≡ commands.in_command (map (λ a. a.now) atoms.now) }
 {
     match atoms {
-        [name, kind, numbers @ ..] => {
-            if *kind == b"half".as_slice() && numbers.len() == 4 {
-                half_command(name, numbers)
-            } else {
-                Command::Bad(Refusal::Syntax)
+        [name, kind, numbers @ ..] => match SolidKind::of_word(kind) {
+            Some(kind) if numbers.len() == kind.number_count() => {
+                solid_command(name, kind, numbers)
             }
-        }
+            _ => Command::Bad(Refusal::Syntax),
+        },
         _ => Command::Bad(Refusal::Syntax),
-    }
-}
-
-/// Three numbers as a vector.
-fn vector(numbers: &[i64]) -> V3
-    requires { 3 ≤ length numbers.now }
-    ensures { result ≡ commands.vector_in (map (λ n. Some n) numbers.now) }
-{
-    V3 {
-        x: numbers[0],
-        y: numbers[1],
-        z: numbers[2],
     }
 }
 
@@ -198,7 +189,7 @@ fn shot_command(atoms: &[&[u8]], dir: Dir, name: &[u8]) -> Command
     if let Some(refusal) = read_numbers(atoms, 2, VIEW_NUMBER, &mut numbers) {
         return Command::Bad(refusal);
     }
-    shot_from(vector(&numbers), dir, name)
+    shot_from(vector_at(&numbers, 0), dir, name)
 }
 
 /// Reads what follows `nirt`: `X Y Z DIR NAME`.

@@ -45,6 +45,7 @@ fn run_command(
     next: &ScriptCommand,
 ) -> Result<(), Memory>
     requires session { HasSession (command_entry next.now) }
+    requires readable { IsReadable (command_entry next.now) }
     requires eight { vec_len answers.old ≡ 8 }
     requires small { book.old.version + 1 < 2 ^ 32 }
     ensures eight { vec_len answers.new ≡ 8 }
@@ -64,6 +65,7 @@ fn run_commands(
     script: &[ScriptCommand],
 ) -> Result<(), Memory>
     requires sessions { All HasSession (map command_entry script.now) }
+    requires readable { All IsReadable (map command_entry script.now) }
     requires few { length script.now + 1 < 2 ^ 32 }
     requires eight { vec_len answers.old ≡ 8 }
     requires fresh { book.old.version ≡ 0 }

@@ -1,0 +1,126 @@
+//! Makes solids of numbers.
+ghost use Rattle.std.specs.Prelude.{◌≡◌, ◌≤◌, ◌+◌, All, length, map, Some};
+ghost use Rattle.lattice_core.specs.declared.limit.TheConstants.{COORD};
+ghost use Rattle.lattice_core.specs.Limits.{IsAtMost, IsWithin};
+ghost use Rattle.mged_top.specs.Solids as solids;
+
+use lattice_core::V3;
+use plane_geom::ShapeFault;
+use prim_arb8::Arb8;
+use prim_half::Half;
+use solid_set::Solid;
+
+/// The kinds of solids that `in` makes.
+#[derive(Clone, Copy, Debug, PartialEq, Eq)]
+pub enum SolidKind {
+    /// A half-space by a normal and a distance.
+    Half,
+    /// A box by its ranges of x, y and z.
+    Rpp,
+    /// A solid by eight vertices.
+    Arb8,
+}
+
+impl SolidKind {
+    /// The kind that a word names.
+    pub fn of_word(word: &[u8]) -> Option<SolidKind>
+        ensures { result ≡ solids.kind_of word.now }
+    {
+        match word {
+            b"half" => Some(SolidKind::Half),
+            b"rpp" => Some(SolidKind::Rpp),
+            b"arb8" => Some(SolidKind::Arb8),
+            _ => None,
+        }
+    }
+
+    /// How many numbers make such a solid: at most 24.
+    pub fn number_count(self) -> usize
+        ensures exact { result ≡ solids.number_count self }
+        ensures small { result ≤ 24 }
+    {
+        match self {
+            SolidKind::Half => 4,
+            SolidKind::Rpp => 6,
+            SolidKind::Arb8 => 24,
+        }
+    }
+
+    /// The solid of these numbers, or its first fault.
+    pub fn make(self, numbers: &[i64]) -> Result<Solid, ShapeFault>
+        requires count { length numbers.now ≡ solids.number_count self }
+        requires size { All (IsAtMost COORD) numbers.now }
+        ensures { result ≡ solids.solid_made self (map (λ n. Some n) numbers.now) }
+    {
+        match self {
+            SolidKind::Half => half(vector_at(numbers, 0), numbers[3]),
+            SolidKind::Rpp => rpp(numbers),
+            SolidKind::Arb8 => arb8(vertices(numbers)),
+        }
+    }
+}
+
+/// The three numbers from a place on.
+pub fn vector_at(numbers: &[i64], place: usize) -> V3
+    requires { place + 3 ≤ length numbers.now }
+    ensures { result ≡ solids.vector_at (map (λ n. Some n) numbers.now) place }
+{
+    V3 {
+        x: numbers[place],
+        y: numbers[place + 1],
+        z: numbers[place + 2],
+    }
+}
+
+fn half(normal: V3, distance: i64) -> Result<Solid, ShapeFault>
+    requires normal { IsWithin COORD normal }
+    requires distance { IsAtMost COORD distance }
+    ensures { result ≡ solids.half_made normal distance }
+{
+    Ok(Solid::Half(Half::new(normal, distance)?))
+}
+
+fn arb8(vertices: [V3; 8]) -> Result<Solid, ShapeFault>
+    requires { All (IsWithin COORD) vertices }
+    ensures { result ≡ solids.arb8_made vertices }
+{
+    Ok(Solid::Arb8(Arb8::new(vertices)?))
+}
+
+fn rpp(numbers: &[i64]) -> Result<Solid, ShapeFault>
+    requires count { length numbers.now ≡ 6 }
+    requires size { All (IsAtMost COORD) numbers.now }
+    ensures { result ≡ solids.solid_made SolidKind.Rpp (map (λ n. Some n) numbers.now) }
+{
+    let (x, y, z) = (numbers[0], numbers[2], numbers[4]);
+    let (far_x, far_y, far_z) = (numbers[1], numbers[3], numbers[5]);
+    arb8([
+        V3 { x, y, z },
+        V3 { x, y: far_y, z },
+        V3 { x, y: far_y, z: far_z },
+        V3 { x, y, z: far_z },
+        V3 { x: far_x, y, z },
+        V3 { x: far_x, y: far_y, z },
+        V3 { x: far_x, y: far_y, z: far_z },
+        V3 { x: far_x, y, z: far_z },
+    ])
+}
+
+/// Eight vertices by 24 numbers.
+fn vertices(numbers: &[i64]) -> [V3; 8]
+    requires count { length numbers.now ≡ 24 }
+    requires size { All (IsAtMost COORD) numbers.now }
+    ensures value { result ≡ solids.vertices_in (map (λ n. Some n) numbers.now) }
+    ensures size { All (IsWithin COORD) result }
+{
+    [
+        vector_at(numbers, 0),
+        vector_at(numbers, 3),
+        vector_at(numbers, 6),
+        vector_at(numbers, 9),
+        vector_at(numbers, 12),
+        vector_at(numbers, 15),
+        vector_at(numbers, 18),
+        vector_at(numbers, 21),
+    ]
+}

@@ -1,0 +1,5 @@
+pub mod Crossings
+pub mod Spelled
+pub mod Segments
+pub mod Surfaces
+pub mod Laws

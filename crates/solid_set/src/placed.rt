@@ -1,0 +1,16 @@
+use plane_geom::Plane;
+
+/// The surface of a placed solid: what decides where a ray is inside.
+#[derive(Clone, Copy, Debug, PartialEq, Eq, Hash)]
+pub enum Surface {
+    /// The planes of the faces 1 to 12 of a solid of eight vertices. A degenerate face has none.
+    Planes([Option<Plane>; 12]),
+    /// The plane of the one face of a half-space.
+    HalfSpace(Plane),
+}
+
+/// A solid in the world.
+#[derive(Clone, Copy, Debug)]
+pub struct Placed {
+    surface: Surface,
+}

@@ -4,6 +4,7 @@ use Rattle.std.specs.List.{find, list_all}
 use Rattle.std.specs.Ordering.{is_lt, is_eq, is_gt}
 use Rattle.lattice_core.specs.declared.ray.Ray.{Ray}
 use Rattle.lattice_core.specs.declared.limit.TheConstants.{FAR}
+use Rattle.plane_geom.specs.declared.plane.Plane.{Plane}
 use Rattle.surd_order.specs.declared.position.Pos.{Pos}
 use Rattle.surd_order.specs.declared.position.Pos.TheVariants.{Frac}
 use Rattle.surd_order.specs.declared.position.Seg.{Seg}
@@ -75,6 +76,10 @@ segment_between entering leaving =
         end_face = face_at (end_of leaving) leaving;
       }))
       None
+
+-- the part of a ray that planes hold, with the faces numbered from 1 on
+abbrev pub segment_through : List (Option Plane) → Ray → Option Seg
+segment_through sides ray = cond (is_missed_by ray sides) None (segment_between (entering_from ray 1 sides) (leaving_from ray 1 sides))
 
 -- the entering and the leaving crossings of a surface, in the order of its faces, and whether some plane misses the ray
 abbrev pub entering : Surface → Ray → List Crossed

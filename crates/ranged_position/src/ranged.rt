@@ -27,7 +27,7 @@ impl RangedPos {
     ghost use Rattle.std.specs.declared.cmp.Ordering.TheVariants.{Equal};
     ghost use Rattle.surd_order.specs.Order.{IsOrderOf};
     ghost use Rattle.ranged_position.specs.Ranged.{IsRanged};
-    ghost use Rattle.ranged_position.specs.PlaceOrder.{place_cmp};
+    ghost use Rattle.surd_order.specs.PlaceOrder.{place_cmp};
 
     /// Takes a position that is in its one spelling and in range.
     pub fn new(place: Pos) -> RangedPos
@@ -57,8 +57,8 @@ impl RangedPos {
 impl PartialEq for RangedPos {
     ghost use Rattle.std.specs.Prelude.{◌≡◌, ◌↔◌, IsTrue};
     ghost use Rattle.std.specs.Ordering.{eq_by_cmp};
-    ghost use Rattle.ranged_position.specs.PlaceOrder.{place_cmp};
-    ghost use Rattle.ranged_position.specs.PlaceOrderLaws.{place_eq_partial};
+    ghost use Rattle.surd_order.specs.PlaceOrder.{place_cmp};
+    ghost use Rattle.surd_order.proofs.PlaceOrderLaws.{place_eq_partial};
 
     ghost eq = { eq_by_cmp place_cmp };
 
@@ -74,15 +74,15 @@ impl PartialEq for RangedPos {
 }
 
 impl Eq for RangedPos {
-    ghost use Rattle.ranged_position.specs.PlaceOrderLaws.{place_eq_equiv};
+    ghost use Rattle.surd_order.proofs.PlaceOrderLaws.{place_eq_equiv};
 
     ghost laws = { place_eq_equiv };
 }
 
 impl PartialOrd for RangedPos {
     ghost use Rattle.std.specs.Ordering.{as_partial_cmp};
-    ghost use Rattle.ranged_position.specs.PlaceOrder.{place_cmp};
-    ghost use Rattle.ranged_position.specs.PlaceOrderLaws.{place_cmp_partial};
+    ghost use Rattle.surd_order.specs.PlaceOrder.{place_cmp};
+    ghost use Rattle.surd_order.proofs.PlaceOrderLaws.{place_cmp_partial};
 
     ghost partial_cmp = { as_partial_cmp place_cmp };
 
@@ -96,8 +96,8 @@ impl PartialOrd for RangedPos {
 impl Ord for RangedPos {
     ghost use Rattle.std.specs.Prelude.{refl, ◌≡◌};
     ghost use Rattle.surd_order.specs.Order.{IsOrderOf};
-    ghost use Rattle.ranged_position.specs.PlaceOrder.{place_cmp};
-    ghost use Rattle.ranged_position.specs.PlaceOrderLaws.{place_cmp_total};
+    ghost use Rattle.surd_order.specs.PlaceOrder.{place_cmp};
+    ghost use Rattle.surd_order.proofs.PlaceOrderLaws.{place_cmp_total};
 
     ghost cmp = { place_cmp };
 

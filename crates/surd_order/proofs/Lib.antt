@@ -13,3 +13,5 @@ pub mod LawProofs
 pub mod FracLemmas
 pub mod TextLengths
 pub mod Sizes
+pub mod SpelledPlaces
+pub mod PlaceOrderLaws

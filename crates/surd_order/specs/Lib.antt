@@ -5,3 +5,6 @@ pub mod Laws
 pub mod Range
 pub mod Roots
 pub mod Text
+pub mod PlaceOrder
+pub mod Spelled
+pub mod Examples

@@ -7,7 +7,7 @@ mod position;
 mod range;
 mod text;
 
-pub use laws::order_laws;
+pub use laws::{order_laws, place_order_laws};
 pub use position::{Pos, Seg};
 pub use range::{OVER_LIMIT, SQUARE_LIMIT, UNDER_LIMIT, WHOLE_LIMIT};
 pub use text::PosText;

@@ -2,6 +2,7 @@ ghost use Rattle.std.specs.Prelude.{◌≡◌, true, false, ◌+◌, ◌*◌, �
 ghost use Rattle.std.specs.Int.RustNames.{unsigned_abs};
 ghost use Rattle.std.specs.Ordering.{int_cmp};
 ghost use Rattle.surd_order.specs.Order.{IsOrderOf};
+ghost use Rattle.surd_order.specs.PlaceOrder.{place_cmp};
 ghost use Rattle.surd_order.specs.Range.{IsInRange, IsFractionInRange, IsSurdInRange};
 ghost use Rattle.surd_order.specs.Roots.{IsRootOrder};
 
@@ -159,7 +160,8 @@ impl Pos {
     pub fn cmp(&self, other: &Pos) -> Ordering
         requires self_in_range { IsInRange self.now }
         requires other_in_range { IsInRange other.now }
-        ensures { IsOrderOf result self.now other.now }
+        ensures order { IsOrderOf result self.now other.now }
+        ensures same { result ≡ place_cmp self.now other.now }
     {
         match (*self, *other) {
             (Pos::Frac { p, q }, Pos::Frac { p: r, q: s }) => cmp_fractions(p, q, r, s),

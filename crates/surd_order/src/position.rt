@@ -2,6 +2,7 @@ ghost use Rattle.std.specs.Prelude.{◌≡◌, ◌≢◌, int_div, ◌<◌, ◌^
 ghost use Rattle.std.specs.Int.{IsGcd};
 ghost use Rattle.std.specs.Int.RustNames.{unsigned_abs};
 ghost use Rattle.surd_order.specs.Spelling.{fraction_of, IsFraction, IsSpelled, HaveSameFractions};
+ghost use Rattle.surd_order.specs.Spelled.{spelled};
 
 use wide_core::{gcd, isqrt};
 
@@ -70,6 +71,7 @@ impl Pos {
         ensures fraction { IsFraction result }
         ensures spelled { IsSpelled result }
         ensures same { HaveSameFractions result (fraction_of p q) }
+        ensures value { result ≡ spelled (fraction_of p q) }
     {
         if q < 0 {
             Pos::reduced(-p, -q)
@@ -84,6 +86,7 @@ impl Pos {
         requires { unsigned_abs a < 2 ^ 62 }
         ensures spelled { IsSpelled result }
         ensures same { HaveSameFractions result (Pos.Surd a plus k) }
+        ensures value { result ≡ spelled (Pos.Surd a plus k) }
     {
         let root = isqrt(k as u128);
         if root * root < k as u128 {

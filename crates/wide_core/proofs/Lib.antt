@@ -1,3 +1,5 @@
 pub mod Divisors
+pub mod Euclid
 pub mod Newton
 pub mod Products
+pub mod RootDigits

@@ -1,4 +1,5 @@
 ghost use Rattle.std.specs.Prelude.{◌≡◌, ◌≤◌, ◌<◌, ◌*◌, ◌+◌, ◌^◌};
+ghost use Rattle.wide_core.specs.Root.{root_of};
 
 /// A power of two that is above the square root, and at most about twice it.
 fn power_above(n: u64) -> u64
@@ -37,6 +38,7 @@ fn isqrt_wide(n: u128) -> u128
 pub fn isqrt(n: u128) -> u128
     ensures square { result * result ≤ n }
     ensures next { n < (result + 1) * (result + 1) }
+    ensures same { result ≡ root_of n }
 {
     if n == 0 {
         0

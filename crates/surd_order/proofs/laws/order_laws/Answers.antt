@@ -1,4 +1,5 @@
 use Rattle.surd_order.proofs.LawProofs.{order_is_total, order_is_transitive, same_place_is_transitive, is_kept_by_same_place, places_have_one_spelling}
+use Rattle.surd_order.proofs.SpelledPlaces.{is_one_spelling}
 use Rattle.surd_order.proofs.laws.order_laws.Goals as goal
 
 pub returns : goal.returns
@@ -8,4 +9,5 @@ returns c = record {
   same_place = same_place_is_transitive;
   kept = is_kept_by_same_place;
   one_spelling = places_have_one_spelling;
+  spelled = is_one_spelling;
 }

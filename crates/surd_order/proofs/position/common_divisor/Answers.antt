@@ -12,7 +12,7 @@ found c =
     let fq : FitsSigned w128 c.args.q = c.ranges.q in
     let p_is = simp to_z-of_z at c.unsigned_abs.ensures.value in
     let q_is = simp to_z-of_z at c.unsigned_abs-2.ensures.value in
-    rw (p_is, q_is) at c.gcd.ensures
+    rw (p_is, q_is) at c.gcd.ensures.divisor
 
 pub overflow_cast-result : goal.overflow_cast-result
 overflow_cast-result c = divisor_fits c.args.p c.args.q c.gcd.result c.ranges.q c.requires.positive (found c)

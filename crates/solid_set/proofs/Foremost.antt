@@ -10,7 +10,7 @@ use Rattle.std.specs.Ordering.{is_eq, is_gt, is_lt, ordering_reverse}
 use Rattle.std.specs.declared.cmp.Ordering.{Ordering}
 use Rattle.std.specs.declared.cmp.Ordering.TheVariants.{Less, Equal, Greater}
 use Rattle.surd_order.specs.declared.position.Pos.{Pos}
-use Rattle.ranged_position.specs.PlaceOrder.{place_cmp}
+use Rattle.surd_order.specs.PlaceOrder.{place_cmp}
 use Rattle.solid_set.specs.declared.crossed.Crossed.{Crossed}
 use Rattle.solid_set.specs.Segments.{is_unbeaten, foremost, place_or, places_of, face_or_none, face_at}
 use Rattle.solid_set.specs.Spans.{at, chosen}

@@ -1,6 +1,7 @@
 -- Spans stay in range.
-use Rattle.std.proofs.Common.{◌≡◌, ◌<◌, ◌^◌, ℤ, pos, ◌<ℤ◌, Bool, true, false, cond, ◌==◌, arith}
-use Rattle.std.proofs.lemmas.Int.{ints}
+use Rattle.std.proofs.Common.{◌≡◌, ◌<◌, ◌^◌, ℤ, pos, ◌<ℤ◌, Bool, true, false, arith, FitsSigned, w64}
+use Rattle.std.proofs.lemmas.Int.{ints, fits_signed_from_abs}
+use mir.Syntax.{w128}
 use Rattle.std.specs.Int.RustNames.{unsigned_abs}
 use Rattle.std.specs.declared.cmp.Ordering.{Ordering}
 use Rattle.std.specs.declared.cmp.Ordering.TheVariants.{Less, Equal, Greater}
@@ -12,23 +13,17 @@ use Rattle.plane_geom.specs.Planes.{IsCrossing, IsSmallCrossing}
 use Rattle.surd_order.specs.declared.position.Pos.TheVariants.{Frac}
 use Rattle.surd_order.specs.Range.{IsInRange}
 use Rattle.solid_set.specs.declared.crossed.Crossed.{Crossed}
-use Rattle.solid_set.specs.Spans.{IsCrossingInRange, chosen, later, earlier, at}
-use Rattle.ranged_position.specs.PlaceOrder.{place_cmp}
+use Rattle.solid_set.specs.Spans.{IsCrossingInRange, IsSpanInRange, whole_span}
+use Rattle.surd_order.specs.PlaceOrder.{place_cmp}
 
-tied_range : (best next : Crossed) (b : Bool) → IsInRange best.place → IsInRange (cond b (at next.face best.place) best).place
-tied_range best next true h = h
-tied_range best next false h = h
+pub fits_over : (z : ℤ) → unsigned_abs z < 2 ^ 57 → FitsSigned w128 z
+fits_over z h = fits_signed_from_abs w128 z (omega arith)
 
-pub chosen_range : (r : Ordering) (best next : Crossed) → IsInRange best.place → IsInRange next.place → IsInRange (chosen r best next).place
-chosen_range Less best next h g = h
-chosen_range Equal best next h g = tied_range best next (best.face == 0) h
-chosen_range Greater best next h g = g
+pub fits_under : (q : ℤ) → pos 0 <ℤ q → q <ℤ pos (2 ^ 33) → FitsSigned w128 q
+fits_under q some h = fits_signed_from_abs w128 q (omega (arith, ints))
 
-pub later_range : (best next : Crossed) → IsInRange best.place → IsInRange next.place → IsInRange (later best next).place
-later_range best next h g = chosen_range (place_cmp next.place best.place) best next h g
-
-pub earlier_range : (best next : Crossed) → IsInRange best.place → IsInRange next.place → IsInRange (earlier best next).place
-earlier_range best next h g = chosen_range (place_cmp best.place next.place) best next h g
+pub fits_whole : (z : ℤ) → unsigned_abs z < 2 ^ 24 → FitsSigned w64 z
+fits_whole z h = fits_signed_from_abs w64 z (omega arith)
 
 small_under : (s : ℤ) → unsigned_abs s < 2 ^ 33 → s <ℤ pos (2 ^ 33)
 small_under s h = omega (arith, ints)
@@ -38,3 +33,9 @@ crossing_range plane ray (Enters r s) h small = record { over = small.0; positiv
 crossing_range plane ray (Leaves r s) h small = record { over = small.0; positive = h.2; under = small_under s small.1 }
 crossing_range plane ray Holds h small = tt
 crossing_range plane ray Misses h small = tt
+
+pub whole_range : IsSpanInRange whole_span
+whole_range = record {
+  start = record { over = omega arith; positive = omega (arith, ints); under = omega (arith, ints) };
+  end = record { over = omega arith; positive = omega (arith, ints); under = omega (arith, ints) };
+}

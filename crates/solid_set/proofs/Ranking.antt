@@ -6,8 +6,8 @@ use Rattle.std.specs.Ordering.{is_eq, is_gt, is_lt, ordering_reverse}
 use Rattle.std.specs.declared.cmp.Ordering.{Ordering}
 use Rattle.std.specs.declared.cmp.Ordering.TheVariants.{Less, Equal, Greater}
 use Rattle.surd_order.specs.declared.position.Pos.{Pos}
-use Rattle.ranged_position.specs.PlaceOrder.{place_cmp}
-use Rattle.ranged_position.specs.PlaceOrderLaws.{place_cmp_total}
+use Rattle.surd_order.specs.PlaceOrder.{place_cmp}
+use Rattle.surd_order.proofs.PlaceOrderLaws.{place_cmp_total}
 
 -- an order of places with the ties of the exact one
 pub record IsRanking (R : Pos → Pos → Ordering) : Type 0 where

@@ -1,7 +1,10 @@
 -- The running span against the whole lists of crossings.
-use Rattle.std.proofs.Common.{◌≡◌, ◌∙◌, ℕ, ◌+◌, ◌≤◌, pos, ◌<ℤ◌, Bool, true, false, cond, ◌||◌, List, [], ◌∷◌, ◌++◌, length, Option, Some, None, MatchOption, refl, ap, sym, subst, inl, inr, arith, append_assoc}
+use Rattle.std.proofs.Common.{◌≡◌, ◌∙◌, ℕ, ◌+◌, ◌≤◌, pos, ◌<ℤ◌, Bool, true, false, cond, ◌||◌, List, [], ◌∷◌, ◌++◌, length, take, drop, ◌<◌, Option, Some, None, MatchOption, refl, ap, sym, subst, inl, inr, arith, append_assoc}
 use Rattle.std.proofs.lemmas.Int.{ints}
 use Rattle.std.proofs.lemmas.Cmp.{alike_right}
+use Rattle.std.specs.Prelude.{slice_index_or}
+use Rattle.std.proofs.lemmas.List.{take_more, take-append-drop}
+use Rattle.std.proofs.lemmas.List.{length-take-le}
 use Rattle.std.specs.List.{find}
 use Rattle.std.specs.Ordering.{is_lt, is_eq}
 use Rattle.std.specs.declared.cmp.Ordering.{Ordering}
@@ -15,14 +18,14 @@ use Rattle.surd_order.specs.declared.position.Pos.{Pos}
 use Rattle.surd_order.specs.declared.position.Pos.TheVariants.{Frac}
 use Rattle.surd_order.specs.declared.position.Seg.{Seg}
 use Rattle.surd_order.specs.Order.{IsPlace}
-use Rattle.ranged_position.specs.PlaceOrder.{place_cmp}
-use Rattle.ranged_position.specs.PlaceOrderLaws.{place_cmp_total}
+use Rattle.surd_order.specs.PlaceOrder.{place_cmp}
+use Rattle.surd_order.proofs.PlaceOrderLaws.{place_cmp_total}
 use Rattle.solid_set.specs.declared.crossed.Crossed.{Crossed}
 use Rattle.solid_set.specs.declared.span.Span.{Span}
 use Rattle.solid_set.specs.Crossings.{crossing_of, entered, left, is_miss, entering_from, leaving_from, is_missed_by}
 use Rattle.solid_set.specs.Segments.{ray_start, ray_end, places_of, face_at, face_or_none, start_of, end_of, segment_between, segment_through}
 use Rattle.solid_set.specs.Spans.{IsSpanInRange, crossed_span, cut_span, finished_span, segment_at, at, whole_span}
-use Rattle.solid_set.specs.Spelled.{spelled}
+use Rattle.surd_order.specs.Spelled.{spelled}
 use Rattle.solid_set.proofs.Ranking.{IsRanking, turned_cmp, forwards, backwards}
 use Rattle.solid_set.proofs.Foremost.{Has, IsForemost, IsBest, FaceIs, face_is, foremost_is, foremost_tie, best_next, best_first}
 use Rattle.solid_set.proofs.Unique.{crossing_is}
@@ -186,6 +189,7 @@ finished_parts : (es ls : List Crossed) (span : Span) → ArePlaces es → ArePl
     → IsBest place_cmp ray_start es span.start → IsBest turned_cmp ray_end ls span.end
     → IsForemost place_cmp ray_start (places_of es) (start_of es) → IsForemost turned_cmp ray_end (places_of ls) (end_of ls)
     → finished_span span ≡ segment_between es ls
+unfolding made
 finished_parts es ls span places places' range start end first last =
     let s : place_cmp (start_of es) span.start.place ≡ Equal = foremost_tie place_cmp place_cmp_total ray_start (places_of es) (start_of es) span.start.place first start.place in
     let e : place_cmp span.end.place (end_of ls) ≡ Equal = foremost_tie turned_cmp backwards.total ray_end (places_of ls) (end_of ls) span.end.place last end.place in
@@ -213,3 +217,22 @@ finished ray sides span range h =
 
 pub missed_none : (ray : Ray) (sides : List (Option Plane)) → is_missed_by ray sides ≡ true → segment_through sides ray ≡ None
 missed_none ray sides e = ap (λ (b : Bool). cond b None (segment_between (entering_from ray 1 sides) (leaving_from ray 1 sides))) e
+
+-- the step of a loop over all planes
+pub loop_next : (ray : Ray) (all : List (Option Plane)) (i : ℕ) (span : Span) → i < length all → IsSpanOf ray (take i all) span
+    → MatchOption (cut_span span (i + 1) (slice_index_or all i None) ray) (is_missed_by ray (take (i + 1) all) ≡ true) (λ next. IsSpanOf ray (take (i + 1) all) next)
+loop_next ray all i span lt h =
+    let n : i + 1 ≡ 1 + length (take i all) = let l : length (take i all) ≡ i = length-take-le i all (omega arith) in omega (arith, l) in
+    subst (λ (sides : List (Option Plane)). MatchOption (cut_span span (i + 1) (slice_index_or all i None) ray) (is_missed_by ray sides ≡ true) (λ next. IsSpanOf ray sides next))
+      (sym (take_more all i None lt))
+      (span_next ray (take i all) (slice_index_or all i None) (i + 1) span n h)
+
+pub loop_missed : (ray : Ray) (all : List (Option Plane)) (i : ℕ) → is_missed_by ray (take (i + 1) all) ≡ true → segment_through all ray ≡ None
+loop_missed ray all i e =
+    missed_none ray all (subst (λ (sides : List (Option Plane)). is_missed_by ray sides ≡ true) (take-append-drop (i + 1) all) (missed_stays ray (take (i + 1) all) (drop (i + 1) all) e))
+
+pub at_none : (P : Type 0) (Q : Span → Type 0) (o : Option Span) → o ≡ None → MatchOption o P Q → P
+at_none P Q o e h = subst (λ (p : Option Span). MatchOption p P Q) e h
+
+pub at_some : (P : Type 0) (Q : Span → Type 0) (o : Option Span) (x : Span) → o ≡ Some x → MatchOption o P Q → Q x
+at_some P Q o x e h = subst (λ (p : Option Span). MatchOption p P Q) e h

@@ -7,7 +7,7 @@ use Rattle.surd_order.specs.declared.position.Seg.{Seg}
 use Rattle.surd_order.specs.Order.{Precedes, SamePlace}
 use Rattle.surd_order.specs.Range.{IsInRange}
 use Rattle.surd_order.specs.Spelling.{IsSpelled}
-use Rattle.solid_set.specs.declared.placed.Surface.{Surface}
+use Rattle.solid_set.specs.declared.surface.Surface.{Surface}
 use Rattle.solid_set.specs.Segments.{ray_start, ray_end}
 use Rattle.solid_set.specs.Surfaces.{IsInside}
 

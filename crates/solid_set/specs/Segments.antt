@@ -8,11 +8,11 @@ use Rattle.plane_geom.specs.declared.plane.Plane.{Plane}
 use Rattle.surd_order.specs.declared.position.Pos.{Pos}
 use Rattle.surd_order.specs.declared.position.Pos.TheVariants.{Frac}
 use Rattle.surd_order.specs.declared.position.Seg.{Seg}
-use Rattle.ranged_position.specs.PlaceOrder.{place_cmp}
-use Rattle.solid_set.specs.Spelled.{spelled}
+use Rattle.surd_order.specs.PlaceOrder.{place_cmp}
+use Rattle.surd_order.specs.Spelled.{spelled}
 use Rattle.solid_set.specs.declared.crossed.Crossed.{Crossed}
-use Rattle.solid_set.specs.declared.placed.Surface.{Surface}
-use Rattle.solid_set.specs.declared.placed.Surface.TheVariants.{Planes, HalfSpace}
+use Rattle.solid_set.specs.declared.surface.Surface.{Surface}
+use Rattle.solid_set.specs.declared.surface.Surface.TheVariants.{Planes, HalfSpace}
 use Rattle.solid_set.specs.Crossings.{entering_from, leaving_from, is_missed_by}
 
 -- where a ray begins and ends
@@ -81,19 +81,11 @@ segment_between entering leaving =
 abbrev pub segment_through : List (Option Plane) → Ray → Option Seg
 segment_through sides ray = cond (is_missed_by ray sides) None (segment_between (entering_from ray 1 sides) (leaving_from ray 1 sides))
 
--- the entering and the leaving crossings of a surface, in the order of its faces, and whether some plane misses the ray
-abbrev pub entering : Surface → Ray → List Crossed
-entering (Planes sides) ray = entering_from ray 1 sides
-entering (HalfSpace plane) ray = entering_from ray 1 (Some plane ∷ [])
-
-abbrev pub leaving : Surface → Ray → List Crossed
-leaving (Planes sides) ray = leaving_from ray 1 sides
-leaving (HalfSpace plane) ray = leaving_from ray 1 (Some plane ∷ [])
-
-abbrev pub is_missed : Surface → Ray → Bool
-is_missed (Planes sides) ray = is_missed_by ray sides
-is_missed (HalfSpace plane) ray = is_missed_by ray (Some plane ∷ [])
+-- the planes of the faces of a surface, from face 1 on
+abbrev pub sides_of : Surface → List (Option Plane)
+sides_of (Planes sides) = sides
+sides_of (HalfSpace plane) = Some plane ∷ []
 
 -- the segment of a ray that a surface encloses
 abbrev pub segment_of : Surface → Ray → Option Seg
-segment_of surface ray = cond (is_missed surface ray) None (segment_between (entering surface ray) (leaving surface ray))
+segment_of surface ray = segment_through (sides_of surface) ray

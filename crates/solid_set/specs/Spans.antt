@@ -11,10 +11,10 @@ use Rattle.surd_order.specs.declared.position.Pos.{Pos}
 use Rattle.surd_order.specs.declared.position.Pos.TheVariants.{Frac}
 use Rattle.surd_order.specs.declared.position.Seg.{Seg}
 use Rattle.surd_order.specs.Range.{IsInRange}
-use Rattle.ranged_position.specs.PlaceOrder.{place_cmp}
+use Rattle.surd_order.specs.PlaceOrder.{place_cmp}
 use Rattle.solid_set.specs.declared.crossed.Crossed.{Crossed}
 use Rattle.solid_set.specs.declared.span.Span.{Span}
-use Rattle.solid_set.specs.Spelled.{spelled}
+use Rattle.surd_order.specs.Spelled.{spelled}
 use Rattle.solid_set.specs.Crossings.{crossing_of, crossed_at}
 use Rattle.solid_set.specs.Segments.{ray_start, ray_end}
 

@@ -1,12 +1,3 @@
-ghost use Rattle.std.specs.Prelude.{◌≡◌, ◌≤◌, Option};
-ghost use Rattle.std.specs.Option.{option_map};
-ghost use Rattle.lattice_core.specs.declared.limit.TheConstants.{SHIFT};
-ghost use Rattle.lattice_core.specs.Limits.{IsWithin};
-ghost use Rattle.plane_geom.specs.Planes.{IsWorldPlane, placed_plane};
-ghost use Rattle.prim_arb8.specs.Faces.{plane_at};
-
-use lattice_core::Placement;
-use plane_geom::Plane;
 use prim_arb8::Arb8;
 use prim_half::Half;
 

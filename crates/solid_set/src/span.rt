@@ -3,10 +3,10 @@ ghost use Rattle.std.specs.Option.{ForSome};
 ghost use Rattle.lattice_core.specs.declared.limit.TheConstants.{WORLD};
 ghost use Rattle.lattice_core.specs.Limits.{IsWithin};
 ghost use Rattle.plane_geom.specs.Planes.{IsWorldPlane};
-ghost use Rattle.ranged_position.specs.PlaceOrder.{place_cmp};
+ghost use Rattle.surd_order.specs.PlaceOrder.{place_cmp};
 ghost use Rattle.surd_order.specs.Range.{IsInRange};
 ghost use Rattle.surd_order.specs.Order.{IsPlace};
-ghost use Rattle.solid_set.specs.Spelled.{spelled};
+ghost use Rattle.surd_order.specs.Spelled.{spelled};
 ghost use Rattle.solid_set.specs.Segments.{segment_through};
 ghost use Rattle.solid_set.specs.Spans.{IsSpanInRange, IsCrossingInRange, chosen, later, earlier, whole_span, crossed_span, cut_span, finished_span};
 
@@ -23,14 +23,6 @@ struct Span {
     end: Crossed,
 }
 
-fn order(a: &Pos, b: &Pos) -> Ordering
-    requires first { IsInRange a.now }
-    requires second { IsInRange b.now }
-    ensures { result ≡ place_cmp a.now b.now }
-{
-    a.cmp(b)
-}
-
 /// The position in its one spelling.
 fn spelled(place: Pos) -> Pos
     requires { IsInRange place }
@@ -45,7 +37,10 @@ fn spelled(place: Pos) -> Pos
 /// Of the best crossing so far and the next one the one that is ahead, by the order of their places. Where both are at
 /// one place, the face that was crossed first stays.
 fn chosen(order: Ordering, best: Crossed, next: Crossed) -> Crossed
-    ensures { result ≡ chosen order best next }
+    requires best { IsInRange best.place }
+    requires next { IsInRange next.place }
+    ensures value { result ≡ chosen order best next }
+    ensures range { IsInRange result.place }
 {
     match order {
         Ordering::Less => best,
@@ -66,17 +61,19 @@ fn chosen(order: Ordering, best: Crossed, next: Crossed) -> Crossed
 fn later(best: Crossed, next: Crossed) -> Crossed
     requires best { IsInRange best.place }
     requires next { IsInRange next.place }
-    ensures { result ≡ later best next }
+    ensures value { result ≡ later best next }
+    ensures range { IsInRange result.place }
 {
-    chosen(order(&next.place, &best.place), best, next)
+    chosen(next.place.cmp(&best.place), best, next)
 }
 
 fn earlier(best: Crossed, next: Crossed) -> Crossed
     requires best { IsInRange best.place }
     requires next { IsInRange next.place }
-    ensures { result ≡ earlier best next }
+    ensures value { result ≡ earlier best next }
+    ensures range { IsInRange result.place }
 {
-    chosen(order(&best.place, &next.place), best, next)
+    chosen(best.place.cmp(&next.place), best, next)
 }
 
 fn whole_span() -> Span
@@ -141,7 +138,7 @@ fn finished_span(span: Span) -> Option<Seg>
     requires { IsSpanInRange span }
     ensures { result ≡ finished_span span }
 {
-    if order(&span.start.place, &span.end.place).is_lt() {
+    if span.start.place.cmp(&span.end.place).is_lt() {
         Some(Seg {
             start: spelled(span.start.place),
             start_face: span.start.face,

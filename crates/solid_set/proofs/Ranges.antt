@@ -1,0 +1,41 @@
+-- Spans stay in range.
+use Rattle.std.proofs.Common.{◌≡◌, ◌<◌, ◌^◌, ℤ, pos, ◌<ℤ◌, Bool, true, false, arith, FitsSigned, w64}
+use Rattle.std.proofs.lemmas.Int.{ints, fits_signed_from_abs}
+use mir.Syntax.{w128}
+use Rattle.std.specs.Int.RustNames.{unsigned_abs}
+use Rattle.std.specs.declared.cmp.Ordering.{Ordering}
+use Rattle.std.specs.declared.cmp.Ordering.TheVariants.{Less, Equal, Greater}
+use Rattle.lattice_core.specs.declared.ray.Ray.{Ray}
+use Rattle.plane_geom.specs.declared.plane.Plane.{Plane}
+use Rattle.plane_geom.specs.declared.plane.Crossing.{Crossing}
+use Rattle.plane_geom.specs.declared.plane.Crossing.TheVariants.{Enters, Leaves, Holds, Misses}
+use Rattle.plane_geom.specs.Planes.{IsCrossing, IsSmallCrossing}
+use Rattle.surd_order.specs.declared.position.Pos.TheVariants.{Frac}
+use Rattle.surd_order.specs.Range.{IsInRange}
+use Rattle.solid_set.specs.declared.crossed.Crossed.{Crossed}
+use Rattle.solid_set.specs.Spans.{IsCrossingInRange, IsSpanInRange, whole_span}
+use Rattle.surd_order.specs.PlaceOrder.{place_cmp}
+
+pub fits_over : (z : ℤ) → unsigned_abs z < 2 ^ 57 → FitsSigned w128 z
+fits_over z h = fits_signed_from_abs w128 z (omega arith)
+
+pub fits_under : (q : ℤ) → pos 0 <ℤ q → q <ℤ pos (2 ^ 33) → FitsSigned w128 q
+fits_under q some h = fits_signed_from_abs w128 q (omega (arith, ints))
+
+pub fits_whole : (z : ℤ) → unsigned_abs z < 2 ^ 24 → FitsSigned w64 z
+fits_whole z h = fits_signed_from_abs w64 z (omega arith)
+
+small_under : (s : ℤ) → unsigned_abs s < 2 ^ 33 → s <ℤ pos (2 ^ 33)
+small_under s h = omega (arith, ints)
+
+pub crossing_range : (plane : Plane) (ray : Ray) (c : Crossing) → IsCrossing plane ray c → IsSmallCrossing c → IsCrossingInRange c
+crossing_range plane ray (Enters r s) h small = record { over = small.0; positive = h.2; under = small_under s small.1 }
+crossing_range plane ray (Leaves r s) h small = record { over = small.0; positive = h.2; under = small_under s small.1 }
+crossing_range plane ray Holds h small = tt
+crossing_range plane ray Misses h small = tt
+
+pub whole_range : IsSpanInRange whole_span
+whole_range = record {
+  start = record { over = omega arith; positive = omega (arith, ints); under = omega (arith, ints) };
+  end = record { over = omega arith; positive = omega (arith, ints); under = omega (arith, ints) };
+}

@@ -1,0 +1,49 @@
+use Rattle.std.proofs.Common.{◌≡◌, ◌∙◌, ◌+◌, ◌<◌, sym, subst, take, length, None, Some, get_or, arith, rules, true, List, [], Option}
+use Rattle.std.proofs.lemmas.Int.{ints}
+use Rattle.plane_geom.specs.declared.plane.Plane.{Plane}
+use Rattle.surd_order.specs.Range.{IsInRange}
+use Rattle.solid_set.specs.Crossings.{is_missed_by}
+use Rattle.solid_set.specs.Segments.{segment_through}
+use Rattle.solid_set.specs.Spans.{IsSpanInRange, whole_span, cut_span}
+use Rattle.solid_set.specs.declared.span.Span.{Span}
+use Rattle.solid_set.proofs.SpanLaws.{IsSpanOf, span_first, loop_next, loop_missed, at_none, at_some, finished}
+use Rattle.solid_set.proofs.Ranges.{whole_range}
+use Rattle.std.proofs.lemmas.List.{take_all}
+use Rattle.solid_set.proofs.span.segment_through.Goals as goal
+
+pub loop-i-init : goal.loop-i-init
+loop-i-init c = record {
+  range = subst IsSpanInRange (sym c.whole_span-span.ensures) whole_range;
+  made = subst (λ (s : Span). IsSpanOf c.args.ray.now [] s) (sym c.whole_span-span.ensures) (span_first c.args.ray.now);
+}
+
+pub returns-in_err-span : goal.returns-in_err-span
+returns-in_err-span c =
+    let ray = c.args.ray.now in
+    let all = c.args.sides.now in
+    let i = c.loop-i.i in
+    let lt : c.loop-i.i < length c.args.sides.now = omega arith in
+    c.from_residual.ensures
+    ∙ sym (loop_missed ray all i
+        (at_none (is_missed_by ray (take (i + 1) all) ≡ true) (λ next. IsSpanOf ray (take (i + 1) all) next) _
+          (sym c.cut_span.ensures.value ∙ c.in_err-span.was) (loop_next ray all i c.loop-i.span lt c.loop-i.invariant.made)))
+
+pub loop-i-preserved : goal.loop-i-preserved
+loop-i-preserved c =
+    let ray = c.args.ray.now in
+    let all = c.args.sides.now in
+    let i = c.loop-i.i in
+    let lt : c.loop-i.i < length c.args.sides.now = omega arith in
+    record {
+      range = c.cut_span.ensures.range c.in_ok-span.span c.in_ok-span.was;
+      made = at_some (is_missed_by ray (take (i + 1) all) ≡ true) (λ next. IsSpanOf ray (take (i + 1) all) next) _ c.in_ok-span.span
+          (sym c.cut_span.ensures.value ∙ c.in_ok-span.was) (loop_next ray all i c.loop-i.span lt c.loop-i.invariant.made);
+    }
+
+pub returns : goal.returns
+returns c =
+    let i = c.loop-i.i in
+    let all : take c.loop-i.i c.args.sides.now ≡ c.args.sides.now = take_all c.loop-i.i c.args.sides.now (omega arith) in
+    c.finished_span.ensures
+    ∙ finished c.args.ray.now c.args.sides.now c.loop-i.span c.loop-i.invariant.range
+      (subst (λ (sides : List (Option Plane)). IsSpanOf c.args.ray.now sides c.loop-i.span) all c.loop-i.invariant.made)

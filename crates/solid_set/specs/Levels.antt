@@ -1,0 +1,23 @@
+-- How bright a face is where a ray meets it.
+use Rattle.std.specs.Prelude.{◌≡◌, ◌⊎◌, ℕ, ◌-◌, ◌==◌, Bool, cond, Option, Some, None, slice_index_or, IfSome}
+use Rattle.lattice_core.specs.declared.ray.Ray.{Ray}
+use Rattle.plane_geom.specs.declared.plane.Plane.{Plane}
+use Rattle.plane_geom.specs.Planes.{level_of}
+use Rattle.solid_set.specs.declared.surface.Surface.{Surface}
+use Rattle.solid_set.specs.Segments.{sides_of, segment_of}
+
+-- the plane of a face
+abbrev pub side_at : Surface → ℕ → Option Plane
+side_at surface face = slice_index_or (sides_of surface) (face - 1) None
+
+abbrev pub side_level : Option Plane → Ray → ℕ
+side_level None ray = 255
+side_level (Some plane) ray = level_of plane.n ray.dir
+
+-- the level of a face; face 0, where the ray begins or ends inside, has the highest
+abbrev pub level_at : Surface → ℕ → Ray → ℕ
+level_at surface face ray = cond (face == 0) 255 (side_level (side_at surface face) ray)
+
+-- the face is 0 or one at an end of the ray's segment
+abbrev pub IsFaceOn : Surface → Ray → ℕ → Type 0
+IsFaceOn surface ray face = (face ≡ 0) ⊎ IfSome (segment_of surface ray) (λ seg. (face ≡ seg.start_face) ⊎ (face ≡ seg.end_face))

@@ -1,0 +1,91 @@
+-- The segment between whole lists of crossings.
+use Rattle.std.specs.Prelude.{ℕ, pos, Bool, cond, not, List, [], ◌∷◌, map, Option, Some, None}
+use Rattle.std.specs.List.{find, list_all}
+use Rattle.std.specs.Ordering.{is_lt, is_eq, is_gt}
+use Rattle.lattice_core.specs.declared.ray.Ray.{Ray}
+use Rattle.lattice_core.specs.declared.limit.TheConstants.{FAR}
+use Rattle.plane_geom.specs.declared.plane.Plane.{Plane}
+use Rattle.surd_order.specs.declared.position.Pos.{Pos}
+use Rattle.surd_order.specs.declared.position.Pos.TheVariants.{Frac}
+use Rattle.surd_order.specs.declared.position.Seg.{Seg}
+use Rattle.surd_order.specs.PlaceOrder.{place_cmp}
+use Rattle.surd_order.specs.Spelled.{spelled}
+use Rattle.solid_set.specs.declared.crossed.Crossed.{Crossed}
+use Rattle.solid_set.specs.declared.surface.Surface.{Surface}
+use Rattle.solid_set.specs.declared.surface.Surface.TheVariants.{Planes, HalfSpace}
+use Rattle.solid_set.specs.Crossings.{entering_from, leaving_from, is_missed_by}
+
+-- where a ray begins and ends
+abbrev pub ray_start : Pos
+ray_start = Frac (pos 0) (pos 1)
+
+abbrev pub ray_end : Pos
+ray_end = Frac FAR (pos 1)
+
+abbrev pub comes_after : Pos → Pos → Bool
+comes_after x y = is_gt (place_cmp x y)
+
+abbrev pub comes_before : Pos → Pos → Bool
+comes_before x y = is_gt (place_cmp y x)
+
+-- whether no place is ahead of this one
+abbrev pub is_unbeaten : (Pos → Pos → Bool) → List Pos → Pos → Bool
+is_unbeaten is_ahead places x = list_all (λ y. not (is_ahead y x)) places
+
+abbrev pub place_or : Option Pos → Pos → Pos
+place_or None x = x
+place_or (Some y) x = y
+
+-- the first of the places that no other one is ahead of
+abbrev pub foremost : (Pos → Pos → Bool) → Pos → List Pos → Pos
+foremost is_ahead first rest = place_or (find (is_unbeaten is_ahead (first ∷ rest)) (first ∷ rest)) first
+
+-- the greatest of places: no other comes after it
+abbrev pub greatest : Pos → List Pos → Pos
+greatest first rest = foremost comes_after first rest
+
+-- the least of places: no other comes before it
+abbrev pub least : Pos → List Pos → Pos
+least first rest = foremost comes_before first rest
+
+abbrev pub places_of : List Crossed → List Pos
+places_of crossings = map (λ c. c.place) crossings
+
+abbrev pub face_or_none : Option Crossed → ℕ
+face_or_none None = 0
+face_or_none (Some c) = c.face
+
+-- the first face, which is the lowest-numbered one, that is crossed at a place; 0 where none is
+abbrev pub face_at : Pos → List Crossed → ℕ
+face_at x crossings = face_or_none (find (λ c. is_eq (place_cmp c.place x)) crossings)
+
+abbrev pub start_of : List Crossed → Pos
+start_of entering = greatest ray_start (places_of entering)
+
+abbrev pub end_of : List Crossed → Pos
+end_of leaving = least ray_end (places_of leaving)
+
+-- from the greatest of the ray's start and the entering crossings to the least of its end and the leaving ones
+abbrev pub segment_between : List Crossed → List Crossed → Option Seg
+segment_between entering leaving =
+    cond (is_lt (place_cmp (start_of entering) (end_of leaving)))
+      (Some (record {
+        start = spelled (start_of entering);
+        start_face = face_at (start_of entering) entering;
+        end = spelled (end_of leaving);
+        end_face = face_at (end_of leaving) leaving;
+      }))
+      None
+
+-- the part of a ray that planes hold, with the faces numbered from 1 on
+abbrev pub segment_through : List (Option Plane) → Ray → Option Seg
+segment_through sides ray = cond (is_missed_by ray sides) None (segment_between (entering_from ray 1 sides) (leaving_from ray 1 sides))
+
+-- the planes of the faces of a surface, from face 1 on
+abbrev pub sides_of : Surface → List (Option Plane)
+sides_of (Planes sides) = sides
+sides_of (HalfSpace plane) = Some plane ∷ []
+
+-- the segment of a ray that a surface encloses
+abbrev pub segment_of : Surface → Ray → Option Seg
+segment_of surface ray = segment_through (sides_of surface) ray

@@ -1,0 +1,54 @@
+-- The surfaces of placed solids, and which points they enclose.
+use Rattle.std.specs.Prelude.{◌≡◌, ℤ, List, [], ◌∷◌, map, Option, Some, None}
+use Rattle.std.specs.Option.{option_map}
+use Rattle.lattice_core.specs.declared.limit.TheConstants.{SHIFT}
+use Rattle.lattice_core.specs.declared.boxes.Side.TheVariants.{Open}
+use Rattle.lattice_core.specs.declared.boxes.Box3.{Box3}
+use Rattle.lattice_core.specs.declared.boxes.Box3.TheVariants.{Span}
+use Rattle.lattice_core.specs.declared.ray.Ray.{Ray}
+use Rattle.lattice_core.specs.declared.placement.Placement.{Placement}
+use Rattle.lattice_core.specs.Limits.{IsWithin}
+use Rattle.plane_geom.specs.declared.plane.Plane.{Plane}
+use Rattle.plane_geom.specs.Planes.{PlaneHolds, placed_plane}
+use Rattle.prim_half.specs.declared.half.Half.{Half}
+use Rattle.prim_arb8.specs.Faces.{planes_of}
+use Rattle.solid_set.specs.declared.solid.Solid.{Solid}
+use Rattle.solid_set.specs.declared.solid.Solid.TheVariants as solids
+use Rattle.solid_set.specs.declared.surface.Surface.{Surface}
+use Rattle.solid_set.specs.declared.surface.Surface.TheVariants.{Planes, HalfSpace}
+use Rattle.solid_set.specs.Bounds.{box_of, placed_points}
+
+abbrev pub plane_of_half : Half → Plane
+plane_of_half half = record { n = half.normal; d = half.distance }
+
+abbrev pub placed_sides : Placement → List (Option Plane) → List (Option Plane)
+placed_sides by sides = map (option_map (placed_plane by)) sides
+
+-- the surface of a placed solid: each face keeps its number
+abbrev pub surface_of : Solid → Placement → Surface
+surface_of (solids.Arb8 solid) by = Planes (placed_sides by (planes_of solid.vertices))
+surface_of (solids.Half half) by = HalfSpace (placed_plane by (plane_of_half half))
+
+-- the box of a placed solid: of its vertices, or all of space
+abbrev pub bounds_of : Solid → Placement → Box3
+bounds_of (solids.Arb8 solid) by = box_of (placed_points by solid.vertices)
+bounds_of (solids.Half half) by = Span Open Open Open Open Open Open
+
+-- some solid, placed within the limits, has this surface and these bounds
+pub record IsMade (surface : Surface) (bounds : Box3) : Type 0 where
+  pub solid : Solid
+  pub by : Placement
+  pub near : IsWithin SHIFT by.shift
+  pub surface_is : surface ≡ surface_of solid by
+  pub bounds_is : bounds ≡ bounds_of solid by
+
+-- every plane holds the point of the ray at the fraction p / q
+abbrev pub AllHold : List (Option Plane) → Ray → ℤ → ℤ → Type 0
+AllHold [] ray p q = Unit {0}
+AllHold (None ∷ sides) ray p q = AllHold sides ray p q
+AllHold (Some plane ∷ sides) ray p q = PlaneHolds plane ray p q × AllHold sides ray p q
+
+-- the point of the ray at the fraction p / q lies inside
+abbrev pub IsInside : Surface → Ray → ℤ → ℤ → Type 0
+IsInside (Planes sides) ray p q = AllHold sides ray p q
+IsInside (HalfSpace plane) ray p q = PlaneHolds plane ray p q

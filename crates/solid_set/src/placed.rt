@@ -1,0 +1,182 @@
+ghost use Rattle.std.specs.Prelude.{◌≡◌, ◌≤◌, All, Option, length, List, map};
+ghost use Rattle.std.specs.Option.{ForSome, option_map};
+ghost use Rattle.lattice_core.specs.declared.limit.TheConstants.{SHIFT, WORLD, COORD};
+ghost use Rattle.lattice_core.specs.Limits.{IsWithin};
+ghost use Rattle.plane_geom.specs.Planes.{IsWorldPlane, placed_plane};
+ghost use Rattle.prim_arb8.specs.Faces.{plane_at, planes_of};
+ghost use Rattle.solid_set.specs.Segments.{sides_of};
+ghost use Rattle.solid_set.specs.Surfaces.{IsMade, placed_sides};
+ghost use Rattle.solid_set.specs.Bounds.{placed_points};
+
+use crate::bounds::bounds_of;
+use crate::solid::Solid;
+use crate::span::segment_through;
+use crate::surface::Surface;
+use lattice_core::{Box3, Placement, Ray, Side, V3};
+use plane_geom::Plane;
+use prim_arb8::Arb8;
+use surd_order::Seg;
+
+/// A solid in the world: what `Solid::placed` gives.
+#[derive(Clone, Copy, Debug)]
+pub struct Placed {
+    surface: Surface,
+    bounds: Box3,
+    pub ghost size: { All (λ side. ForSome side IsWorldPlane) (sides_of surface) },
+    pub ghost made: { ∥ IsMade surface bounds ∥₁ },
+}
+
+impl Solid {
+    ghost use Rattle.std.specs.Prelude.{◌≡◌};
+    ghost use Rattle.lattice_core.specs.declared.limit.TheConstants.{SHIFT};
+    ghost use Rattle.lattice_core.specs.Limits.{IsWithin};
+    ghost use Rattle.solid_set.specs.Surfaces.{surface_of, bounds_of};
+
+    /// The solid in the world. Its shift is at most `SHIFT` in size.
+    pub fn placed(&self, by: &Placement) -> Placed
+        requires { IsWithin SHIFT by.now.shift }
+        ensures surface { result.surface ≡ surface_of self.now by.now }
+        ensures bounds { result.bounds ≡ bounds_of self.now by.now }
+    {
+        match self {
+            Solid::Arb8(arb8) => Placed {
+                surface: Surface::Planes(placed_sides(arb8, by)),
+                bounds: bounds_of(&placed_points(&arb8.vertices(), by)),
+            },
+            Solid::Half(half) => Placed {
+                surface: Surface::HalfSpace(half.plane().placed(by)),
+                bounds: all_of_space(),
+            },
+        }
+    }
+}
+
+fn all_of_space() -> Box3
+    ensures { result ≡ Box3.Span Side.Open Side.Open Side.Open Side.Open Side.Open Side.Open }
+{
+    Box3::Span {
+        xlo: Side::Open,
+        xhi: Side::Open,
+        ylo: Side::Open,
+        yhi: Side::Open,
+        zlo: Side::Open,
+        zhi: Side::Open,
+    }
+}
+
+fn placed_side(arb8: &Arb8, face: u8, by: &Placement) -> Option<Plane>
+    requires face { (1 ≤ face) × (face ≤ 12) }
+    requires shift { IsWithin SHIFT by.now.shift }
+    ensures value { result ≡ option_map (placed_plane by.now) (plane_at arb8.now.vertices face) }
+    ensures size { ForSome result IsWorldPlane }
+{
+    match arb8.plane(face) {
+        Some(plane) => Some(plane.placed(by)),
+        None => None,
+    }
+}
+
+fn placed_sides(arb8: &Arb8, by: &Placement) -> [Option<Plane>; 12]
+    requires { IsWithin SHIFT by.now.shift }
+    ensures value { result ≡ placed_sides by.now (planes_of arb8.now.vertices) }
+    ensures size { All (λ side. ForSome side IsWorldPlane) result }
+{
+    [
+        placed_side(arb8, 1, by),
+        placed_side(arb8, 2, by),
+        placed_side(arb8, 3, by),
+        placed_side(arb8, 4, by),
+        placed_side(arb8, 5, by),
+        placed_side(arb8, 6, by),
+        placed_side(arb8, 7, by),
+        placed_side(arb8, 8, by),
+        placed_side(arb8, 9, by),
+        placed_side(arb8, 10, by),
+        placed_side(arb8, 11, by),
+        placed_side(arb8, 12, by),
+    ]
+}
+
+/// The vertices where the placement takes them.
+fn placed_points(v: &[V3; 8], by: &Placement) -> [V3; 8]
+    requires points { All (IsWithin COORD) v.now }
+    requires shift { IsWithin SHIFT by.now.shift }
+    ensures { result ≡ placed_points by.now v.now }
+{
+    [
+        by.place(v[0]),
+        by.place(v[1]),
+        by.place(v[2]),
+        by.place(v[3]),
+        by.place(v[4]),
+        by.place(v[5]),
+        by.place(v[6]),
+        by.place(v[7]),
+    ]
+}
+
+impl Placed {
+    ghost use Rattle.std.specs.Prelude.{◌≡◌};
+    ghost use Rattle.lattice_core.specs.declared.limit.TheConstants.{WORLD};
+    ghost use Rattle.lattice_core.specs.Limits.{IsWithin};
+    ghost use Rattle.std.specs.Prelude.{◌≤◌};
+    ghost use Rattle.std.specs.Option.{ForSome};
+    ghost use Rattle.plane_geom.specs.Planes.{IsWorldPlane};
+    ghost use Rattle.solid_set.specs.Segments.{segment_of};
+    ghost use Rattle.solid_set.specs.Levels.{side_at, level_at, IsFaceOn};
+
+    /// The part of a ray that is inside, with the faces at its ends, or `None` where there is none. It takes no memory.
+    pub fn segment(&self, ray: &Ray) -> Option<Seg>
+        requires { IsWithin WORLD ray.now.origin }
+        ensures exact { result ≡ segment_of self.now.surface ray.now }
+    {
+        match &self.surface {
+            Surface::Planes(sides) => segment_through(sides, ray),
+            Surface::HalfSpace(plane) => segment_through(&[Some(*plane)], ray),
+        }
+    }
+
+    /// A closed box that holds the solid: of a solid of eight vertices the box of the vertices, of a half-space all of
+    /// space.
+    pub fn bounds(&self) -> Box3
+        ensures { result ≡ self.now.bounds }
+    {
+        self.bounds
+    }
+
+    /// The plane of a face, where it has one.
+    fn side(&self, face: u8) -> Option<Plane>
+        requires { 1 ≤ face }
+        ensures value { result ≡ side_at self.now.surface face }
+        ensures size { ForSome result IsWorldPlane }
+    {
+        match &self.surface {
+            Surface::Planes(sides) => match sides.get(usize::from(face - 1)) {
+                Some(side) => *side,
+                None => None,
+            },
+            Surface::HalfSpace(plane) => {
+                if face == 1 {
+                    Some(*plane)
+                } else {
+                    None
+                }
+            }
+        }
+    }
+
+    /// The brightness, from 55 to 255, where the ray meets a face of its segment, and 255 for face 0.
+    pub fn level(&self, face: u8, ray: &Ray) -> u8
+        requires origin { IsWithin WORLD ray.now.origin }
+        requires face { IsFaceOn self.now.surface ray.now face }
+        ensures { result ≡ level_at self.now.surface face ray.now }
+    {
+        if face == 0 {
+            return 255;
+        }
+        match self.side(face) {
+            Some(plane) => plane.level(ray),
+            None => 255,
+        }
+    }
+}

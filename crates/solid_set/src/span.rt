@@ -1,0 +1,165 @@
+ghost use Rattle.std.specs.Prelude.{◌≡◌, ◌<◌, ◌≤◌, ◌^◌, All, length};
+ghost use Rattle.std.specs.Option.{ForSome};
+ghost use Rattle.lattice_core.specs.declared.limit.TheConstants.{WORLD};
+ghost use Rattle.lattice_core.specs.Limits.{IsWithin};
+ghost use Rattle.plane_geom.specs.Planes.{IsWorldPlane};
+ghost use Rattle.surd_order.specs.PlaceOrder.{place_cmp};
+ghost use Rattle.surd_order.specs.Range.{IsInRange};
+ghost use Rattle.surd_order.specs.Order.{IsPlace};
+ghost use Rattle.surd_order.specs.Spelled.{spelled};
+ghost use Rattle.solid_set.specs.Segments.{segment_through};
+ghost use Rattle.solid_set.specs.Spans.{IsSpanInRange, IsCrossingInRange, chosen, later, earlier, whole_span, crossed_span, cut_span, finished_span};
+
+use crate::crossed::Crossed;
+use lattice_core::{FAR, Ray};
+use plane_geom::{Crossing, Plane};
+use std::cmp::Ordering;
+use surd_order::{Pos, Seg};
+
+/// The part of a ray that the planes so far hold. Its places are not in lowest terms.
+#[derive(Clone, Copy)]
+struct Span {
+    start: Crossed,
+    end: Crossed,
+}
+
+/// The position in its one spelling.
+fn spelled(place: Pos) -> Pos
+    requires { IsInRange place }
+    ensures { result ≡ spelled place }
+{
+    match place {
+        Pos::Frac { p, q } => Pos::frac(p, q),
+        Pos::Surd { a, plus, k } => Pos::surd(a, plus, k),
+    }
+}
+
+/// Of the best crossing so far and the next one the one that is ahead, by the order of their places. Where both are at
+/// one place, the face that was crossed first stays.
+fn chosen(order: Ordering, best: Crossed, next: Crossed) -> Crossed
+    requires best { IsInRange best.place }
+    requires next { IsInRange next.place }
+    ensures value { result ≡ chosen order best next }
+    ensures range { IsInRange result.place }
+{
+    match order {
+        Ordering::Less => best,
+        Ordering::Equal => {
+            if best.face == 0 {
+                Crossed {
+                    face: next.face,
+                    place: best.place,
+                }
+            } else {
+                best
+            }
+        }
+        Ordering::Greater => next,
+    }
+}
+
+fn later(best: Crossed, next: Crossed) -> Crossed
+    requires best { IsInRange best.place }
+    requires next { IsInRange next.place }
+    ensures value { result ≡ later best next }
+    ensures range { IsInRange result.place }
+{
+    chosen(next.place.cmp(&best.place), best, next)
+}
+
+fn earlier(best: Crossed, next: Crossed) -> Crossed
+    requires best { IsInRange best.place }
+    requires next { IsInRange next.place }
+    ensures value { result ≡ earlier best next }
+    ensures range { IsInRange result.place }
+{
+    chosen(best.place.cmp(&next.place), best, next)
+}
+
+fn whole_span() -> Span
+    ensures { result ≡ whole_span }
+{
+    Span {
+        start: Crossed {
+            face: 0,
+            place: Pos::Frac { p: 0, q: 1 },
+        },
+        end: Crossed {
+            face: 0,
+            place: Pos::Frac {
+                p: i128::from(FAR),
+                q: 1,
+            },
+        },
+    }
+}
+
+fn crossed_span(span: Span, face: u8, crossing: Crossing) -> Option<Span>
+    requires span { IsSpanInRange span }
+    requires crossing { IsCrossingInRange crossing }
+    ensures value { result ≡ crossed_span span face crossing }
+    ensures range { ForSome result IsSpanInRange }
+{
+    let Span { start, end } = span;
+    match crossing {
+        Crossing::Enters(p, q) => {
+            let place = Pos::Frac { p, q };
+            Some(Span {
+                start: later(start, Crossed { face, place }),
+                end,
+            })
+        }
+        Crossing::Leaves(p, q) => {
+            let place = Pos::Frac { p, q };
+            Some(Span {
+                start,
+                end: earlier(end, Crossed { face, place }),
+            })
+        }
+        Crossing::Holds => Some(span),
+        Crossing::Misses => None,
+    }
+}
+
+fn cut_span(span: Span, face: u8, side: Option<Plane>, ray: &Ray) -> Option<Span>
+    requires span { IsSpanInRange span }
+    requires side { ForSome side IsWorldPlane }
+    requires origin { IsWithin WORLD ray.now.origin }
+    ensures value { result ≡ cut_span span face side ray.now }
+    ensures range { ForSome result IsSpanInRange }
+{
+    match side {
+        Some(plane) => crossed_span(span, face, plane.crossing(ray)),
+        None => Some(span),
+    }
+}
+
+fn finished_span(span: Span) -> Option<Seg>
+    requires { IsSpanInRange span }
+    ensures { result ≡ finished_span span }
+{
+    if span.start.place.cmp(&span.end.place).is_lt() {
+        Some(Seg {
+            start: spelled(span.start.place),
+            start_face: span.start.face,
+            end: spelled(span.end.place),
+            end_face: span.end.face,
+        })
+    } else {
+        None
+    }
+}
+
+/// The part of the ray that all planes hold. Their faces have the numbers from 1 on.
+pub fn segment_through(sides: &[Option<Plane>], ray: &Ray) -> Option<Seg>
+    requires sides { All (λ side. ForSome side IsWorldPlane) sides.now }
+    requires count { length sides.now ≤ 12 }
+    requires origin { IsWithin WORLD ray.now.origin }
+    ensures { result ≡ segment_through sides.now ray.now }
+{
+    let mut span = whole_span();
+    for (i, side) in sides.iter().enumerate() {
+        span = cut_span(span, i as u8 + 1, *side, ray)?;
+    }
+    finished_span(span)
+}

@@ -1,4 +1,5 @@
 pub mod PlaceLaws
+pub mod ShotLaws
 pub mod WriteLaws
 pub mod LineLaws
 pub mod ScriptLaws

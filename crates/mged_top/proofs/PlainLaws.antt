@@ -1,6 +1,8 @@
 -- The command of a line has names and refusals that stand on one line.
-use Rattle.std.proofs.Common.{zero, suc, get_or, ◌≡◌, ◌<◌, ◌+◌, ◌++◌, ◌^◌, ◌==◌, ◌&&◌, ℕ, ℤ, Bool, true, false, cond, List, [], ◌∷◌, All, Option, Some, None, Result, Ok, Err, is_ok, length, map, codes, decimal, bytes_eq, refl, sym, subst, arith, true≢false, eqb-true}
-use Rattle.std.proofs.lemmas.Bool.{and_parts}
+use Rattle.std.proofs.Common.{zero, suc, get_or, ◌≡◌, ◌<◌, ◌≤◌, ◌+◌, ◌++◌, ◌^◌, ◌==◌, ◌&&◌, ℕ, ℤ, Bool, true, false, cond, List, [], ◌∷◌, All, Option, Some, None, Result, Ok, Err, is_ok, length, map, codes, decimal, bytes_eq, refl, sym, subst, arith, true≢false, eqb-true}
+use Rattle.std.proofs.lemmas.Bool.{and_parts, leb-true}
+use Rattle.std.proofs.lemmas.Int.{ints}
+use Rattle.std.specs.Int.RustNames.{unsigned_abs}
 use Rattle.std.specs.List.{AllByRecursion}
 use Rattle.std.proofs.lemmas.List.Elements.{All-head, All-tail, All-append}
 use Rattle.std.proofs.lemmas.List.{length-map}
@@ -106,10 +108,14 @@ solid_plain name kind numbers few =
     (λ all. make_plain name (solid_made kind numbers) (name_read 2 name all.0))
 
 in_range : (c : ℤ) → is_in_world c ≡ true → IsAtMost WORLD c
-in_range c h = ?
+in_range c h = let small : unsigned_abs c ≤ 524288 = leb-true (unsigned_abs c) 524288 h in (omega (arith, ints, small), omega (arith, ints, small))
 
 world_read : (origin : V3) → world_fault origin ≡ None → IsWithin WORLD origin
-world_read origin h = ?
+world_read origin h =
+    let all : (is_in_world origin.x && is_in_world origin.y && is_in_world origin.z) ≡ true = named (is_from_world origin) (View World) h in
+    let z = and_parts (is_in_world origin.x && is_in_world origin.y) (is_in_world origin.z) all in
+    let xy = and_parts (is_in_world origin.x) (is_in_world origin.y) z.0 in
+    record { x = in_range origin.x xy.0; y = in_range origin.y xy.1; z = in_range origin.z z.1 }
 
 shot_plain : (numbers : List (Option ℤ)) (dir : Option Dir) (name : List ℕ) → length numbers < 2 ^ 32 → IsPlain (shot_command numbers dir name)
 shot_plain numbers None name few = plain_syntax

@@ -74,6 +74,9 @@ abbrev pub make_command : List ℕ → Result Solid ShapeFault → Command
 make_command name (Ok solid) = Edit (Make name solid)
 make_command name (Err fault) = Bad (Shape fault)
 
+abbrev pub numbers_command : List ℕ → SolidKind → List (Option ℤ) → Command
+numbers_command name kind numbers = unless_refused (number_fault 4 numbers ∷ []) (make_command name (solid_made kind numbers))
+
 -- `in NAME KIND` and the numbers of that kind
 abbrev pub solid_command : List ℕ → SolidKind → List (Option ℤ) → Command
 solid_command name kind numbers =

@@ -48,13 +48,16 @@ unless_faulty (Some fault) vertices = Err fault
 abbrev pub arb8_made : List V3 → Result Solid ShapeFault
 arb8_made vertices = unless_faulty (first_fault (cases_of vertices)) vertices
 
--- four vertices at one x, around the ranges of y and z
-abbrev pub four_at : ℤ → ℤ → ℤ → ℤ → ℤ → List V3 → List V3
-four_at x y y' z z' rest = vector x y z ∷ vector x y' z ∷ vector x y' z' ∷ vector x y z' ∷ rest
+-- the vertex of three of the numbers
+abbrev pub vertex_of : List (Option ℤ) → ℕ → ℕ → ℕ → V3
+vertex_of numbers x y z = vector (nth_number numbers x) (nth_number numbers y) (nth_number numbers z)
 
--- the vertices of the box of these ranges
-abbrev pub box_vertices : ℤ → ℤ → ℤ → ℤ → ℤ → ℤ → List V3
-box_vertices x x' y y' z z' = four_at x y y' z z' (four_at x' y y' z z' [])
+-- the vertices of the box of the ranges of x, y and z: four at the first x around the ranges of y and z, and the
+-- same at the second x
+abbrev pub box_vertices : List (Option ℤ) → List V3
+box_vertices numbers =
+    vertex_of numbers 0 2 4 ∷ vertex_of numbers 0 3 4 ∷ vertex_of numbers 0 3 5 ∷ vertex_of numbers 0 2 5
+    ∷ vertex_of numbers 1 2 4 ∷ vertex_of numbers 1 3 4 ∷ vertex_of numbers 1 3 5 ∷ vertex_of numbers 1 2 5 ∷ []
 
 -- eight vertices, three numbers each
 abbrev pub vertices_in : List (Option ℤ) → List V3
@@ -65,6 +68,5 @@ vertices_in numbers =
 -- the solid of a kind by its numbers, or its first fault
 abbrev pub solid_made : SolidKind → List (Option ℤ) → Result Solid ShapeFault
 solid_made Half numbers = half_made (vector_at numbers 0) (nth_number numbers 3)
-solid_made Rpp numbers =
-    arb8_made (box_vertices (nth_number numbers 0) (nth_number numbers 1) (nth_number numbers 2) (nth_number numbers 3) (nth_number numbers 4) (nth_number numbers 5))
+solid_made Rpp numbers = arb8_made (box_vertices numbers)
 solid_made Arb8 numbers = arb8_made (vertices_in numbers)

@@ -133,14 +133,11 @@ fn make_command(name: Name, kind: SolidKind, numbers: &[i64]) -> Command
     }
 }
 
-/// Reads `in NAME KIND` and the numbers of that kind.
-fn solid_command(name: &[u8], kind: SolidKind, atoms: &[&[u8]]) -> Command
+/// Reads the numbers of a solid, and makes it.
+fn numbers_command(name: Name, kind: SolidKind, atoms: &[&[u8]]) -> Command
     requires { length atoms.now ≡ solids.number_count kind }
-    ensures { result ≡ commands.solid_command name.now kind (map commands.solid_number (map (λ a. a.now) atoms.now)) }
+    ensures { result ≡ commands.numbers_command name kind (map commands.solid_number (map (λ a. a.now) atoms.now)) }
 {
-    let Ok(name) = Name::read(name) else {
-        return Command::Bad(Refusal::Name(2));
-    };
     let mut numbers = [0; 24];
     let numbers = &mut numbers[..atoms.len()];
     if let Some(refusal) = read_numbers(atoms, 4, SOLID_NUMBER, numbers) {
@@ -149,17 +146,38 @@ fn solid_command(name: &[u8], kind: SolidKind, atoms: &[&[u8]]) -> Command
     make_command(name, kind, numbers)
 }
 
+/// Reads `in NAME KIND` and the numbers of that kind.
+fn solid_command(name: &[u8], kind: SolidKind, atoms: &[&[u8]]) -> Command
+    requires { length atoms.now ≡ solids.number_count kind }
+    ensures { result ≡ commands.solid_command name.now kind (map commands.solid_number (map (λ a. a.now) atoms.now)) }
+{
+    match Name::read(name) {
+        Ok(name) => numbers_command(name, kind, atoms),
+        Err(_) => Command::Bad(Refusal::Name(2)),
+    }
+}
+
+fn kind_command(name: &[u8], kind: Option<SolidKind>, atoms: &[&[u8]]) -> Command
+    ensures { result ≡ commands.kind_command name.now kind (map (λ a. a.now) atoms.now) }
+{
+    match kind {
+        Some(kind) => {
+            if atoms.len() == kind.number_count() {
+                solid_command(name, kind, atoms)
+            } else {
+                Command::Bad(Refusal::Syntax)
+            }
+        }
+        None => Command::Bad(Refusal::Syntax),
+    }
+}
+
 /// Reads what follows `in`: `NAME KIND` and the numbers of that kind.
 fn in_command(atoms: &[&[u8]]) -> Command
     ensures { result ≡ commands.in_command (map (λ a. a.now) atoms.now) }
 {
     match atoms {
-        [name, kind, numbers @ ..] => match SolidKind::of_word(kind) {
-            Some(kind) if numbers.len() == kind.number_count() => {
-                solid_command(name, kind, numbers)
-            }
-            _ => Command::Bad(Refusal::Syntax),
-        },
+        [name, kind, numbers @ ..] => kind_command(name, SolidKind::of_word(kind), numbers),
         _ => Command::Bad(Refusal::Syntax),
     }
 }

@@ -1,5 +1,5 @@
 //! Makes solids of numbers.
-ghost use Rattle.std.specs.Prelude.{◌≡◌, ◌≤◌, ◌+◌, All, length, map, Some};
+ghost use Rattle.std.specs.Prelude.{◌≡◌, ◌≤◌, ◌<◌, ◌+◌, All, length, map, Some};
 ghost use Rattle.lattice_core.specs.declared.limit.TheConstants.{COORD};
 ghost use Rattle.lattice_core.specs.Limits.{IsAtMost, IsWithin};
 ghost use Rattle.mged_top.specs.Solids as solids;
@@ -53,22 +53,31 @@ impl SolidKind {
         ensures { result ≡ solids.solid_made self (map (λ n. Some n) numbers.now) }
     {
         match self {
-            SolidKind::Half => half(vector_at(numbers, 0), numbers[3]),
-            SolidKind::Rpp => rpp(numbers),
+            SolidKind::Half => half(vector_at(numbers, 0), number_at(numbers, 3)),
+            SolidKind::Rpp => arb8(box_vertices(numbers)),
             SolidKind::Arb8 => arb8(vertices(numbers)),
         }
     }
 }
 
+fn number_at(numbers: &[i64], place: usize) -> i64
+    requires { place < length numbers.now }
+    ensures value { result ≡ solids.nth_number (map (λ n. Some n) numbers.now) place }
+    ensures size { All (IsAtMost COORD) numbers.now → IsAtMost COORD result }
+{
+    numbers[place]
+}
+
 /// The three numbers from a place on.
 pub fn vector_at(numbers: &[i64], place: usize) -> V3
     requires { place + 3 ≤ length numbers.now }
-    ensures { result ≡ solids.vector_at (map (λ n. Some n) numbers.now) place }
+    ensures value { result ≡ solids.vector_at (map (λ n. Some n) numbers.now) place }
+    ensures size { All (IsAtMost COORD) numbers.now → IsWithin COORD result }
 {
     V3 {
-        x: numbers[place],
-        y: numbers[place + 1],
-        z: numbers[place + 2],
+        x: number_at(numbers, place),
+        y: number_at(numbers, place + 1),
+        z: number_at(numbers, place + 2),
     }
 }
 
@@ -87,23 +96,38 @@ fn arb8(vertices: [V3; 8]) -> Result<Solid, ShapeFault>
     Ok(Solid::Arb8(Arb8::new(vertices)?))
 }
 
-fn rpp(numbers: &[i64]) -> Result<Solid, ShapeFault>
+/// The vertex of three of the numbers.
+fn vertex_of(numbers: &[i64], x: usize, y: usize, z: usize) -> V3
+    requires x { x < length numbers.now }
+    requires y { y < length numbers.now }
+    requires z { z < length numbers.now }
+    ensures value { result ≡ solids.vertex_of (map (λ n. Some n) numbers.now) x y z }
+    ensures size { All (IsAtMost COORD) numbers.now → IsWithin COORD result }
+{
+    V3 {
+        x: number_at(numbers, x),
+        y: number_at(numbers, y),
+        z: number_at(numbers, z),
+    }
+}
+
+/// The vertices of the box of the ranges of x, y and z.
+fn box_vertices(numbers: &[i64]) -> [V3; 8]
     requires count { length numbers.now ≡ 6 }
     requires size { All (IsAtMost COORD) numbers.now }
-    ensures { result ≡ solids.solid_made SolidKind.Rpp (map (λ n. Some n) numbers.now) }
+    ensures value { result ≡ solids.box_vertices (map (λ n. Some n) numbers.now) }
+    ensures size { All (IsWithin COORD) result }
 {
-    let (x, y, z) = (numbers[0], numbers[2], numbers[4]);
-    let (far_x, far_y, far_z) = (numbers[1], numbers[3], numbers[5]);
-    arb8([
-        V3 { x, y, z },
-        V3 { x, y: far_y, z },
-        V3 { x, y: far_y, z: far_z },
-        V3 { x, y, z: far_z },
-        V3 { x: far_x, y, z },
-        V3 { x: far_x, y: far_y, z },
-        V3 { x: far_x, y: far_y, z: far_z },
-        V3 { x: far_x, y, z: far_z },
-    ])
+    [
+        vertex_of(numbers, 0, 2, 4),
+        vertex_of(numbers, 0, 3, 4),
+        vertex_of(numbers, 0, 3, 5),
+        vertex_of(numbers, 0, 2, 5),
+        vertex_of(numbers, 1, 2, 4),
+        vertex_of(numbers, 1, 3, 4),
+        vertex_of(numbers, 1, 3, 5),
+        vertex_of(numbers, 1, 2, 5),
+    ]
 }
 
 /// Eight vertices by 24 numbers.

@@ -1,2 +1,3 @@
 pub mod Faults
 pub mod Reach
+pub mod PlaneSizes

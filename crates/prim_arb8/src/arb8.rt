@@ -1,6 +1,8 @@
 ghost use Rattle.std.specs.Prelude.{◌≡◌, ◌≤◌, All, Some, None};
 ghost use Rattle.lattice_core.specs.declared.limit.TheConstants.{COORD};
 ghost use Rattle.lattice_core.specs.Limits.{IsWithin};
+ghost use Rattle.std.specs.Option.{ForSome};
+ghost use Rattle.plane_geom.specs.Planes.{IsSolidPlane};
 ghost use Rattle.prim_arb8.specs.Faces.{planes_of, first_fault, cases_of};
 
 use crate::face::{fault_of, planes_of};
@@ -16,11 +18,13 @@ pub struct Arb8 {
     planes: [Option<Plane>; 12],
     pub ghost size: { All (IsWithin COORD) vertices },
     pub ghost sides: { planes ≡ planes_of vertices },
+    pub ghost plane_sizes: { All (λ plane. ForSome plane IsSolidPlane) planes },
     pub ghost sound: { first_fault (cases_of vertices) ≡ None },
 }
 
 impl Arb8 {
-    ghost use Rattle.std.specs.Prelude.{◌≡◌, ◌≤◌, All, MatchResult, Some, None};
+    ghost use Rattle.std.specs.Prelude.{◌≡◌, ◌≤◌, All, MatchResult, IfSome, Some, None};
+    ghost use Rattle.plane_geom.specs.Planes.{IsSolidPlane};
     ghost use Rattle.lattice_core.specs.declared.limit.TheConstants.{COORD};
     ghost use Rattle.lattice_core.specs.Limits.{IsWithin};
     ghost use Rattle.prim_arb8.specs.Faces.{first_fault, cases_of, plane_at};
@@ -51,7 +55,8 @@ impl Arb8 {
     /// The outward plane of a face from 1 to 12, or `None` where the face is degenerate.
     pub fn plane(&self, face: u8) -> Option<Plane>
         requires { (1 ≤ face) × (face ≤ 12) }
-        ensures { result ≡ plane_at self.now.vertices face }
+        ensures value { result ≡ plane_at self.now.vertices face }
+        ensures size { IfSome result IsSolidPlane }
     {
         self.planes[usize::from(face - 1)]
     }

@@ -3,6 +3,7 @@ ghost use Rattle.lattice_core.specs.declared.limit.TheConstants.{COORD};
 ghost use Rattle.lattice_core.specs.Limits.{IsWithin, IsAtMost};
 ghost use Rattle.lattice_core.specs.Units.{unit_of};
 ghost use Rattle.lattice_core.specs.Vectors.{dot_product};
+ghost use Rattle.std.specs.Option.{ForSome};
 ghost use Rattle.plane_geom.specs.Planes.{IsSolidPlane};
 ghost use Rattle.prim_arb8.specs.Faces.{corners_of, plane_of_four, face_plane, reversed, outward, outward_face, box_plane, planes_of, first_fault, face_cases, cases_of, vertex_at};
 
@@ -140,6 +141,7 @@ fn box_plane(v: &[V3; 8], dir: Dir) -> Plane
 pub fn planes_of(v: &[V3; 8]) -> [Option<Plane>; 12]
     requires { All (IsWithin COORD) v.now }
     ensures value { result ≡ planes_of v.now }
+    ensures size { All (λ plane. ForSome plane IsSolidPlane) result }
 {
     [
         outward_face(v, 1),

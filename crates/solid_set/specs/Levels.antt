@@ -1,8 +1,9 @@
 -- How bright a face is where a ray meets it.
-use Rattle.std.specs.Prelude.{◌≡◌, ◌⊎◌, ℕ, ◌-◌, ◌==◌, Bool, cond, Option, Some, None, slice_index_or, IfSome}
+use Rattle.std.specs.Prelude.{◌≡◌, ◌⊎◌, ℕ, ◌-◌, ◌==◌, Bool, cond, Option, Some, None, slice_index_or}
 use Rattle.lattice_core.specs.declared.ray.Ray.{Ray}
 use Rattle.plane_geom.specs.declared.plane.Plane.{Plane}
 use Rattle.plane_geom.specs.Planes.{level_of}
+use Rattle.surd_order.specs.declared.position.Seg.{Seg}
 use Rattle.solid_set.specs.declared.surface.Surface.{Surface}
 use Rattle.solid_set.specs.Segments.{sides_of, segment_of}
 
@@ -18,6 +19,11 @@ side_level (Some plane) ray = level_of plane.n ray.dir
 abbrev pub level_at : Surface → ℕ → Ray → ℕ
 level_at surface face ray = cond (face == 0) 255 (side_level (side_at surface face) ray)
 
+-- the face is at an end of a segment
+abbrev pub IsEndFace : ℕ → Option Seg → Type 0
+IsEndFace face None = ⊥
+IsEndFace face (Some seg) = (face ≡ seg.start_face) ⊎ (face ≡ seg.end_face)
+
 -- the face is 0 or one at an end of the ray's segment
 abbrev pub IsFaceOn : Surface → Ray → ℕ → Type 0
-IsFaceOn surface ray face = (face ≡ 0) ⊎ IfSome (segment_of surface ray) (λ seg. (face ≡ seg.start_face) ⊎ (face ≡ seg.end_face))
+IsFaceOn surface ray face = (face ≡ 0) ⊎ IsEndFace face (segment_of surface ray)

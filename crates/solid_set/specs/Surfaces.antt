@@ -2,9 +2,7 @@
 use Rattle.std.specs.Prelude.{◌≡◌, ℤ, List, [], ◌∷◌, map, Option, Some, None}
 use Rattle.std.specs.Option.{option_map}
 use Rattle.lattice_core.specs.declared.limit.TheConstants.{SHIFT}
-use Rattle.lattice_core.specs.declared.boxes.Side.TheVariants.{Open}
 use Rattle.lattice_core.specs.declared.boxes.Box3.{Box3}
-use Rattle.lattice_core.specs.declared.boxes.Box3.TheVariants.{Span}
 use Rattle.lattice_core.specs.declared.ray.Ray.{Ray}
 use Rattle.lattice_core.specs.declared.placement.Placement.{Placement}
 use Rattle.lattice_core.specs.Limits.{IsWithin}
@@ -16,7 +14,7 @@ use Rattle.solid_set.specs.declared.solid.Solid.{Solid}
 use Rattle.solid_set.specs.declared.solid.Solid.TheVariants as solids
 use Rattle.solid_set.specs.declared.surface.Surface.{Surface}
 use Rattle.solid_set.specs.declared.surface.Surface.TheVariants.{Planes, HalfSpace}
-use Rattle.solid_set.specs.Bounds.{box_of, placed_points}
+use Rattle.solid_set.specs.Bounds.{box_of, all_of_space}
 
 abbrev pub plane_of_half : Half → Plane
 plane_of_half half = record { n = half.normal; d = half.distance }
@@ -31,8 +29,8 @@ surface_of (solids.Half half) by = HalfSpace (placed_plane by (plane_of_half hal
 
 -- the box of a placed solid: of its vertices, or all of space
 abbrev pub bounds_of : Solid → Placement → Box3
-bounds_of (solids.Arb8 solid) by = box_of (placed_points by solid.vertices)
-bounds_of (solids.Half half) by = Span Open Open Open Open Open Open
+bounds_of (solids.Arb8 solid) by = box_of by solid.vertices
+bounds_of (solids.Half half) by = all_of_space
 
 -- some solid, placed within the limits, has this surface and these bounds
 pub record IsMade (surface : Surface) (bounds : Box3) : Type 0 where

@@ -1,20 +1,20 @@
-ghost use Rattle.std.specs.Prelude.{◌≡◌, ◌≤◌, All, Option, length, List, map};
+ghost use Rattle.std.specs.Prelude.{◌≡◌, ◌≤◌, All, IfSome};
 ghost use Rattle.std.specs.Option.{ForSome, option_map};
-ghost use Rattle.lattice_core.specs.declared.limit.TheConstants.{SHIFT, WORLD, COORD};
+ghost use Rattle.lattice_core.specs.declared.limit.TheConstants.{SHIFT};
 ghost use Rattle.lattice_core.specs.Limits.{IsWithin};
 ghost use Rattle.plane_geom.specs.Planes.{IsWorldPlane, placed_plane};
 ghost use Rattle.prim_arb8.specs.Faces.{plane_at, planes_of};
 ghost use Rattle.solid_set.specs.Segments.{sides_of};
 ghost use Rattle.solid_set.specs.Surfaces.{IsMade, placed_sides};
-ghost use Rattle.solid_set.specs.Bounds.{placed_points};
 
-use crate::bounds::bounds_of;
+use crate::bounds::{all_of_space, box_of};
 use crate::solid::Solid;
 use crate::span::segment_through;
 use crate::surface::Surface;
-use lattice_core::{Box3, Placement, Ray, Side, V3};
+use lattice_core::{Box3, Placement, Ray};
 use plane_geom::Plane;
 use prim_arb8::Arb8;
+use prim_half::Half;
 use surd_order::Seg;
 
 /// A solid in the world: what `Solid::placed` gives.
@@ -39,28 +39,9 @@ impl Solid {
         ensures bounds { result.bounds ≡ bounds_of self.now by.now }
     {
         match self {
-            Solid::Arb8(arb8) => Placed {
-                surface: Surface::Planes(placed_sides(arb8, by)),
-                bounds: bounds_of(&placed_points(&arb8.vertices(), by)),
-            },
-            Solid::Half(half) => Placed {
-                surface: Surface::HalfSpace(half.plane().placed(by)),
-                bounds: all_of_space(),
-            },
+            Solid::Arb8(arb8) => Placed::arb8(arb8, by),
+            Solid::Half(half) => Placed::half(half, by),
         }
-    }
-}
-
-fn all_of_space() -> Box3
-    ensures { result ≡ Box3.Span Side.Open Side.Open Side.Open Side.Open Side.Open Side.Open }
-{
-    Box3::Span {
-        xlo: Side::Open,
-        xhi: Side::Open,
-        ylo: Side::Open,
-        yhi: Side::Open,
-        zlo: Side::Open,
-        zhi: Side::Open,
     }
 }
 
@@ -68,7 +49,7 @@ fn placed_side(arb8: &Arb8, face: u8, by: &Placement) -> Option<Plane>
     requires face { (1 ≤ face) × (face ≤ 12) }
     requires shift { IsWithin SHIFT by.now.shift }
     ensures value { result ≡ option_map (placed_plane by.now) (plane_at arb8.now.vertices face) }
-    ensures size { ForSome result IsWorldPlane }
+    ensures size { IfSome result IsWorldPlane }
 {
     match arb8.plane(face) {
         Some(plane) => Some(plane.placed(by)),
@@ -97,26 +78,11 @@ fn placed_sides(arb8: &Arb8, by: &Placement) -> [Option<Plane>; 12]
     ]
 }
 
-/// The vertices where the placement takes them.
-fn placed_points(v: &[V3; 8], by: &Placement) -> [V3; 8]
-    requires points { All (IsWithin COORD) v.now }
-    requires shift { IsWithin SHIFT by.now.shift }
-    ensures { result ≡ placed_points by.now v.now }
-{
-    [
-        by.place(v[0]),
-        by.place(v[1]),
-        by.place(v[2]),
-        by.place(v[3]),
-        by.place(v[4]),
-        by.place(v[5]),
-        by.place(v[6]),
-        by.place(v[7]),
-    ]
-}
-
 impl Placed {
     ghost use Rattle.std.specs.Prelude.{◌≡◌};
+    ghost use Rattle.lattice_core.specs.declared.limit.TheConstants.{SHIFT};
+    ghost use Rattle.solid_set.specs.declared.solid.Solid.{Solid};
+    ghost use Rattle.solid_set.specs.Surfaces.{surface_of, bounds_of};
     ghost use Rattle.lattice_core.specs.declared.limit.TheConstants.{WORLD};
     ghost use Rattle.lattice_core.specs.Limits.{IsWithin};
     ghost use Rattle.std.specs.Prelude.{◌≤◌};
@@ -124,6 +90,28 @@ impl Placed {
     ghost use Rattle.plane_geom.specs.Planes.{IsWorldPlane};
     ghost use Rattle.solid_set.specs.Segments.{segment_of};
     ghost use Rattle.solid_set.specs.Levels.{side_at, level_at, IsFaceOn};
+
+    fn arb8(arb8: &Arb8, by: &Placement) -> Placed
+        requires { IsWithin SHIFT by.now.shift }
+        ensures surface { result.surface ≡ surface_of (Solid.Arb8 arb8.now) by.now }
+        ensures bounds { result.bounds ≡ bounds_of (Solid.Arb8 arb8.now) by.now }
+    {
+        Placed {
+            surface: Surface::Planes(placed_sides(arb8, by)),
+            bounds: box_of(&arb8.vertices(), by),
+        }
+    }
+
+    fn half(half: &Half, by: &Placement) -> Placed
+        requires { IsWithin SHIFT by.now.shift }
+        ensures surface { result.surface ≡ surface_of (Solid.Half half.now) by.now }
+        ensures bounds { result.bounds ≡ bounds_of (Solid.Half half.now) by.now }
+    {
+        Placed {
+            surface: Surface::HalfSpace(half.plane().placed(by)),
+            bounds: all_of_space(),
+        }
+    }
 
     /// The part of a ray that is inside, with the faces at its ends, or `None` where there is none. It takes no memory.
     pub fn segment(&self, ray: &Ray) -> Option<Seg>

@@ -6,4 +6,5 @@ pub mod Ranges
 pub mod Faces
 pub mod Made
 pub mod InsideLaws
+pub mod SpelledRange
 pub mod SpanLaws

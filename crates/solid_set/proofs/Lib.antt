@@ -8,3 +8,5 @@ pub mod Made
 pub mod InsideLaws
 pub mod SpelledRange
 pub mod SpanLaws
+pub mod BallLaws
+pub mod SurfaceLaws

@@ -1,5 +1,6 @@
 ghost use Rattle.std.specs.Prelude.{◌≡◌, All, pos};
-ghost use Rattle.lattice_core.specs.declared.limit.TheConstants.{SHIFT, COORD, WORLD};
+ghost use Rattle.lattice_core.specs.declared.limit.TheConstants.{SHIFT, COORD};
+ghost use Rattle.prim_sphere.specs.declared.limit.TheConstants.{PLACED};
 ghost use Rattle.lattice_core.specs.Limits.{IsAtMost, IsWithin};
 ghost use Rattle.lattice_core.specs.Units.{unit_of};
 ghost use Rattle.lattice_core.specs.Vectors.{dot_product};
@@ -9,20 +10,20 @@ ghost use Rattle.solid_set.specs.Bounds.{box_of, all_of_space, farthest, reach_o
 use lattice_core::{Box3, Dir, Placement, Side, V3};
 
 /// Where the placement takes a vertex.
-fn placed_point(p: V3, by: &Placement) -> V3
+pub fn placed_point(p: V3, by: &Placement) -> V3
     requires point { IsWithin COORD p }
     requires shift { IsWithin SHIFT by.now.shift }
     ensures value { result ≡ placed by.now p }
-    ensures size { IsWithin WORLD result }
+    ensures size { IsWithin PLACED result }
 {
     by.place(p)
 }
 
 /// How far a point lies in a direction.
 fn reach(p: V3, dir: Dir) -> i64
-    requires { IsWithin WORLD p }
+    requires { IsWithin PLACED p }
     ensures value { result ≡ dot_product (unit_of dir) p }
-    ensures size { IsAtMost WORLD result }
+    ensures size { IsAtMost PLACED result }
 {
     match dir {
         Dir::PlusX => p.x,
@@ -39,7 +40,7 @@ fn placed_reach(p: V3, by: &Placement, dir: Dir) -> i64
     requires point { IsWithin COORD p }
     requires shift { IsWithin SHIFT by.now.shift }
     ensures value { result ≡ reach_of by.now dir p }
-    ensures size { IsAtMost WORLD result }
+    ensures size { IsAtMost PLACED result }
 {
     reach(placed_point(p, by), dir)
 }
@@ -49,7 +50,7 @@ fn farthest(v: &[V3; 8], by: &Placement, dir: Dir) -> i64
     requires points { All (IsWithin COORD) v.now }
     requires shift { IsWithin SHIFT by.now.shift }
     ensures value { result ≡ farthest by.now v.now dir }
-    ensures size { IsAtMost WORLD result }
+    ensures size { IsAtMost PLACED result }
 {
     let mut most = placed_reach(v[0], by, dir);
     for p in v {

@@ -1,20 +1,23 @@
 ghost use Rattle.std.specs.Prelude.{◌≡◌, ◌≤◌, All, IfSome};
 ghost use Rattle.std.specs.Option.{ForSome, option_map};
-ghost use Rattle.lattice_core.specs.declared.limit.TheConstants.{SHIFT};
+ghost use Rattle.lattice_core.specs.declared.limit.TheConstants.{SHIFT, WORLD};
 ghost use Rattle.lattice_core.specs.Limits.{IsWithin};
+ghost use Rattle.prim_sphere.specs.Spheres.{chord_at};
+ghost use Rattle.solid_set.specs.Levels.{chord_level};
 ghost use Rattle.plane_geom.specs.Planes.{IsWorldPlane, placed_plane};
 ghost use Rattle.prim_arb8.specs.Faces.{plane_at, planes_of};
 ghost use Rattle.solid_set.specs.Segments.{sides_of};
-ghost use Rattle.solid_set.specs.Surfaces.{IsMade, placed_sides};
+ghost use Rattle.solid_set.specs.Surfaces.{IsMade, IsBallSize, IsBallSized, placed_sides};
 
-use crate::bounds::{all_of_space, box_of};
+use crate::bounds::{all_of_space, box_of, placed_point};
 use crate::solid::Solid;
-use crate::span::segment_through;
+use crate::span::{segment_of_ball, segment_through};
 use crate::surface::Surface;
-use lattice_core::{Box3, Placement, Ray};
+use lattice_core::{Box3, Placement, Ray, V3};
 use plane_geom::Plane;
 use prim_arb8::Arb8;
 use prim_half::Half;
+use prim_sphere::{Sphere, bounds_at, crossed_at};
 use surd_order::Seg;
 
 /// A solid in the world: what `Solid::placed` gives.
@@ -23,6 +26,7 @@ pub struct Placed {
     surface: Surface,
     bounds: Box3,
     pub ghost size: { All (λ side. ForSome side IsWorldPlane) (sides_of surface) },
+    pub ghost ball_size: { IsBallSized surface },
     pub ghost made: { ∥ IsMade surface bounds ∥₁ },
 }
 
@@ -40,6 +44,7 @@ impl Solid {
     {
         match self {
             Solid::Arb8(arb8) => Placed::arb8(arb8, by),
+            Solid::Sphere(sphere) => Placed::sphere(sphere, by),
             Solid::Half(half) => Placed::half(half, by),
         }
     }
@@ -78,6 +83,17 @@ fn placed_sides(arb8: &Arb8, by: &Placement) -> [Option<Plane>; 12]
     ]
 }
 
+fn level_of_ball(centre: V3, radius: i64, ray: &Ray) -> u8
+    requires size { IsBallSize centre radius }
+    requires origin { IsWithin WORLD ray.now.origin }
+    ensures { result ≡ chord_level (chord_at centre radius ray.now) radius }
+{
+    match crossed_at(centre, radius, ray) {
+        Some(chord) => chord.level(radius),
+        None => 255,
+    }
+}
+
 impl Placed {
     ghost use Rattle.std.specs.Prelude.{◌≡◌};
     ghost use Rattle.lattice_core.specs.declared.limit.TheConstants.{SHIFT};
@@ -89,7 +105,8 @@ impl Placed {
     ghost use Rattle.std.specs.Option.{ForSome};
     ghost use Rattle.plane_geom.specs.Planes.{IsWorldPlane};
     ghost use Rattle.solid_set.specs.Segments.{segment_of};
-    ghost use Rattle.solid_set.specs.Levels.{side_at, level_at, IsFaceOn};
+    ghost use Rattle.solid_set.specs.Levels.{side_at, level_at, ball_level, IsFaceOn};
+    ghost use Rattle.solid_set.specs.Laws.{TellsInside, IsSound, IsSegInRange};
 
     fn arb8(arb8: &Arb8, by: &Placement) -> Placed
         requires { IsWithin SHIFT by.now.shift }
@@ -99,6 +116,19 @@ impl Placed {
         Placed {
             surface: Surface::Planes(placed_sides(arb8, by)),
             bounds: box_of(&arb8.vertices(), by),
+        }
+    }
+
+    fn sphere(sphere: &Sphere, by: &Placement) -> Placed
+        requires { IsWithin SHIFT by.now.shift }
+        ensures surface { result.surface ≡ surface_of (Solid.Sphere sphere.now) by.now }
+        ensures bounds { result.bounds ≡ bounds_of (Solid.Sphere sphere.now) by.now }
+    {
+        let centre = placed_point(sphere.centre(), by);
+        let radius = sphere.radius();
+        Placed {
+            surface: Surface::Ball { centre, radius },
+            bounds: bounds_at(centre, radius),
         }
     }
 
@@ -117,15 +147,26 @@ impl Placed {
     pub fn segment(&self, ray: &Ray) -> Option<Seg>
         requires { IsWithin WORLD ray.now.origin }
         ensures exact { result ≡ segment_of self.now.surface ray.now }
+        ensures inside { TellsInside self.now.surface ray.now result }
+        ensures sound { ForSome result IsSound }
+    {
+        self.cut(ray)
+    }
+
+    fn cut(&self, ray: &Ray) -> Option<Seg>
+        requires { IsWithin WORLD ray.now.origin }
+        ensures value { result ≡ segment_of self.now.surface ray.now }
+        ensures range { ForSome result IsSegInRange }
     {
         match &self.surface {
             Surface::Planes(sides) => segment_through(sides, ray),
             Surface::HalfSpace(plane) => segment_through(&[Some(*plane)], ray),
+            Surface::Ball { centre, radius } => segment_of_ball(*centre, *radius, ray),
         }
     }
 
-    /// A closed box that holds the solid: of a solid of eight vertices the box of the vertices, of a half-space all of
-    /// space.
+    /// A closed box that holds the solid: of a solid of eight vertices the box of the vertices, of a sphere from the centre
+    /// by the radius, of a half-space all of space.
     pub fn bounds(&self) -> Box3
         ensures { result ≡ self.now.bounds }
     {
@@ -150,6 +191,7 @@ impl Placed {
                     None
                 }
             }
+            Surface::Ball { .. } => None,
         }
     }
 
@@ -164,7 +206,17 @@ impl Placed {
         }
         match self.side(face) {
             Some(plane) => plane.level(ray),
-            None => 255,
+            None => self.ball_level(ray),
+        }
+    }
+
+    fn ball_level(&self, ray: &Ray) -> u8
+        requires { IsWithin WORLD ray.now.origin }
+        ensures { result ≡ ball_level self.now.surface ray.now }
+    {
+        match self.surface {
+            Surface::Ball { centre, radius } => level_of_ball(centre, radius, ray),
+            _ => 255,
         }
     }
 }

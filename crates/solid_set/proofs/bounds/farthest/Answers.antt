@@ -20,7 +20,7 @@ loop-p-preserved c =
     let r = c.placed_reach.result in
     let start : ℤ = reach_of c.args.by.now c.args.dir (vertex_at v 1) in
     let f : ℤ → V3 → ℤ = λ m p. int_max m (reach_of c.args.by.now c.args.dir p) in
-    let fr : FitsSigned w64 c.placed_reach.result = fits64 524288 r (lit< tt) c.placed_reach.ensures.size in
+    let fr : FitsSigned w64 c.placed_reach.result = fits64 278528 r (lit< tt) c.placed_reach.ensures.size in
     let fx : FitsSigned w64 c.max-most.result = search rules in
     let e = simp to_z-of_z at c.max-most.ensures.value in
     let within : c.loop-p.p-index < length c.args.v.now = omega arith in
@@ -31,7 +31,7 @@ loop-p-preserved c =
     ∙ sym (fold_more f start v i zero_vector within) in
     record {
       value = simp to_z-of_z chain;
-      size = simp to_z-of_z (subst (IsAtMost (pos 524288)) (sym e) (max_size (pos 524288) _ r c.loop-p.invariant.size c.placed_reach.ensures.size));
+      size = simp to_z-of_z (subst (IsAtMost (pos 278528)) (sym e) (max_size (pos 278528) _ r c.loop-p.invariant.size c.placed_reach.ensures.size));
     }
 
 pub placed_reach-requires-clause-point : goal.placed_reach-requires-clause-point

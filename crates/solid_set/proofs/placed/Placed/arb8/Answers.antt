@@ -6,11 +6,13 @@ use Rattle.solid_set.specs.declared.solid.Solid.TheVariants as solids
 use Rattle.solid_set.specs.declared.surface.Surface.TheVariants.{Planes}
 use Rattle.solid_set.specs.Bounds.{box_of}
 use Rattle.solid_set.specs.Surfaces.{IsMade}
+use Rattle.solid_set.proofs.Made.{no_ball_planes}
 use Rattle.solid_set.proofs.placed.Placed.arb8.Goals as goal
 
 pub invariant_of-result : goal.invariant_of-result
 invariant_of-result c = record {
   size = c.placed_sides.ensures.size;
+  ball_size = no_ball_planes c.placed_sides.result;
   made = ∣ (record {
     solid = solids.Arb8 c.args.arb8.now;
     by = c.args.by.now;

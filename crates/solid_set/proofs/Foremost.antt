@@ -117,7 +117,7 @@ none_more R x [] c none last = (last, tt)
 none_more R x (y ∷ ys) c none last = (none.0, none_more R x ys c none.1 last)
 
 -- what is not ahead of x is not ahead of what x is not ahead of
-none_moved : (R : Pos → Pos → Ordering) → IsTotalOrder R → (x z : Pos) → is_gt (R x z) ≡ false → (ys : List Pos) → NoneAhead R ys x → NoneAhead R ys z
+pub none_moved : (R : Pos → Pos → Ordering) → IsTotalOrder R → (x z : Pos) → is_gt (R x z) ≡ false → (ys : List Pos) → NoneAhead R ys x → NoneAhead R ys z
 none_moved R total x z le [] none = tt
 none_moved R total x z le (y ∷ ys) none = (upto total y x z none.0 le, none_moved R total x z le ys none.1)
 

@@ -185,7 +185,7 @@ foremost_of : (R : Pos → Pos → Ordering) (first : Pos) (cs : List Crossed) (
 foremost_of R first cs best h x g ranking = foremost_tie R ranking.total first (places_of cs) x best.place g h.place
 
 -- a span that is finished is the segment between the whole lists
-finished_parts : (es ls : List Crossed) (span : Span) → ArePlaces es → ArePlaces ls → IsSpanInRange span
+pub finished_parts : (es ls : List Crossed) (span : Span) → ArePlaces es → ArePlaces ls → IsSpanInRange span
     → IsBest place_cmp ray_start es span.start → IsBest turned_cmp ray_end ls span.end
     → IsForemost place_cmp ray_start (places_of es) (start_of es) → IsForemost turned_cmp ray_end (places_of ls) (end_of ls)
     → finished_span span ≡ segment_between es ls

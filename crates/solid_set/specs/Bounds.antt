@@ -1,33 +1,39 @@
--- The closed box of points.
-use Rattle.std.specs.Prelude.{ℤ, pos, List, map, fold, slice_index_or}
-use Rattle.std.specs.Int.{int_min, int_max}
+-- The closed box of vertices that are placed.
+use Rattle.std.specs.Prelude.{ℤ, pos, ◌-ℤ◌, List, fold}
+use Rattle.std.specs.Int.{int_max}
 use Rattle.lattice_core.specs.declared.vector.V3.{V3}
 use Rattle.lattice_core.specs.declared.placement.Placement.{Placement}
-use Rattle.lattice_core.specs.declared.boxes.Side.TheVariants.{At}
+use Rattle.lattice_core.specs.declared.ray.Dir.{Dir}
+use Rattle.lattice_core.specs.declared.ray.Dir.TheVariants.{PlusX, MinusX, PlusY, MinusY, PlusZ, MinusZ}
+use Rattle.lattice_core.specs.declared.boxes.Side.{Side}
+use Rattle.lattice_core.specs.declared.boxes.Side.TheVariants.{Open, At}
 use Rattle.lattice_core.specs.declared.boxes.Box3.{Box3}
 use Rattle.lattice_core.specs.declared.boxes.Box3.TheVariants.{Span}
+use Rattle.lattice_core.specs.Units.{unit_of}
+use Rattle.lattice_core.specs.Vectors.{dot_product}
 use Rattle.lattice_core.specs.Placements.{placed}
+use Rattle.prim_arb8.specs.Faces.{vertex_at}
 
-abbrev pub least : List ℤ → ℤ
-least numbers = fold int_min (slice_index_or numbers 0 (pos 0)) numbers
+-- how far a point that is placed lies in a direction
+abbrev pub reach_of : Placement → Dir → V3 → ℤ
+reach_of by dir p = dot_product (unit_of dir) (placed by p)
 
-abbrev pub greatest : List ℤ → ℤ
-greatest numbers = fold int_max (slice_index_or numbers 0 (pos 0)) numbers
+-- how far the farthest vertex that is placed lies in a direction
+abbrev pub farthest : Placement → List V3 → Dir → ℤ
+farthest by vertices dir = fold (λ most p. int_max most (reach_of by dir p)) (reach_of by dir (vertex_at vertices 1)) vertices
 
-abbrev pub xs_of : List V3 → List ℤ
-xs_of points = map (λ p. p.x) points
+abbrev pub low_side : Placement → List V3 → Dir → Side
+low_side by vertices dir = At (pos 0 -ℤ farthest by vertices dir)
 
-abbrev pub ys_of : List V3 → List ℤ
-ys_of points = map (λ p. p.y) points
+abbrev pub high_side : Placement → List V3 → Dir → Side
+high_side by vertices dir = At (farthest by vertices dir)
 
-abbrev pub zs_of : List V3 → List ℤ
-zs_of points = map (λ p. p.z) points
+-- the box of the vertices: along each axis it ends at the farthest vertices
+abbrev pub box_of : Placement → List V3 → Box3
+box_of by vertices =
+    Span (low_side by vertices MinusX) (high_side by vertices PlusX)
+      (low_side by vertices MinusY) (high_side by vertices PlusY)
+      (low_side by vertices MinusZ) (high_side by vertices PlusZ)
 
-abbrev pub box_of : List V3 → Box3
-box_of points =
-    Span (At (least (xs_of points))) (At (greatest (xs_of points)))
-      (At (least (ys_of points))) (At (greatest (ys_of points)))
-      (At (least (zs_of points))) (At (greatest (zs_of points)))
-
-abbrev pub placed_points : Placement → List V3 → List V3
-placed_points by points = map (placed by) points
+abbrev pub all_of_space : Box3
+all_of_space = Span Open Open Open Open Open Open

@@ -35,3 +35,8 @@ pub record IsSound (seg : Seg) : Type 0 where
   pub start_spelled : IsSpelled seg.start
   pub end_range : IsInRange seg.end
   pub end_spelled : IsSpelled seg.end
+
+-- the ends are in range
+pub record IsSegInRange (seg : Seg) : Type 0 where
+  pub start : IsInRange seg.start
+  pub end : IsInRange seg.end

@@ -1,18 +1,20 @@
 -- The segment between whole lists of crossings.
-use Rattle.std.specs.Prelude.{ℕ, pos, Bool, cond, not, List, [], ◌∷◌, map, Option, Some, None}
+use Rattle.std.specs.Prelude.{ℕ, pos, Bool, true, false, cond, not, List, [], ◌∷◌, map, Option, Some, None}
 use Rattle.std.specs.List.{find, list_all}
 use Rattle.std.specs.Ordering.{is_lt, is_eq, is_gt}
 use Rattle.lattice_core.specs.declared.ray.Ray.{Ray}
 use Rattle.lattice_core.specs.declared.limit.TheConstants.{FAR}
 use Rattle.plane_geom.specs.declared.plane.Plane.{Plane}
 use Rattle.surd_order.specs.declared.position.Pos.{Pos}
-use Rattle.surd_order.specs.declared.position.Pos.TheVariants.{Frac}
+use Rattle.surd_order.specs.declared.position.Pos.TheVariants.{Frac, Surd}
 use Rattle.surd_order.specs.declared.position.Seg.{Seg}
 use Rattle.surd_order.specs.PlaceOrder.{place_cmp}
 use Rattle.surd_order.specs.Spelled.{spelled}
+use Rattle.prim_sphere.specs.declared.chord.Chord.{Chord}
+use Rattle.prim_sphere.specs.Spheres.{chord_at}
 use Rattle.solid_set.specs.declared.crossed.Crossed.{Crossed}
 use Rattle.solid_set.specs.declared.surface.Surface.{Surface}
-use Rattle.solid_set.specs.declared.surface.Surface.TheVariants.{Planes, HalfSpace}
+use Rattle.solid_set.specs.declared.surface.Surface.TheVariants.{Planes, HalfSpace, Ball}
 use Rattle.solid_set.specs.Crossings.{entering_from, leaving_from, is_missed_by}
 
 -- where a ray begins and ends
@@ -81,11 +83,38 @@ segment_between entering leaving =
 abbrev pub segment_through : List (Option Plane) → Ray → Option Seg
 segment_through sides ray = cond (is_missed_by ray sides) None (segment_between (entering_from ray 1 sides) (leaving_from ray 1 sides))
 
--- the planes of the faces of a surface, from face 1 on
+-- the planes of the faces of a surface, from face 1 on; a ball has none
 abbrev pub sides_of : Surface → List (Option Plane)
 sides_of (Planes sides) = sides
 sides_of (HalfSpace plane) = Some plane ∷ []
+sides_of (Ball centre radius) = []
+
+abbrev pub chord_end : Option Chord → Bool → List Crossed
+chord_end None plus = []
+chord_end (Some chord) plus = record { face = 1; place = Surd chord.a plus chord.k } ∷ []
+
+abbrev pub is_no_chord : Option Chord → Bool
+is_no_chord None = true
+is_no_chord (Some chord) = false
+
+-- the entering crossings of a surface, in the order of its faces: a ball is entered at a - √k
+abbrev pub entering : Surface → Ray → List Crossed
+entering (Planes sides) ray = entering_from ray 1 sides
+entering (HalfSpace plane) ray = entering_from ray 1 (Some plane ∷ [])
+entering (Ball centre radius) ray = chord_end (chord_at centre radius ray) false
+
+-- the leaving ones: a ball is left at a + √k
+abbrev pub leaving : Surface → Ray → List Crossed
+leaving (Planes sides) ray = leaving_from ray 1 sides
+leaving (HalfSpace plane) ray = leaving_from ray 1 (Some plane ∷ [])
+leaving (Ball centre radius) ray = chord_end (chord_at centre radius ray) true
+
+-- whether some plane or the ball misses the ray
+abbrev pub is_missed : Surface → Ray → Bool
+is_missed (Planes sides) ray = is_missed_by ray sides
+is_missed (HalfSpace plane) ray = is_missed_by ray (Some plane ∷ [])
+is_missed (Ball centre radius) ray = is_no_chord (chord_at centre radius ray)
 
 -- the segment of a ray that a surface encloses
 abbrev pub segment_of : Surface → Ray → Option Seg
-segment_of surface ray = segment_through (sides_of surface) ray
+segment_of surface ray = cond (is_missed surface ray) None (segment_between (entering surface ray) (leaving surface ray))

@@ -1,5 +1,5 @@
 -- The part of a ray that the planes so far hold, in the words of the code.
-use Rattle.std.specs.Prelude.{ℕ, ◌==◌, Bool, cond, Option, Some, None}
+use Rattle.std.specs.Prelude.{ℕ, ◌==◌, Bool, true, false, cond, Option, Some, None}
 use Rattle.std.specs.Ordering.{is_lt}
 use Rattle.std.specs.declared.cmp.Ordering.{Ordering}
 use Rattle.std.specs.declared.cmp.Ordering.TheVariants.{Less, Equal, Greater}
@@ -7,8 +7,9 @@ use Rattle.lattice_core.specs.declared.ray.Ray.{Ray}
 use Rattle.plane_geom.specs.declared.plane.Plane.{Plane}
 use Rattle.plane_geom.specs.declared.plane.Crossing.{Crossing}
 use Rattle.plane_geom.specs.declared.plane.Crossing.TheVariants.{Enters, Leaves, Holds, Misses}
+use Rattle.prim_sphere.specs.declared.chord.Chord.{Chord}
 use Rattle.surd_order.specs.declared.position.Pos.{Pos}
-use Rattle.surd_order.specs.declared.position.Pos.TheVariants.{Frac}
+use Rattle.surd_order.specs.declared.position.Pos.TheVariants.{Frac, Surd}
 use Rattle.surd_order.specs.declared.position.Seg.{Seg}
 use Rattle.surd_order.specs.Range.{IsInRange}
 use Rattle.surd_order.specs.PlaceOrder.{place_cmp}
@@ -63,3 +64,9 @@ segment_at start end = record { start = spelled start.place; start_face = start.
 
 abbrev pub finished_span : Span → Option Seg
 finished_span span = cond (is_lt (place_cmp span.start.place span.end.place)) (Some (segment_at span.start span.end)) None
+
+abbrev pub ball_crossed : Chord → Bool → Crossed
+ball_crossed chord plus = at 1 (Surd chord.a plus chord.k)
+
+abbrev pub ball_span : Chord → Span
+ball_span chord = span_of (later (at 0 ray_start) (ball_crossed chord false)) (earlier (at 0 ray_end) (ball_crossed chord true))

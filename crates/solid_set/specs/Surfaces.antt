@@ -2,21 +2,24 @@
 use Rattle.std.specs.Prelude.{◌≡◌, ℤ, List, [], ◌∷◌, map, Option, Some, None}
 use Rattle.std.specs.Option.{option_map}
 use Rattle.lattice_core.specs.declared.limit.TheConstants.{SHIFT}
-use Rattle.lattice_core.specs.declared.boxes.Side.TheVariants.{Open}
 use Rattle.lattice_core.specs.declared.boxes.Box3.{Box3}
-use Rattle.lattice_core.specs.declared.boxes.Box3.TheVariants.{Span}
 use Rattle.lattice_core.specs.declared.ray.Ray.{Ray}
+use Rattle.lattice_core.specs.declared.vector.V3.{V3}
+use Rattle.lattice_core.specs.Placements.{placed}
 use Rattle.lattice_core.specs.declared.placement.Placement.{Placement}
 use Rattle.lattice_core.specs.Limits.{IsWithin}
 use Rattle.plane_geom.specs.declared.plane.Plane.{Plane}
 use Rattle.plane_geom.specs.Planes.{PlaneHolds, placed_plane}
 use Rattle.prim_half.specs.declared.half.Half.{Half}
 use Rattle.prim_arb8.specs.Faces.{planes_of}
+use Rattle.prim_sphere.specs.declared.limit.TheConstants.{PLACED}
+use Rattle.prim_sphere.specs.Spheres.{SphereHolds, IsRadius}
+use Rattle.prim_sphere.specs.Spheres.{box_of as ball_box}
 use Rattle.solid_set.specs.declared.solid.Solid.{Solid}
 use Rattle.solid_set.specs.declared.solid.Solid.TheVariants as solids
 use Rattle.solid_set.specs.declared.surface.Surface.{Surface}
-use Rattle.solid_set.specs.declared.surface.Surface.TheVariants.{Planes, HalfSpace}
-use Rattle.solid_set.specs.Bounds.{box_of, placed_points}
+use Rattle.solid_set.specs.declared.surface.Surface.TheVariants.{Planes, HalfSpace, Ball}
+use Rattle.solid_set.specs.Bounds.{box_of, all_of_space}
 
 abbrev pub plane_of_half : Half → Plane
 plane_of_half half = record { n = half.normal; d = half.distance }
@@ -27,12 +30,14 @@ placed_sides by sides = map (option_map (placed_plane by)) sides
 -- the surface of a placed solid: each face keeps its number
 abbrev pub surface_of : Solid → Placement → Surface
 surface_of (solids.Arb8 solid) by = Planes (placed_sides by (planes_of solid.vertices))
+surface_of (solids.Sphere sphere) by = Ball (placed by sphere.centre) sphere.radius
 surface_of (solids.Half half) by = HalfSpace (placed_plane by (plane_of_half half))
 
--- the box of a placed solid: of its vertices, or all of space
+-- the box of a placed solid: of its vertices, from its centre by its radius, or all of space
 abbrev pub bounds_of : Solid → Placement → Box3
-bounds_of (solids.Arb8 solid) by = box_of (placed_points by solid.vertices)
-bounds_of (solids.Half half) by = Span Open Open Open Open Open Open
+bounds_of (solids.Arb8 solid) by = box_of by solid.vertices
+bounds_of (solids.Sphere sphere) by = ball_box (placed by sphere.centre) sphere.radius
+bounds_of (solids.Half half) by = all_of_space
 
 -- some solid, placed within the limits, has this surface and these bounds
 pub record IsMade (surface : Surface) (bounds : Box3) : Type 0 where
@@ -52,3 +57,13 @@ AllHold (Some plane ∷ sides) ray p q = PlaneHolds plane ray p q × AllHold sid
 abbrev pub IsInside : Surface → Ray → ℤ → ℤ → Type 0
 IsInside (Planes sides) ray p q = AllHold sides ray p q
 IsInside (HalfSpace plane) ray p q = PlaneHolds plane ray p q
+IsInside (Ball centre radius) ray p q = SphereHolds centre radius ray p q
+
+-- the sizes of a placed ball
+pub record IsBallSize (centre : V3) (radius : ℤ) : Type 0 where
+  pub centre_size : IsWithin PLACED centre
+  pub radius_size : IsRadius radius
+
+-- a surface that is a ball has these sizes
+abbrev pub IsBallSized : Surface → Type 0
+IsBallSized surface = (centre : V3) (radius : ℤ) → surface ≡ Ball centre radius → IsBallSize centre radius

@@ -1,20 +1,23 @@
-ghost use Rattle.std.specs.Prelude.{◌≡◌, ◌≤◌, All, Option, length, List, map};
+ghost use Rattle.std.specs.Prelude.{◌≡◌, ◌≤◌, All, IfSome};
 ghost use Rattle.std.specs.Option.{ForSome, option_map};
-ghost use Rattle.lattice_core.specs.declared.limit.TheConstants.{SHIFT, WORLD, COORD};
+ghost use Rattle.lattice_core.specs.declared.limit.TheConstants.{SHIFT, WORLD};
 ghost use Rattle.lattice_core.specs.Limits.{IsWithin};
+ghost use Rattle.prim_sphere.specs.Spheres.{chord_at};
+ghost use Rattle.solid_set.specs.Levels.{chord_level};
 ghost use Rattle.plane_geom.specs.Planes.{IsWorldPlane, placed_plane};
 ghost use Rattle.prim_arb8.specs.Faces.{plane_at, planes_of};
 ghost use Rattle.solid_set.specs.Segments.{sides_of};
-ghost use Rattle.solid_set.specs.Surfaces.{IsMade, placed_sides};
-ghost use Rattle.solid_set.specs.Bounds.{placed_points};
+ghost use Rattle.solid_set.specs.Surfaces.{IsMade, IsBallSize, IsBallSized, placed_sides};
 
-use crate::bounds::bounds_of;
+use crate::bounds::{all_of_space, box_of, placed_point};
 use crate::solid::Solid;
-use crate::span::segment_through;
+use crate::span::{segment_of_ball, segment_through};
 use crate::surface::Surface;
-use lattice_core::{Box3, Placement, Ray, Side, V3};
+use lattice_core::{Box3, Placement, Ray, V3};
 use plane_geom::Plane;
 use prim_arb8::Arb8;
+use prim_half::Half;
+use prim_sphere::{Sphere, bounds_at, crossed_at};
 use surd_order::Seg;
 
 /// A solid in the world: what `Solid::placed` gives.
@@ -23,6 +26,7 @@ pub struct Placed {
     surface: Surface,
     bounds: Box3,
     pub ghost size: { All (λ side. ForSome side IsWorldPlane) (sides_of surface) },
+    pub ghost ball_size: { IsBallSized surface },
     pub ghost made: { ∥ IsMade surface bounds ∥₁ },
 }
 
@@ -39,28 +43,10 @@ impl Solid {
         ensures bounds { result.bounds ≡ bounds_of self.now by.now }
     {
         match self {
-            Solid::Arb8(arb8) => Placed {
-                surface: Surface::Planes(placed_sides(arb8, by)),
-                bounds: bounds_of(&placed_points(&arb8.vertices(), by)),
-            },
-            Solid::Half(half) => Placed {
-                surface: Surface::HalfSpace(half.plane().placed(by)),
-                bounds: all_of_space(),
-            },
+            Solid::Arb8(arb8) => Placed::arb8(arb8, by),
+            Solid::Sphere(sphere) => Placed::sphere(sphere, by),
+            Solid::Half(half) => Placed::half(half, by),
         }
-    }
-}
-
-fn all_of_space() -> Box3
-    ensures { result ≡ Box3.Span Side.Open Side.Open Side.Open Side.Open Side.Open Side.Open }
-{
-    Box3::Span {
-        xlo: Side::Open,
-        xhi: Side::Open,
-        ylo: Side::Open,
-        yhi: Side::Open,
-        zlo: Side::Open,
-        zhi: Side::Open,
     }
 }
 
@@ -68,7 +54,7 @@ fn placed_side(arb8: &Arb8, face: u8, by: &Placement) -> Option<Plane>
     requires face { (1 ≤ face) × (face ≤ 12) }
     requires shift { IsWithin SHIFT by.now.shift }
     ensures value { result ≡ option_map (placed_plane by.now) (plane_at arb8.now.vertices face) }
-    ensures size { ForSome result IsWorldPlane }
+    ensures size { IfSome result IsWorldPlane }
 {
     match arb8.plane(face) {
         Some(plane) => Some(plane.placed(by)),
@@ -97,47 +83,90 @@ fn placed_sides(arb8: &Arb8, by: &Placement) -> [Option<Plane>; 12]
     ]
 }
 
-/// The vertices where the placement takes them.
-fn placed_points(v: &[V3; 8], by: &Placement) -> [V3; 8]
-    requires points { All (IsWithin COORD) v.now }
-    requires shift { IsWithin SHIFT by.now.shift }
-    ensures { result ≡ placed_points by.now v.now }
+fn level_of_ball(centre: V3, radius: i64, ray: &Ray) -> u8
+    requires size { IsBallSize centre radius }
+    requires origin { IsWithin WORLD ray.now.origin }
+    ensures { result ≡ chord_level (chord_at centre radius ray.now) radius }
 {
-    [
-        by.place(v[0]),
-        by.place(v[1]),
-        by.place(v[2]),
-        by.place(v[3]),
-        by.place(v[4]),
-        by.place(v[5]),
-        by.place(v[6]),
-        by.place(v[7]),
-    ]
+    match crossed_at(centre, radius, ray) {
+        Some(chord) => chord.level(radius),
+        None => 255,
+    }
 }
 
 impl Placed {
     ghost use Rattle.std.specs.Prelude.{◌≡◌};
+    ghost use Rattle.lattice_core.specs.declared.limit.TheConstants.{SHIFT};
+    ghost use Rattle.solid_set.specs.declared.solid.Solid.{Solid};
+    ghost use Rattle.solid_set.specs.Surfaces.{surface_of, bounds_of};
     ghost use Rattle.lattice_core.specs.declared.limit.TheConstants.{WORLD};
     ghost use Rattle.lattice_core.specs.Limits.{IsWithin};
     ghost use Rattle.std.specs.Prelude.{◌≤◌};
     ghost use Rattle.std.specs.Option.{ForSome};
     ghost use Rattle.plane_geom.specs.Planes.{IsWorldPlane};
     ghost use Rattle.solid_set.specs.Segments.{segment_of};
-    ghost use Rattle.solid_set.specs.Levels.{side_at, level_at, IsFaceOn};
+    ghost use Rattle.solid_set.specs.Levels.{side_at, level_at, ball_level, IsFaceOn};
+    ghost use Rattle.solid_set.specs.Laws.{TellsInside, IsSound, IsSegInRange};
+
+    fn arb8(arb8: &Arb8, by: &Placement) -> Placed
+        requires { IsWithin SHIFT by.now.shift }
+        ensures surface { result.surface ≡ surface_of (Solid.Arb8 arb8.now) by.now }
+        ensures bounds { result.bounds ≡ bounds_of (Solid.Arb8 arb8.now) by.now }
+    {
+        Placed {
+            surface: Surface::Planes(placed_sides(arb8, by)),
+            bounds: box_of(&arb8.vertices(), by),
+        }
+    }
+
+    fn sphere(sphere: &Sphere, by: &Placement) -> Placed
+        requires { IsWithin SHIFT by.now.shift }
+        ensures surface { result.surface ≡ surface_of (Solid.Sphere sphere.now) by.now }
+        ensures bounds { result.bounds ≡ bounds_of (Solid.Sphere sphere.now) by.now }
+    {
+        let centre = placed_point(sphere.centre(), by);
+        let radius = sphere.radius();
+        Placed {
+            surface: Surface::Ball { centre, radius },
+            bounds: bounds_at(centre, radius),
+        }
+    }
+
+    fn half(half: &Half, by: &Placement) -> Placed
+        requires { IsWithin SHIFT by.now.shift }
+        ensures surface { result.surface ≡ surface_of (Solid.Half half.now) by.now }
+        ensures bounds { result.bounds ≡ bounds_of (Solid.Half half.now) by.now }
+    {
+        Placed {
+            surface: Surface::HalfSpace(half.plane().placed(by)),
+            bounds: all_of_space(),
+        }
+    }
 
     /// The part of a ray that is inside, with the faces at its ends, or `None` where there is none. It takes no memory.
     pub fn segment(&self, ray: &Ray) -> Option<Seg>
         requires { IsWithin WORLD ray.now.origin }
         ensures exact { result ≡ segment_of self.now.surface ray.now }
+        ensures inside { TellsInside self.now.surface ray.now result }
+        ensures sound { ForSome result IsSound }
+    {
+        self.cut(ray)
+    }
+
+    fn cut(&self, ray: &Ray) -> Option<Seg>
+        requires { IsWithin WORLD ray.now.origin }
+        ensures value { result ≡ segment_of self.now.surface ray.now }
+        ensures range { ForSome result IsSegInRange }
     {
         match &self.surface {
             Surface::Planes(sides) => segment_through(sides, ray),
             Surface::HalfSpace(plane) => segment_through(&[Some(*plane)], ray),
+            Surface::Ball { centre, radius } => segment_of_ball(*centre, *radius, ray),
         }
     }
 
-    /// A closed box that holds the solid: of a solid of eight vertices the box of the vertices, of a half-space all of
-    /// space.
+    /// A closed box that holds the solid: of a solid of eight vertices the box of the vertices, of a sphere from the centre
+    /// by the radius, of a half-space all of space.
     pub fn bounds(&self) -> Box3
         ensures { result ≡ self.now.bounds }
     {
@@ -162,6 +191,7 @@ impl Placed {
                     None
                 }
             }
+            Surface::Ball { .. } => None,
         }
     }
 
@@ -176,7 +206,17 @@ impl Placed {
         }
         match self.side(face) {
             Some(plane) => plane.level(ray),
-            None => 255,
+            None => self.ball_level(ray),
+        }
+    }
+
+    fn ball_level(&self, ray: &Ray) -> u8
+        requires { IsWithin WORLD ray.now.origin }
+        ensures { result ≡ ball_level self.now.surface ray.now }
+    {
+        match self.surface {
+            Surface::Ball { centre, radius } => level_of_ball(centre, radius, ray),
+            _ => 255,
         }
     }
 }

@@ -4,15 +4,18 @@ ghost use Rattle.lattice_core.specs.declared.limit.TheConstants.{WORLD};
 ghost use Rattle.lattice_core.specs.Limits.{IsWithin};
 ghost use Rattle.plane_geom.specs.Planes.{IsWorldPlane};
 ghost use Rattle.surd_order.specs.PlaceOrder.{place_cmp};
-ghost use Rattle.surd_order.specs.Range.{IsInRange};
-ghost use Rattle.surd_order.specs.Order.{IsPlace};
+ghost use Rattle.surd_order.specs.Range.{IsInRange, IsSurdInRange};
 ghost use Rattle.surd_order.specs.Spelled.{spelled};
-ghost use Rattle.solid_set.specs.Segments.{segment_through};
-ghost use Rattle.solid_set.specs.Spans.{IsSpanInRange, IsCrossingInRange, chosen, later, earlier, whole_span, crossed_span, cut_span, finished_span};
+ghost use Rattle.solid_set.specs.declared.surface.Surface.{Surface};
+ghost use Rattle.solid_set.specs.Segments.{segment_through, segment_of};
+ghost use Rattle.solid_set.specs.Surfaces.{IsBallSize};
+ghost use Rattle.solid_set.specs.Laws.{IsSegInRange};
+ghost use Rattle.solid_set.specs.Spans.{IsSpanInRange, IsCrossingInRange, chosen, later, earlier, whole_span, crossed_span, cut_span, finished_span, ball_span, ball_crossed};
 
 use crate::crossed::Crossed;
-use lattice_core::{FAR, Ray};
+use lattice_core::{FAR, Ray, V3};
 use plane_geom::{Crossing, Plane};
+use prim_sphere::{Chord, crossed_at};
 use std::cmp::Ordering;
 use surd_order::{Pos, Seg};
 
@@ -26,7 +29,8 @@ struct Span {
 /// The position in its one spelling.
 fn spelled(place: Pos) -> Pos
     requires { IsInRange place }
-    ensures { result ≡ spelled place }
+    ensures value { result ≡ spelled place }
+    ensures range { IsInRange result }
 {
     match place {
         Pos::Frac { p, q } => Pos::frac(p, q),
@@ -77,7 +81,8 @@ fn earlier(best: Crossed, next: Crossed) -> Crossed
 }
 
 fn whole_span() -> Span
-    ensures { result ≡ whole_span }
+    ensures value { result ≡ whole_span }
+    ensures range { IsSpanInRange result }
 {
     Span {
         start: Crossed {
@@ -136,7 +141,8 @@ fn cut_span(span: Span, face: u8, side: Option<Plane>, ray: &Ray) -> Option<Span
 
 fn finished_span(span: Span) -> Option<Seg>
     requires { IsSpanInRange span }
-    ensures { result ≡ finished_span span }
+    ensures value { result ≡ finished_span span }
+    ensures range { ForSome result IsSegInRange }
 {
     if span.start.place.cmp(&span.end.place).is_lt() {
         Some(Seg {
@@ -155,11 +161,48 @@ pub fn segment_through(sides: &[Option<Plane>], ray: &Ray) -> Option<Seg>
     requires sides { All (λ side. ForSome side IsWorldPlane) sides.now }
     requires count { length sides.now ≤ 12 }
     requires origin { IsWithin WORLD ray.now.origin }
-    ensures { result ≡ segment_through sides.now ray.now }
+    ensures value { result ≡ segment_through sides.now ray.now }
+    ensures range { ForSome result IsSegInRange }
 {
     let mut span = whole_span();
     for (i, side) in sides.iter().enumerate() {
         span = cut_span(span, i as u8 + 1, *side, ray)?;
     }
     finished_span(span)
+}
+
+/// The part of the ray that is in a ball, whose one face has number 1.
+pub fn segment_of_ball(centre: V3, radius: i64, ray: &Ray) -> Option<Seg>
+    requires size { IsBallSize centre radius }
+    requires origin { IsWithin WORLD ray.now.origin }
+    ensures value { result ≡ segment_of (Surface.Ball centre radius) ray.now }
+    ensures range { ForSome result IsSegInRange }
+{
+    match crossed_at(centre, radius, ray) {
+        Some(chord) => finished_span(ball_span(chord)),
+        None => None,
+    }
+}
+
+/// The part of a ray that is between the ends of a chord.
+fn ball_span(chord: Chord) -> Span
+    requires { IsSurdInRange chord.a chord.k }
+    ensures value { result ≡ ball_span chord }
+    ensures range { IsSpanInRange result }
+{
+    let Span { start, end } = whole_span();
+    Span {
+        start: later(start, ball_crossed(chord, false)),
+        end: earlier(end, ball_crossed(chord, true)),
+    }
+}
+
+fn ball_crossed(chord: Chord, plus: bool) -> Crossed
+    requires { IsSurdInRange chord.a chord.k }
+    ensures value { result ≡ ball_crossed chord plus }
+    ensures range { IsInRange result.place }
+{
+    let Chord { a, k } = chord;
+    let place = Pos::Surd { a, plus, k };
+    Crossed { face: 1, place }
 }

@@ -1,11 +1,14 @@
+use lattice_core::V3;
 use plane_geom::Plane;
 
 /// The surface of a placed solid: what decides where a ray is inside. Two are equal where they are of one kind and have
-/// the same planes face by face.
+/// the same planes face by face, or the same centre and radius.
 #[derive(Clone, Copy, Debug, PartialEq, Eq, Hash)]
 pub enum Surface {
     /// The planes of the faces 1 to 12 of a solid of eight vertices. A degenerate face has none.
     Planes([Option<Plane>; 12]),
     /// The plane of the one face of a half-space.
     HalfSpace(Plane),
+    /// The centre and the radius of a sphere, in millimetres. Its one face has number 1.
+    Ball { centre: V3, radius: i64 },
 }

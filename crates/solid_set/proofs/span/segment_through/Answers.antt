@@ -7,18 +7,17 @@ use Rattle.solid_set.specs.Segments.{segment_through}
 use Rattle.solid_set.specs.Spans.{IsSpanInRange, whole_span, cut_span}
 use Rattle.solid_set.specs.declared.span.Span.{Span}
 use Rattle.solid_set.proofs.SpanLaws.{IsSpanOf, span_first, loop_next, loop_missed, at_none, at_some, finished}
-use Rattle.solid_set.proofs.Ranges.{whole_range}
 use Rattle.std.proofs.lemmas.List.{take_all}
 use Rattle.solid_set.proofs.span.segment_through.Goals as goal
 
 pub loop-i-init : goal.loop-i-init
 loop-i-init c = record {
-  range = subst IsSpanInRange (sym c.whole_span-span.ensures) whole_range;
-  made = subst (λ (s : Span). IsSpanOf c.args.ray.now [] s) (sym c.whole_span-span.ensures) (span_first c.args.ray.now);
+  range = c.whole_span-span.ensures.range;
+  made = subst (λ (s : Span). IsSpanOf c.args.ray.now [] s) (sym c.whole_span-span.ensures.value) (span_first c.args.ray.now);
 }
 
-pub returns-in_err-span : goal.returns-in_err-span
-returns-in_err-span c =
+pub returns-in_err-span-clause-value : goal.returns-in_err-span-clause-value
+returns-in_err-span-clause-value c =
     let ray = c.args.ray.now in
     let all = c.args.sides.now in
     let i = c.loop-i.i in
@@ -40,10 +39,10 @@ loop-i-preserved c =
           (sym c.cut_span.ensures.value ∙ c.in_ok-span.was) (loop_next ray all i c.loop-i.span lt c.loop-i.invariant.made);
     }
 
-pub returns : goal.returns
-returns c =
+pub returns-clause-value : goal.returns-clause-value
+returns-clause-value c =
     let i = c.loop-i.i in
     let all : take c.loop-i.i c.args.sides.now ≡ c.args.sides.now = take_all c.loop-i.i c.args.sides.now (omega arith) in
-    c.finished_span.ensures
+    c.finished_span.ensures.value
     ∙ finished c.args.ray.now c.args.sides.now c.loop-i.span c.loop-i.invariant.range
       (subst (λ (sides : List (Option Plane)). IsSpanOf c.args.ray.now sides c.loop-i.span) all c.loop-i.invariant.made)

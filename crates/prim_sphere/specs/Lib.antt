@@ -1,0 +1,2 @@
+pub mod Spheres
+pub mod Examples

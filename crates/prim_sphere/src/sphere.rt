@@ -1,0 +1,57 @@
+ghost use Rattle.std.specs.Prelude.{◌≤ℤ◌, pos};
+ghost use Rattle.lattice_core.specs.declared.limit.TheConstants.{COORD};
+ghost use Rattle.lattice_core.specs.Limits.{IsWithin};
+
+use lattice_core::V3;
+use plane_geom::ShapeFault;
+
+/// The points at most `radius` from `centre`, in millimetres. The radius is at least 1, and it and the coordinates of
+/// the centre are at most `COORD` in size.
+#[derive(Clone, Copy, Debug, PartialEq, Eq, Hash)]
+pub struct Sphere {
+    centre: V3,
+    radius: i64,
+    pub ghost centre_size: { IsWithin COORD centre },
+    pub ghost some_radius: { pos 1 ≤ℤ radius },
+    pub ghost radius_size: { radius ≤ℤ COORD },
+}
+
+impl Sphere {
+    ghost use Rattle.std.specs.Prelude.{◌≡◌, ◌↔◌, ◌<ℤ◌, ◌≤ℤ◌, pos, Result, Err, MatchResult};
+    ghost use Rattle.lattice_core.specs.declared.limit.TheConstants.{COORD};
+    ghost use Rattle.lattice_core.specs.Limits.{IsAtMost, IsWithin};
+    ghost use Rattle.plane_geom.specs.declared.fault.ShapeFault.{ShapeFault};
+    ghost use Rattle.prim_sphere.specs.Spheres.{IsRadius};
+
+    /// The sphere of a centre and a radius, or `Radius` where the radius is below 1.
+    pub fn new(c: V3, r: i64) -> Result<Sphere, ShapeFault>
+        requires centre { IsWithin COORD c }
+        requires radius { IsAtMost COORD r }
+        ensures radius { (result ≡ Err ShapeFault.Radius) ↔ (r <ℤ pos 1) }
+        ensures value { MatchResult result (λ sphere. (sphere.centre ≡ c) × (sphere.radius ≡ r)) (λ e. e ≡ ShapeFault.Radius) }
+    {
+        if r < 1 {
+            return Err(ShapeFault::Radius);
+        }
+        Ok(Sphere {
+            centre: c,
+            radius: r,
+        })
+    }
+
+    /// The centre.
+    pub fn centre(&self) -> V3
+        ensures value { result ≡ self.now.centre }
+        ensures size { IsWithin COORD result }
+    {
+        self.centre
+    }
+
+    /// The radius, from 1 to `COORD`.
+    pub fn radius(&self) -> i64
+        ensures value { result ≡ self.now.radius }
+        ensures size { IsRadius result }
+    {
+        self.radius
+    }
+}

@@ -1,0 +1,35 @@
+-- The one side of a half-space.
+use Rattle.std.proofs.Common.{◌≡◌, ◌<◌, ℕ, zero, suc, All, List, [], ◌∷◌, Option, Some, subst, arith}
+use Rattle.std.proofs.Common.{FitsSigned, w64, lit<}
+use Rattle.std.proofs.lemmas.Int.{ints}
+use Rattle.plane_geom.proofs.Sizes.{fits64}
+use Rattle.prim_sphere.specs.Spheres.{IsRadius}
+use Rattle.std.specs.Option.{ForSome}
+use Rattle.plane_geom.specs.declared.plane.Plane.{Plane}
+use Rattle.plane_geom.specs.Planes.{IsWorldPlane}
+use Rattle.std.proofs.Common.{ℤ}
+use Rattle.lattice_core.specs.declared.vector.V3.{V3}
+use Rattle.solid_set.specs.declared.surface.Surface.TheVariants.{Planes, HalfSpace, Ball}
+use Rattle.solid_set.specs.Surfaces.{IsBallSize, IsBallSized}
+
+pub one_side : (plane : Plane) → IsWorldPlane plane → All (λ (side : Option Plane). ForSome side IsWorldPlane) (Some plane ∷ [])
+one_side plane h zero d lt x e = let same : plane ≡ x = cc in subst IsWorldPlane same h
+one_side plane h (suc k) d lt x e = absurd (omega arith)
+
+pub no_ball_planes : (sides : List (Option Plane)) → IsBallSized (Planes sides)
+no_ball_planes sides centre radius e = absurd (let different : Planes sides ≡ Ball centre radius = e in cc)
+
+pub no_ball_half : (plane : Plane) → IsBallSized (HalfSpace plane)
+no_ball_half plane centre radius e = absurd (let different : HalfSpace plane ≡ Ball centre radius = e in cc)
+
+pub ball_sized : (c : V3) (r : ℤ) → IsBallSize c r → IsBallSized (Ball c r)
+ball_sized c r h centre radius e =
+    let same : c ≡ centre = cc in
+    let same' : r ≡ radius = cc in
+    subst (λ (v : V3). IsBallSize v radius) same (subst (λ (z : ℤ). IsBallSize c z) same' h)
+
+pub no_side : (c : V3) (r : ℤ) → All (λ (side : Option Plane). ForSome side IsWorldPlane) []
+no_side c r k d lt x e = absurd (omega arith)
+
+pub radius_fits : (r : ℤ) → IsRadius r → FitsSigned w64 r
+radius_fits r h = fits64 16384 r (lit< tt) (omega (arith, ints, h.some), h.size)

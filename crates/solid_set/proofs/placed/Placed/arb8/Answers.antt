@@ -1,0 +1,23 @@
+use Rattle.std.proofs.Common.{◌≡◌, ap, sym, ◌∙◌, List, Option}
+use Rattle.plane_geom.specs.declared.plane.Plane.{Plane}
+use Rattle.prim_arb8.specs.declared.arb8.Arb8.{Arb8}
+use Rattle.lattice_core.specs.declared.vector.V3.{V3}
+use Rattle.solid_set.specs.declared.solid.Solid.TheVariants as solids
+use Rattle.solid_set.specs.declared.surface.Surface.TheVariants.{Planes}
+use Rattle.solid_set.specs.Bounds.{box_of}
+use Rattle.solid_set.specs.Surfaces.{IsMade}
+use Rattle.solid_set.proofs.Made.{no_ball_planes}
+use Rattle.solid_set.proofs.placed.Placed.arb8.Goals as goal
+
+pub invariant_of-result : goal.invariant_of-result
+invariant_of-result c = record {
+  size = c.placed_sides.ensures.size;
+  ball_size = no_ball_planes c.placed_sides.result;
+  made = ∣ (record {
+    solid = solids.Arb8 c.args.arb8.now;
+    by = c.args.by.now;
+    near = c.requires;
+    surface_is = ap (λ (sides : List (Option Plane)). Planes sides) c.placed_sides.ensures.value;
+    bounds_is = c.box_of.ensures ∙ ap (λ (v : List V3). box_of c.args.by.now v) c.vertices.ensures.value;
+  }) ∣₁;
+}

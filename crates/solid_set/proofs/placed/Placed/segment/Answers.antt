@@ -1,0 +1,12 @@
+use Rattle.std.proofs.Common.{◌≡◌, ◌∙◌, sym, subst, Option}
+use Rattle.surd_order.specs.declared.position.Seg.{Seg}
+use Rattle.solid_set.specs.Laws.{TellsInside}
+use Rattle.solid_set.proofs.SurfaceLaws.{segment_tells, segment_sound}
+use Rattle.solid_set.proofs.placed.Placed.segment.Goals as goal
+
+pub returns-clause-inside : goal.returns-clause-inside
+returns-clause-inside c =
+    subst (λ (o : Option Seg). TellsInside c.args.self.now.surface c.args.ray.now o) (sym c.cut.ensures.value) (segment_tells c.args.self.now.surface c.args.ray.now)
+
+pub returns-clause-sound : goal.returns-clause-sound
+returns-clause-sound c = λ seg is. segment_sound c.args.self.now.surface c.args.ray.now seg (sym c.cut.ensures.value ∙ is) (c.cut.ensures.range seg is)

@@ -23,14 +23,13 @@ use Rattle.plane_geom.specs.declared.fault.ShapeFault.{ShapeFault}
 use Rattle.plane_geom.specs.declared.fault.ShapeFault.TheVariants.{Flat, NotPlanar, NotConvex, Radius, ZeroNormal}
 use Rattle.solid_set.specs.declared.solid.Solid.{Solid}
 use Rattle.mged_top.specs.declared.solid.SolidKind.{SolidKind}
-use Rattle.mged_top.specs.declared.solid.SolidKind.TheVariants.{Half, Rpp, Arb8}
+use Rattle.mged_top.specs.declared.solid.SolidKind.TheVariants.{Half, Rpp, Arb8, Sphere}
 use Rattle.mged_top.proofs.PlaceLaws.{decimal_one_line}
 use Rattle.mged_top.specs.Solids.{kind_of, number_count, solid_made, vector_at}
 use Rattle.mged_top.specs.Refusals.{shape_text}
 use Rattle.mged_top.specs.declared.command.ViewFault.TheVariants.{World}
 use Rattle.mged_top.specs.declared.command.Command.{Command}
-use Rattle.mged_top.specs.declared.command.Command.TheVariants.{Bad, Edit, Query}
-use Rattle.mged_top.specs.declared.command.Edit.TheVariants.{Make}
+use Rattle.mged_top.specs.declared.command.Command.TheVariants.{Bad, Query}
 use Rattle.mged_top.specs.declared.command.Query.TheVariants.{Shot}
 use Rattle.mged_top.specs.declared.command.Refusal.{Refusal}
 use Rattle.mged_top.specs.declared.command.Refusal.TheVariants.{Syntax, Name, Number, View, Shape}
@@ -128,6 +127,7 @@ few_numbers : (kind : SolidKind) → number_count kind < 2 ^ 32
 few_numbers Half = omega arith
 few_numbers Rpp = omega arith
 few_numbers Arb8 = omega arith
+few_numbers Sphere = omega arith
 
 kind_plain : (name : List ℕ) (kind : Option SolidKind) (atoms : List (List ℕ)) → IsPlain (kind_command name kind atoms)
 kind_plain name None atoms = plain_syntax

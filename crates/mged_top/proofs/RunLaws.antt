@@ -27,7 +27,6 @@ use Rattle.solid_set.specs.declared.solid.Solid.{Solid}
 use Rattle.surd_order.specs.declared.position.Seg.{Seg}
 use Rattle.solid_set.specs.Segments.{segment_of}
 use Rattle.mged_top.specs.Shots.{own_surface, partition_lines}
-use Rattle.mged_top.specs.Readable.{IsPlainShot}
 use Rattle.mged_top.proofs.PlaceLaws.{partition_one_line}
 use Rattle.mged_top.specs.declared.command.Command.{Command}
 use Rattle.mged_top.specs.declared.command.Command.TheVariants.{Bad, Edit as IsEdit, Query as IsQuery}

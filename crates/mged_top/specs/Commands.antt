@@ -1,8 +1,7 @@
 -- Which command a line is, or the refusal that it is answered as it stands.
-use Rattle.std.specs.Prelude.{ℕ, ℤ, pos, Bool, ◌&&◌, ◌==◌, ◌+◌, List, [], ◌∷◌, Option, Some, None, Result, Ok, Err, is_ok, map, length, codes, bytes_eq, unwrap_or, slice_index_or, nat_le, if◌then◌else◌}
+use Rattle.std.specs.Prelude.{ℕ, ℤ, Bool, ◌&&◌, ◌==◌, ◌+◌, List, [], ◌∷◌, Option, Some, None, Result, Ok, Err, is_ok, map, length, codes, bytes_eq, nat_le, if◌then◌else◌}
 use Rattle.std.specs.Option.{option_map}
 use Rattle.std.specs.Int.RustNames.{unsigned_abs}
-use Rattle.std.specs.Ordering.{int_eq}
 use Rattle.lattice_core.specs.declared.ray.Dir.{Dir}
 use Rattle.lattice_core.specs.declared.ray.Dir.TheVariants.{PlusX, MinusX, PlusY, MinusY, PlusZ, MinusZ}
 use Rattle.lattice_core.specs.declared.ray.Ray.{Ray}

@@ -7,13 +7,14 @@ use Rattle.solid_set.specs.declared.solid.Solid.{Solid}
 use Rattle.solid_set.specs.Segments.{segment_of}
 use Rattle.solid_set.specs.declared.solid.Solid.TheVariants as solids
 use Rattle.solid_set.specs.declared.surface.Surface.{Surface}
-use Rattle.solid_set.specs.declared.surface.Surface.TheVariants.{Planes, HalfSpace}
+use Rattle.solid_set.specs.declared.surface.Surface.TheVariants.{Planes, HalfSpace, Ball}
 use Rattle.solid_set.specs.Surfaces.{plane_of_half}
 use Rattle.prim_arb8.specs.Faces.{planes_of}
 
 -- the surface of a solid that stands where it was made
 abbrev pub own_surface : Solid → Surface
 own_surface (solids.Arb8 solid) = Planes (planes_of solid.vertices)
+own_surface (solids.Sphere sphere) = Ball sphere.centre sphere.radius
 own_surface (solids.Half half) = HalfSpace (plane_of_half half)
 
 -- region 1 by its path, and where the ray enters and leaves it

@@ -1,27 +1,29 @@
 -- The solids that `in` makes of numbers, in millimetres.
-use Rattle.std.specs.Prelude.{ℕ, ◌+◌, ℤ, pos, Bool, ◌&&◌, List, [], ◌∷◌, Option, Some, None, Result, Ok, Err, map, codes, bytes_eq, unwrap_or, slice_index_or, if◌then◌else◌}
-use Rattle.std.specs.Ordering.{int_eq}
+use Rattle.std.specs.Prelude.{ℕ, ◌+◌, ℤ, pos, Bool, ◌&&◌, List, [], ◌∷◌, Option, Some, None, Result, Ok, Err, codes, bytes_eq, unwrap_or, slice_index_or, if◌then◌else◌}
+use Rattle.std.specs.Ordering.{int_cmp, int_eq, is_lt}
 use Rattle.lattice_core.specs.declared.vector.V3.{V3}
 use Rattle.plane_geom.specs.declared.fault.ShapeFault.{ShapeFault}
-use Rattle.plane_geom.specs.declared.fault.ShapeFault.TheVariants.{ZeroNormal}
+use Rattle.plane_geom.specs.declared.fault.ShapeFault.TheVariants.{Radius, ZeroNormal}
 use Rattle.prim_arb8.specs.Faces.{first_fault, cases_of}
 use Rattle.solid_set.specs.declared.solid.Solid.{Solid}
 use Rattle.solid_set.specs.declared.solid.Solid.TheVariants as solids
 use Rattle.mged_top.specs.declared.solid.SolidKind.{SolidKind}
-use Rattle.mged_top.specs.declared.solid.SolidKind.TheVariants.{Half, Rpp, Arb8}
+use Rattle.mged_top.specs.declared.solid.SolidKind.TheVariants.{Half, Rpp, Arb8, Sphere}
 
 -- the kind of solid that a word names
 abbrev pub kind_of : List ℕ → Option SolidKind
 kind_of word =
     if bytes_eq word (codes "half") then Some Half
     else (if bytes_eq word (codes "rpp") then Some Rpp
-    else (if bytes_eq word (codes "arb8") then Some Arb8 else None))
+    else (if bytes_eq word (codes "arb8") then Some Arb8
+    else (if bytes_eq word (codes "sph") then Some Sphere else None)))
 
 -- how many numbers make a solid of a kind
 abbrev pub number_count : SolidKind → ℕ
 number_count Half = 4
 number_count Rpp = 6
 number_count Arb8 = 24
+number_count Sphere = 4
 
 abbrev pub nth_number : List (Option ℤ) → ℕ → ℤ
 nth_number numbers i = unwrap_or (slice_index_or numbers i None) (pos 0)
@@ -39,6 +41,10 @@ is_zero v = int_eq v.x (pos 0) && int_eq v.y (pos 0) && int_eq v.z (pos 0)
 -- a half-space by its normal and its distance, where the normal is not zero
 abbrev pub half_made : V3 → ℤ → Result Solid ShapeFault
 half_made normal distance = if is_zero normal then Err ZeroNormal else Ok (solids.Half (record { normal = normal; distance = distance }))
+
+-- a sphere by its centre and its radius, where that is at least 1
+abbrev pub sphere_made : V3 → ℤ → Result Solid ShapeFault
+sphere_made centre radius = if is_lt (int_cmp radius (pos 1)) then Err Radius else Ok (solids.Sphere (record { centre = centre; radius = radius }))
 
 abbrev pub unless_faulty : Option ShapeFault → List V3 → Result Solid ShapeFault
 unless_faulty None vertices = Ok (solids.Arb8 (record { vertices = vertices }))
@@ -70,3 +76,4 @@ abbrev pub solid_made : SolidKind → List (Option ℤ) → Result Solid ShapeFa
 solid_made Half numbers = half_made (vector_at numbers 0) (nth_number numbers 3)
 solid_made Rpp numbers = arb8_made (box_vertices numbers)
 solid_made Arb8 numbers = arb8_made (vertices_in numbers)
+solid_made Sphere numbers = sphere_made (vector_at numbers 0) (nth_number numbers 3)

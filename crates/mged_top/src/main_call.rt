@@ -1,6 +1,7 @@
 //! The call that is the program.
 ghost use Rattle.std.specs.Prelude.{◌≡◌, ◌≢◌, ◌<◌, ◌↔◌, vec_len};
 ghost use Rattle.outside_core.specs.Faults.{Rose};
+ghost use Rattle.outside_core.specs.Told.{Advances};
 ghost use Rattle.mged_top.specs.Calls.{IsRun, IsFlawed, IsCutTranscript, IsSound, IsAnswered, WritesNothing};
 
 use crate::command::ScriptCommand;
@@ -29,6 +30,8 @@ pub fn mged_main<R: AllocGlobal, S: Source, K: Sink, F: Shelf, G: Gate + Sync>(
     ensures write_fault { result ≡ Status.WriteFault → Rose (K.faults sink.old) (K.faults sink.new) }
     ensures cut_short { result ≡ Status.WriteFault → IsCutTranscript (S.left source.old) (S.left source.new) (K.held sink.old) (K.held sink.new) (F.puts shelf.old) (F.puts shelf.new) }
     ensures nothing_written { WritesNothing result (K.held sink.old) (K.held sink.new) (F.puts shelf.old) (F.puts shelf.new) }
+    ensures advances { Advances (S.left source.old) (S.left source.new) }
+    ensures unread { result ≡ Status.Usage → source.new ≡ source.old }
     ensures source_steady { result ≢ Status.ReadFault → S.faults source.new ≡ S.faults source.old }
     ensures sink_steady { result ≢ Status.WriteFault → K.faults sink.new ≡ K.faults sink.old }
     ensures complete { IsSound (vec_len words.now) (S.left source.old) (S.faults source.old) (S.faults source.new) (K.faults sink.old) (K.faults sink.new) → IsAnswered result }

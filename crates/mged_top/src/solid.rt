@@ -8,6 +8,7 @@ use lattice_core::V3;
 use plane_geom::ShapeFault;
 use prim_arb8::Arb8;
 use prim_half::Half;
+use prim_sphere::Sphere;
 use solid_set::Solid;
 
 /// The kinds of solids that `in` makes.
@@ -19,6 +20,8 @@ pub enum SolidKind {
     Rpp,
     /// A solid by eight vertices.
     Arb8,
+    /// A sphere by a centre and a radius.
+    Sphere,
 }
 
 impl SolidKind {
@@ -30,6 +33,7 @@ impl SolidKind {
             b"half" => Some(SolidKind::Half),
             b"rpp" => Some(SolidKind::Rpp),
             b"arb8" => Some(SolidKind::Arb8),
+            b"sph" => Some(SolidKind::Sphere),
             _ => None,
         }
     }
@@ -43,6 +47,7 @@ impl SolidKind {
             SolidKind::Half => 4,
             SolidKind::Rpp => 6,
             SolidKind::Arb8 => 24,
+            SolidKind::Sphere => 4,
         }
     }
 
@@ -56,6 +61,7 @@ impl SolidKind {
             SolidKind::Half => half(vector_at(numbers, 0), number_at(numbers, 3)),
             SolidKind::Rpp => arb8(box_vertices(numbers)),
             SolidKind::Arb8 => arb8(vertices(numbers)),
+            SolidKind::Sphere => sphere(vector_at(numbers, 0), number_at(numbers, 3)),
         }
     }
 }
@@ -87,6 +93,14 @@ fn half(normal: V3, distance: i64) -> Result<Solid, ShapeFault>
     ensures { result ≡ solids.half_made normal distance }
 {
     Ok(Solid::Half(Half::new(normal, distance)?))
+}
+
+fn sphere(centre: V3, radius: i64) -> Result<Solid, ShapeFault>
+    requires centre { IsWithin COORD centre }
+    requires radius { IsAtMost COORD radius }
+    ensures { result ≡ solids.sphere_made centre radius }
+{
+    Ok(Solid::Sphere(Sphere::new(centre, radius)?))
 }
 
 fn arb8(vertices: [V3; 8]) -> Result<Solid, ShapeFault>

@@ -1,4 +1,4 @@
-use Rattle.std.proofs.Common.{◌≡◌, ◌∙◌, sym, ap, map, List, ℕ, ℤ, Option, [], ◌∷◌, true, is_ok}
+use Rattle.std.proofs.Common.{◌∙◌, sym, ap, map, List, ℤ, Option, [], ◌∷◌, is_ok}
 use Rattle.name_core.specs.NameText.{read_name}
 use Rattle.mged_top.specs.Commands.{numbers_command, number_fault, make_command, solid_number}
 use Rattle.mged_top.specs.Solids.{solid_made}

@@ -4,3 +4,4 @@ pub mod Kept
 pub mod Changed
 pub mod Meant
 pub mod Equal
+pub mod Examples

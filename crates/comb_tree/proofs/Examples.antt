@@ -8,7 +8,7 @@ use Rattle.name_core.specs.declared.name.Name.{Name}
 use Rattle.lattice_core.specs.declared.placement.Placement.{Placement}
 use Rattle.comb_tree.specs.declared.node.ListEntry.{ListEntry}
 use Rattle.comb_tree.specs.declared.node.CombNode.TheVariants as node
-use Rattle.comb_tree.specs.Nodes.{Member, Comb, comb_nodes, members}
+use Rattle.comb_tree.specs.Nodes.{Member, comb_nodes}
 use Rattle.comb_tree.specs.Lists.{products, tree_of_list, from_u}
 use Rattle.comb_tree.specs.Meaning.{comb_holds, some_holds}
 use Rattle.comb_tree.specs.Changes.{map_members, renamed, placed, first_absent, first_lost_head, is_among, without}

@@ -1,5 +1,5 @@
 use Rattle.name_core.specs.Same.{same_name}
-use Rattle.std.proofs.Common.{◌≡◌, ◌≤◌, ◌+◌, List, [], ◌∷◌, ◌++◌, Option, Some, None, Bool, true, false, cond, ◌&&◌, ◌||◌, not, refl, ap, sym, ◌∙◌, length, map, arith}
+use Rattle.std.proofs.Common.{◌≡◌, ◌≤◌, ◌+◌, ◌*◌, ◌-◌, List, [], ◌∷◌, ◌++◌, Option, Some, None, Bool, true, false, cond, ◌&&◌, ◌||◌, not, refl, ap, sym, ◌∙◌, length, map, arith}
 use Rattle.std.specs.List.{list_any, filter}
 use Rattle.std.proofs.lemmas.List.{length-map, map-append, length-append}
 use Rattle.std.proofs.lemmas.List.Elements.{filter-append}
@@ -15,6 +15,23 @@ use Rattle.comb_tree.specs.Changes.{on_leaf, map_members, stays, or_next, first_
 use Rattle.comb_tree.specs.Lists.{member, is_u, is_cut, onto, products, from_u, HasList}
 use Rattle.comb_tree.proofs.Written.{members_of_list}
 use Rattle.comb_tree.proofs.Reading.{comb_back}
+
+nodes_of_leaves : (t : Tree Member) → length (postfix leaf apply t) + 1 ≡ 2 * length (leaves t)
+nodes_of_leaves (Leaf m) = omega arith
+nodes_of_leaves (Join op l r) =
+    omega (
+      arith,
+      nodes_of_leaves l,
+      nodes_of_leaves r,
+      length-append (postfix leaf apply l) (postfix leaf apply r ++ apply op ∷ []),
+      length-append (postfix leaf apply r) (apply op ∷ []),
+      length-append (leaves l) (leaves r),
+    )
+
+-- a tree has one node less than twice its leaves
+pub nodes_short : (t : Comb) → length (comb_nodes t) ≤ 2 * length (members t) - 1
+nodes_short None = omega arith
+nodes_short (Some t) = omega (arith, nodes_of_leaves t)
 
 -- a tree's list is as long as it has leaves
 pub list_length : (t : Comb) (l : List ListEntry) → HasList t l → length l ≡ length (members t)

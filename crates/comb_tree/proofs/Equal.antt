@@ -23,13 +23,13 @@ same_turn : (a b : Turn) → a.number ≡ b.number → a ≡ b
 unfolding turn_made
 same_turn a b e = ap turn_made (Σ_prop_path {B = λ n. n < 48} (λ n. le_prop) {u = (a.number, a.in_range)} {v = (b.number, b.in_range)} e)
 
-turn_decides : (a b : Turn) → Decides (turns.eq-value.it a b) (a ≡ b)
+pub turn_decides : (a b : Turn) → Decides (turns.eq-value.it a b) (a ≡ b)
 turn_decides a b = Decides-like _ (same_turn a b) (λ e. ap (λ (t : Turn). t.number) e) (Decides-eqb a.number b.number)
 
 same_vector : (a b : V3) → a.x ≡ b.x → a.y ≡ b.y → a.z ≡ b.z → a ≡ b
 same_vector a b p q r = λ i. record { x = p i; y = q i; z = r i }
 
-vector_decides : (a b : V3) → Decides (vectors.eq-value.it a b) (a ≡ b)
+pub vector_decides : (a b : V3) → Decides (vectors.eq-value.it a b) (a ≡ b)
 vector_decides a b =
     Decides-like _ (λ h. same_vector a b h.0 h.1.0 h.1.1) (λ e. (ap (λ (v : V3). v.x) e, (ap (λ (v : V3). v.y) e, ap (λ (v : V3). v.z) e)))
     (Decides-and _ _ (Decides-int_eq a.x b.x) (Decides-and _ _ (Decides-int_eq a.y b.y) (Decides-int_eq a.z b.z)))
@@ -37,7 +37,7 @@ vector_decides a b =
 same_placement : (a b : Placement) → a.turn ≡ b.turn → a.shift ≡ b.shift → a ≡ b
 same_placement a b p q = λ i. record { turn = p i; shift = q i }
 
-placement_decides : (a b : Placement) → Decides (placements.eq-value.it a b) (a ≡ b)
+pub placement_decides : (a b : Placement) → Decides (placements.eq-value.it a b) (a ≡ b)
 placement_decides a b =
     Decides-like _ (λ h. same_placement a b h.0 h.1) (λ e. (ap (λ (p : Placement). p.turn) e, ap (λ (p : Placement). p.shift) e))
     (Decides-and _ _ (turn_decides a.turn b.turn) (vector_decides a.shift b.shift))

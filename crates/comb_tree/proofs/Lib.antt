@@ -3,4 +3,6 @@ pub mod Reading
 pub mod Kept
 pub mod Changed
 pub mod Meant
+pub mod Appended
 pub mod Equal
+pub mod Examples

@@ -13,18 +13,18 @@ or_false : (b : Bool) → b || false ≡ b
 or_false true = refl
 or_false false = refl
 
-or_assoc : (a b c : Bool) → (a || b) || c ≡ a || (b || c)
+pub or_assoc : (a b c : Bool) → (a || b) || c ≡ a || (b || c)
 or_assoc true b c = refl
 or_assoc false b c = refl
 
 -- the values from a place on
-abbrev from_place : ℕ → (ℕ → Bool) → ℕ → Bool
+abbrev pub from_place : ℕ → (ℕ → Bool) → ℕ → Bool
 from_place n f = λ i. f (n + i)
 
-counted : (f : ℕ → Bool) (k m n : ℕ) → k ≡ m + n → from_place k f ≡ from_place n (from_place m f)
+pub counted : (f : ℕ → Bool) (k m n : ℕ) → k ≡ m + n → from_place k f ≡ from_place n (from_place m f)
 counted f k m n e = fun_ext (λ i. let same : k + i ≡ m + (n + i) = omega (arith, e) in ap f same)
 
-from_zero : (f : ℕ → Bool) → f ≡ from_place 0 f
+pub from_zero : (f : ℕ → Bool) → f ≡ from_place 0 f
 from_zero f = fun_ext (λ i. let same : i ≡ 0 + i = omega arith in ap f same)
 
 grown_holds : (t : Tree Member) (es : List ListEntry) (f : ℕ → Bool) → holds (grown t es) f ≡ goes_on_from (holds t f) es (λ i. f (length (leaves t) + i))

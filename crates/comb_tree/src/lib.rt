@@ -12,3 +12,6 @@ pub use fault::TreeFault;
 pub use node::{CombNode, ListEntry};
 pub use tree::{CombTree, LEAVES};
 pub use tree_forms::Op;
+
+#[cfg(test)]
+mod tests;

@@ -33,10 +33,10 @@ impl Model for CombTree {
 }
 
 impl CombTree {
-    ghost use Rattle.std.specs.Prelude.{◌≡◌, ◌<◌, ◌≤◌, ◌^◌, ℕ, Bool, length, IfOk, IfSome, MatchOption, vec_len, filter};
+    ghost use Rattle.std.specs.Prelude.{◌≡◌, ◌+◌, ◌<◌, ◌≤◌, ◌^◌, ◌||◌, ℕ, Bool, true, length, IfOk, OnOk, IfSome, MatchOption, vec_len, filter};
     ghost use Rattle.name_core.specs.Same.{same_name};
     ghost use Rattle.comb_tree.specs.Nodes.{comb_nodes, members, IsWellFormed};
-    ghost use Rattle.comb_tree.specs.Lists.{HasListForm, HasList, tree_of_list, from_u, products};
+    ghost use Rattle.comb_tree.specs.Lists.{HasListForm, HasList, tree_of_list, from_u, is_cut, products};
     ghost use Rattle.comb_tree.specs.Meaning.{comb_holds, some_holds};
     ghost use Rattle.comb_tree.specs.Changes.{map_members, renamed, placed};
     ghost use Rattle.comb_tree.specs.Outcomes.{IsTreeOfList, IsTreeOfNodes, IsAppended, IsRemoved};
@@ -59,6 +59,7 @@ impl CombTree {
     pub fn nodes(&self) -> &[CombNode]
         ensures tree { result.now ≡ comb_nodes self.now }
         ensures few { length (members self.now) ≤ 4096 }
+        ensures short { length result.now < 8192 }
     {
         &self.nodes
     }
@@ -116,7 +117,10 @@ impl CombTree {
     /// operator. `NotList` comes first, then `Members` of the whole.
     pub fn append(&mut self, alloc: Global, list: &[ListEntry]) -> Result<(), TreeFault>
         requires { length list.now < 2 ^ 31 }
-        ensures { IsAppended result self.old list.now self.new }
+        ensures answer { IsAppended result self.old list.now self.new }
+
+        // A list that begins with the union's operator adds where its products hold.
+        ensures united { OnOk result (is_cut list.now ≡ true → (values : ℕ → Bool) → comb_holds self.new values ≡ (comb_holds self.old values || some_holds (products list.now) (λ i. values (length (members self.old) + i)))) }
     {
         let Some(mut whole) = self.as_list(alloc)? else {
             return Err(TreeFault::NotList);

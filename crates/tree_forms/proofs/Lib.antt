@@ -2,3 +2,4 @@ pub mod Running
 pub mod Back
 pub mod Numbering
 pub mod Stored
+pub mod Examples

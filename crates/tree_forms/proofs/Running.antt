@@ -1,6 +1,6 @@
 -- What the stack machine makes of a tree's own nodes.
 use Rattle.std.specs.Prelude.{◌≡◌, List, [], ◌∷◌, ◌++◌, Option, Some, None, ◌⊎◌}
-use Rattle.std.proofs.Common.{refl, ap, append_assoc, ◌∙◌, sym, inl, inr}
+use Rattle.std.proofs.Common.{refl, ap, append_assoc, ◌∙◌, sym}
 use Rattle.std.proofs.lemmas.List.{append-nil}
 use Rattle.tree_forms.specs.declared.Op.{Op}
 use Rattle.tree_forms.specs.Trees.{Tree, Leaf, Join, fold, postfix}

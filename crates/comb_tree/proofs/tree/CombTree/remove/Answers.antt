@@ -1,10 +1,10 @@
 use Rattle.std.proofs.Common.{◌≡◌, ◌∙◌, ap, sym, refl, Some, None, Bool, List, find, not}
 use mathlib.Core.Path.{fun_ext}
-use Rattle.std.specs.HashSet.{contains, IsFromIterResult}
+use Rattle.std.specs.HashSet.{contains}
 use Rattle.name_core.specs.declared.name.Name.{Name}
 use Rattle.name_core.specs.Same.{same_name}
 use Rattle.comb_tree.specs.declared.node.ListEntry.{ListEntry}
-use Rattle.comb_tree.specs.Changes.{without, first_absent, first_lost_head, is_among, names_of}
+use Rattle.comb_tree.specs.Changes.{without, first_absent, is_among, names_of}
 use Rattle.comb_tree.specs.Steps.{head_from}
 use Rattle.comb_tree.specs.Lists.{tree_of_list, HasList}
 use Rattle.comb_tree.proofs.Changed.{head_found}

@@ -2,7 +2,8 @@
 use Rattle.std.proofs.Common.{zero, suc, ◌≡◌, ◌<◌, ◌/◌, ◌∙◌, ℕ, ℤ, pos, negsuc, ◌+ℤ◌, ◌*ℤ◌, Bool, true, false, cond, refl, ap, sym, subst, arith, ◌==◌, []}
 use Rattle.std.specs.Prelude.{slice_index, slice_index_or}
 use Rattle.std.proofs.lemmas.Int.{ints}
-use Rattle.std.proofs.Math.IntN.{neg_ℤ}
+use Rattle.std.proofs.Math.IntN.{neg_ℤ, *ℤ_comm}
+use Rattle.lattice_core.proofs.Products.{mul_neg}
 use Rattle.lattice_core.specs.declared.vector.V3.{V3}
 use Rattle.lattice_core.specs.Limits.{IsAtMost, IsUnder, IsWithin, IsBelow}
 use Rattle.lattice_core.specs.Vectors.{dot_product, vector_sum, zero_vector}
@@ -239,3 +240,33 @@ turned_sum turn v w h = vector_same
 
 pub sum_zero : (v : V3) → vector_sum v zero_vector ≡ v
 sum_zero v = vector_same (omega (arith, ints)) (omega (arith, ints)) (omega (arith, ints))
+
+-- a turn keeps dot products
+signed_product : (b : Bool) (x y : ℤ) → signed_by b x *ℤ signed_by b y ≡ x *ℤ y
+signed_product true x y =
+    let one : neg_ℤ x *ℤ neg_ℤ y ≡ neg_ℤ (neg_ℤ x *ℤ y) = mul_neg (neg_ℤ x) y in
+    let two : neg_ℤ x *ℤ y ≡ neg_ℤ (y *ℤ x) = *ℤ_comm (neg_ℤ x) y ∙ mul_neg y x in
+    let three : y *ℤ x ≡ x *ℤ y = *ℤ_comm y x in
+    omega (arith, ints, one, two, three)
+signed_product false x y = refl
+
+row_product : (turn place : ℕ) (v w : V3) → turn < 48 → IsPlace place
+    → dot_product (row_of turn place) v *ℤ dot_product (row_of turn place) w ≡ picked (column_of turn place) v *ℤ picked (column_of turn place) w
+row_product turn place v w h p =
+    let ok : IsPlace (column_of turn place) = column_ok turn place h p in
+    ap (λ (z : ℤ). z *ℤ dot_product (row_of turn place) w) (dot_is (column_of turn place) (is_negated turn place) v ok)
+    ∙ ap (λ (z : ℤ). signed_by (is_negated turn place) (picked (column_of turn place) v) *ℤ z) (dot_is (column_of turn place) (is_negated turn place) w ok)
+    ∙ signed_product (is_negated turn place) (picked (column_of turn place) v) (picked (column_of turn place) w)
+
+abbrev picked_product : ℕ → ℕ → V3 → V3 → ℤ
+picked_product p place v w = picked (column_in p place) v *ℤ picked (column_in p place) w
+
+pub turned_dot : (turn : ℕ) (v w : V3) → turn < 48 → dot_product (turned turn v) (turned turn w) ≡ dot_product v w
+turned_dot turn v w h =
+    let one = row_product turn 1 v w h (omega arith, omega arith) in
+    let two = row_product turn 2 v w h (omega arith, omega arith) in
+    let three = row_product turn 3 v w h (omega arith, omega arith) in
+    let all : (picked_product (turn / 8) 1 v w +ℤ picked_product (turn / 8) 2 v w) +ℤ picked_product (turn / 8) 3 v w ≡ dot_product v w =
+    by_permutation (λ p. (picked_product p 1 v w +ℤ picked_product p 2 v w) +ℤ picked_product p 3 v w ≡ dot_product v w)
+    (omega (arith, ints)) (omega (arith, ints)) (omega (arith, ints)) (omega (arith, ints)) (omega (arith, ints)) (omega (arith, ints)) (turn / 8) (omega arith) in
+    omega (arith, ints, one, two, three, all)

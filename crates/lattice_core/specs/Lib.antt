@@ -9,3 +9,4 @@ pub mod Matrices
 pub mod Extents
 pub mod Spans
 pub mod Units
+pub mod Examples

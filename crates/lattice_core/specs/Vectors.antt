@@ -2,6 +2,9 @@
 use Rattle.std.specs.Prelude.{ℤ, pos, ◌+ℤ◌, ◌-ℤ◌, ◌*ℤ◌}
 use Rattle.lattice_core.specs.declared.vector.V3.{V3}
 
+abbrev pub vector : ℤ → ℤ → ℤ → V3
+vector x y z = record { x = x; y = y; z = z }
+
 abbrev pub zero_vector : V3
 zero_vector = record { x = pos 0; y = pos 0; z = pos 0 }
 

@@ -7,6 +7,8 @@ mod limit;
 mod placement;
 mod ray;
 mod row;
+#[cfg(test)]
+mod tests;
 mod turn;
 mod vector;
 

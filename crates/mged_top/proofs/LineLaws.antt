@@ -1,19 +1,11 @@
 -- The words of a line, and numbers among them.
-use Rattle.std.proofs.Common.{◌≡◌, ◌<◌, ◌+◌, ◌++◌, ◌∷◌, [], ◌∙◌, ℕ, ℤ, zero, suc, List, set, take, length, get_or, drop, map, Option, Some, arith, ap, sym, refl}
+use Rattle.std.proofs.Common.{◌≡◌, ◌<◌, ◌+◌, ◌++◌, ◌∷◌, [], ◌∙◌, ℕ, ℤ, List, set, take, length, get_or, drop, map, Option, Some, arith, ap, sym, refl}
 use Rattle.std.specs.Borrow.{Bor}
 use Rattle.std.proofs.lemmas.Grind.{common_steps}
 use Rattle.std.proofs.lemmas.List.{drop_more, take_more, map-append}
-use Rattle.tcl_words.specs.TopWords.{AreWordsOf, IsWordOf}
-use Rattle.tcl_words.specs.declared.token.Token.{Token}
-use Rattle.tcl_words.specs.declared.token.Word.{Word}
 use Rattle.mged_top.specs.Commands.{number_fault, in_command, nirt_command, shot_command, view_number, direction_of}
 use Rattle.mged_top.specs.declared.command.Command.TheVariants.{Bad}
 use Rattle.mged_top.specs.declared.command.Refusal.TheVariants.{Syntax}
-
-pub word_at : (tokens : List Token) (words : List Word) (i : ℕ) (d : Word) → AreWordsOf tokens words → i < length words → IsWordOf tokens (get_or words i d)
-word_at tokens [] i d h lt = absurd (omega (arith, lt))
-word_at tokens (w ∷ ws) zero d h lt = h.0
-word_at tokens (w ∷ ws) (suc i) d h lt = word_at tokens ws i d h.1 (omega (arith, lt))
 
 -- one number more
 pub next_fault : (f : List ℕ → Option ℤ) (atoms : List (Bor (List ℕ))) (word i : ℕ) (d : Bor (List ℕ)) (n : ℤ) → i < length atoms → Some n ≡ f (get_or atoms i d).now

@@ -1,5 +1,5 @@
 -- Where a line ends.
-use Rattle.std.proofs.Common.{◌≡◌, ◌≢◌, ◌<◌, ◌≤◌, ◌==◌, ℕ, Bool, true, false, cond, nat_lt, List, Option, Some, None, position, get_or, length, take, drop, [], arith, ap, sym, ◌∙◌}
+use Rattle.std.proofs.Common.{◌≡◌, ◌≢◌, ◌<◌, ◌≤◌, ◌==◌, ℕ, Bool, true, false, cond, nat_lt, List, Some, None, position, get_or, length, take, drop, [], arith, ap, sym, ◌∙◌}
 use Rattle.std.proofs.Math.Seq.{take-length}
 use Rattle.std.specs.List.{position_or_len}
 use Rattle.std.proofs.lemmas.Bool.{eqb-false, ltb-false}

@@ -3,7 +3,7 @@ use Rattle.std.specs.Prelude.{◌≡◌, ◌≤◌, ℕ, zero, suc, false, List,
 use Rattle.transcript.specs.Transcript.{session_lines, sessions}
 use Rattle.std.specs.Arc.{arc_value}
 use Rattle.outside_core.specs.declared.traits.File.{File}
-use Rattle.transcript.specs.Merge.{Entry, lane}
+use Rattle.transcript.specs.Merge.{Entry}
 use Rattle.transcript.specs.Run as run
 use Rattle.mged_top.specs.Directories.{Entries}
 use Rattle.mged_top.specs.Replies.{applied, shown}

@@ -7,3 +7,5 @@ pub mod Replies
 pub mod Answers
 pub mod Outcomes
 pub mod Readable
+pub mod Statuses
+pub mod Calls

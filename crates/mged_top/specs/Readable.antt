@@ -1,5 +1,5 @@
 -- Commands of which each answer stands on lines of its own, and is told from want of memory.
-use Rattle.std.specs.Prelude.{◌≡◌, ℕ, List, bytes_eq, codes, false}
+use Rattle.std.specs.Prelude.{◌≡◌, bytes_eq, codes, false}
 use Rattle.transcript.specs.Lines.{Lacks}
 use Rattle.transcript.specs.Merge.{Entry}
 use Rattle.mged_top.specs.Refusals.{refusal_text}

@@ -1,5 +1,5 @@
 -- A script: its lines, and the command of each session's lines.
-use Rattle.std.specs.Prelude.{◌≡◌, ℕ, Bool, true, not, ◌+◌, ◌==◌, nat_lt, List, [], ◌∷◌, Option, Some, None, Result, Ok, Err, filter, find, map, length, slice_index_or, if◌then◌else◌}
+use Rattle.std.specs.Prelude.{ℕ, Bool, true, not, ◌==◌, nat_lt, List, Option, Some, None, Result, Ok, Err, filter, find, map, length, slice_index_or, if◌then◌else◌}
 use Rattle.std.specs.List.{position_from}
 use Rattle.std.specs.Option.{option_map}
 use Rattle.tcl_words.specs.Bytes.{is_blank}

@@ -1,11 +1,12 @@
 //! Reads the command of a line.
-ghost use Rattle.std.specs.Prelude.{◌≡◌, ◌+◌, ◌<◌, ◌≤◌, ◌^◌, ◌∷◌, ◌++◌, [], length, map, find, not, Some, IfOk, OnOk, IfNone, IfSome};
+ghost use Rattle.std.specs.Prelude.{All, ◌≡◌, ◌+◌, ◌<◌, ◌≤◌, ◌^◌, ◌∷◌, ◌++◌, [], length, map, find, not, Some, IfOk, OnOk, IfNone, IfSome};
 ghost use Rattle.std.specs.Option.{option_map};
 ghost use Rattle.std.specs.Int.RustNames.{unsigned_abs};
-ghost use Rattle.tcl_words.specs.TopWords.{atom_of, AreTokensIn, AreWordsOf};
+ghost use Rattle.tcl_words.specs.TopWords.{atom_of, AreTokensIn, IsWordOf};
 ghost use Rattle.tcl_words.specs.Bytes as bytes;
 ghost use Rattle.mged_top.specs.Answers.{command_entry};
 ghost use Rattle.mged_top.specs.Commands as commands;
+ghost use Rattle.mged_top.specs.Readable.{IsReadable};
 ghost use Rattle.mged_top.specs.Scripts as scripts;
 
 use crate::command::{Command, Edit, Query, Refusal, ScriptCommand, ViewFault};
@@ -26,7 +27,7 @@ fn word_atoms<'a>(
     words: &[Word],
 ) -> Result<Option<Vec<&'a [u8]>>, Memory>
     requires tokens { AreTokensIn (length line.now) tokens.now }
-    requires words { AreWordsOf tokens.now words.now }
+    requires words { All (IsWordOf tokens.now) words.now }
     ensures { IfOk result (λ found. option_map (λ atoms. map (λ a. a.now) atoms.items) found ≡ commands.all_atoms (map (atom_of line.now tokens.now) words.now)) }
 {
     let mut atoms = Vec::new(alloc);
@@ -87,6 +88,7 @@ fn read_numbers(atoms: &[&[u8]], word: u32, most: u64, out: &mut [i64]) -> Optio
 }
 
 const SOLID_NUMBER: u64 = 16_384;
+
 const VIEW_NUMBER: u64 = 999_999_999;
 
 fn is_zero(v: &V3) -> bool
@@ -275,7 +277,8 @@ pub fn push_command(
     line: &[u8],
 ) -> Result<(), Memory>
     requires { length line.now < 2 ^ 31 }
-    ensures { OnOk result (map command_entry commands.new ≡ map command_entry commands.old ++ scripts.commands_in (line.now ∷ [])) }
+    ensures pushed { OnOk result (map command_entry commands.new ≡ map command_entry commands.old ++ scripts.commands_in (line.now ∷ [])) }
+    ensures readable { OnOk result (All IsReadable (map command_entry commands.old) → All IsReadable (map command_entry commands.new)) }
 {
     if is_no_command(line) {
         return Ok(());

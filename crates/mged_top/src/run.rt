@@ -27,11 +27,7 @@ pub struct Outcome {
 }
 
 /// Puts an answer at the end of a session's list.
-fn keep_answer(
-    answers: &mut Vec<Items<Answer>>,
-    session: u8,
-    answer: Answer,
-) -> Result<(), Memory>
+fn keep_answer(answers: &mut Vec<Items<Answer>>, session: u8, answer: Answer) -> Result<(), Memory>
     requires session { (1 ≤ session) × (session ≤ 8) }
     requires eight { vec_len answers.old ≡ 8 }
     ensures eight { vec_len answers.new ≡ 8 }
@@ -114,12 +110,7 @@ fn is_refused_among(lists: &[Items<Answer>]) -> bool
 }
 
 /// Puts an answer at the end of the text.
-fn push_answer(
-    text: &mut Vec<u8>,
-    session: u8,
-    number: u32,
-    answer: &Answer,
-) -> Result<(), Memory>
+fn push_answer(text: &mut Vec<u8>, session: u8, number: u32, answer: &Answer) -> Result<(), Memory>
     requires { session ≤ 8 }
     ensures { OnOk result (text.new.items ≡ text.old.items ++ text_of (answer_lines session number (core_answer answer.now))) }
 {
@@ -160,11 +151,7 @@ fn push_sessions(text: &mut Vec<u8>, lists: &[Items<Answer>]) -> Result<(), Memo
 }
 
 /// The transcript of an order and of each session's answers.
-fn write_transcript(
-    alloc: Global,
-    order: &[u8],
-    lists: &[Items<Answer>],
-) -> Result<Vec<u8>, Memory>
+fn write_transcript(alloc: Global, order: &[u8], lists: &[Items<Answer>]) -> Result<Vec<u8>, Memory>
     requires order { All (λ digit. digit ≤ 8) order.now }
     requires eight { length lists.now ≡ 8 }
     requires few { All (λ list. length list + 1 < 2 ^ 32) lists.now }

@@ -2,6 +2,7 @@
 ghost use Rattle.std.specs.Prelude.{◌≡◌, ◌<◌, ◌≤◌, ◌∷◌, ◌==◌, ◌^◌, All, length, map, position, IfOk};
 ghost use Rattle.transcript.specs.Lines.{lines_in};
 ghost use Rattle.mged_top.specs.Answers.{HasSession, command_entry};
+ghost use Rattle.mged_top.specs.Readable.{IsReadable};
 ghost use Rattle.mged_top.specs.Readings.{IsScript};
 ghost use Rattle.mged_top.specs.Scripts as scripts;
 
@@ -73,6 +74,7 @@ pub fn read_script(alloc: Global, text: &[u8]) -> Result<Items<ScriptCommand>, S
     requires { length text.now < 2 ^ 31 }
     ensures exact { IsScript result text.now }
     ensures sessions { IfOk result (λ commands. All HasSession (map command_entry commands)) }
+    ensures readable { IfOk result (λ commands. All IsReadable (map command_entry commands)) }
     ensures few { IfOk result (λ commands. length commands ≤ 4194304) }
 {
     if text.len() > SCRIPT_SIZE {

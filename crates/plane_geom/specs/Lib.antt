@@ -1,3 +1,4 @@
 pub mod Vectors
 pub mod Edges
 pub mod Planes
+pub mod Examples

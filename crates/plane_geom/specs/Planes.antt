@@ -11,6 +11,7 @@ use Rattle.lattice_core.specs.Limits.{IsAtMost, IsWithin}
 use Rattle.lattice_core.specs.Units.{unit_of}
 use Rattle.lattice_core.specs.Vectors.{dot_product, vector_difference, zero_vector}
 use Rattle.lattice_core.specs.Turns.{turned}
+use Rattle.lattice_core.specs.Placements.{placed}
 use Rattle.plane_geom.specs.declared.limit.TheConstants.{NORMAL, OFFSET, WORLD_OFFSET}
 use Rattle.plane_geom.specs.declared.plane.Plane.{Plane}
 use Rattle.plane_geom.specs.declared.plane.Crossing.{Crossing}
@@ -90,6 +91,10 @@ IsCrossing plane ray (Leaves r s) =
     × ((p q : ℤ) → pos 0 <ℤ q → PlaneHolds plane ray p q ↔ ((p *ℤ s) ≤ℤ (r *ℤ q)))
 IsCrossing plane ray Holds = (p q : ℤ) → pos 0 <ℤ q → PlaneHolds plane ray p q
 IsCrossing plane ray Misses = (p q : ℤ) → pos 0 <ℤ q → ¬ PlaneHolds plane ray p q
+
+-- a placed point lies as far beyond the placed plane as the point beyond the plane
+abbrev pub KeepsHeights : Placement → Plane → Plane → Type 0
+KeepsHeights by plane result = (p : V3) → height_over result (placed by p) ≡ height_over plane p
 
 -- the sizes of the numbers of a crossing
 abbrev pub IsSmallCrossing : Crossing → Type 0

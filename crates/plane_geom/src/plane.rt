@@ -32,7 +32,7 @@ impl Plane {
     ghost use Rattle.plane_geom.specs.declared.limit.TheConstants.{NORMAL, WORLD_OFFSET};
     ghost use Rattle.lattice_core.specs.Limits.{IsAtMost, IsWithin};
     ghost use Rattle.plane_geom.specs.Edges.{HoldsAlong};
-    ghost use Rattle.plane_geom.specs.Planes.{IsSolidPlane, IsWorldPlane, AreOnOneLine, IsThrough, plane_through, placed_plane, slope_on, start_on, height_over, IsCrossing, IsSmallCrossing, level_of};
+    ghost use Rattle.plane_geom.specs.Planes.{IsSolidPlane, IsWorldPlane, AreOnOneLine, IsThrough, plane_through, placed_plane, KeepsHeights, slope_on, start_on, height_over, IsCrossing, IsSmallCrossing, level_of};
 
     /// The plane through three points, with the normal `(b - a) × (c - a)`, or `None` where they lie on one line.
     pub fn through(a: V3, b: V3, c: V3) -> Option<Plane>
@@ -57,6 +57,7 @@ impl Plane {
         requires plane { IsSolidPlane self.now }
         requires shift { IsWithin SHIFT by.now.shift }
         ensures value { result ≡ placed_plane by.now self.now }
+        ensures heights { KeepsHeights by.now self.now result }
         ensures size { IsWorldPlane result }
     {
         let n = by.turn.apply(self.n);

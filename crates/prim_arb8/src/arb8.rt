@@ -8,18 +8,29 @@ ghost use Rattle.prim_arb8.specs.Faces.{planes_of, first_fault, cases_of};
 use crate::face::{fault_of, planes_of};
 use lattice_core::V3;
 use plane_geom::{Plane, ShapeFault};
+use std::marker::Model;
 
 /// A convex solid of eight vertices: the points that the planes of its faces and of the box of its vertices hold.
 /// The faces 1 to 6 have the vertices 1234, 5678, 1265, 2376, 3487 and 4158, and vertices may coincide. The faces 7 to
-/// 12 are those of the box: x at most, x at least, y at most, y at least, z at most and z at least.
+/// 12 are those of the box: x at most, x at least, y at most, y at least, z at most and z at least. Contracts see its
+/// vertices.
 #[derive(Clone, Copy, Debug)]
 pub struct Arb8 {
     vertices: [V3; 8],
     planes: [Option<Plane>; 12],
-    pub ghost size: { All (IsWithin COORD) vertices },
-    pub ghost sides: { planes ≡ planes_of vertices },
-    pub ghost sides_size: { All (λ side. ForSome side IsSolidPlane) planes },
-    pub ghost sound: { first_fault (cases_of vertices) ≡ None },
+}
+
+impl Model for Arb8 {
+    ghost use Rattle.prim_arb8.specs.Faces.{planes_of};
+    ghost use Rattle.prim_arb8.specs.Solids.{EightVertices, IsArb8};
+
+    ghost Value = { EightVertices };
+
+    ghost view = { λ s. record { vertices = s.vertices } };
+
+    ghost invariant = { λ s. IsArb8 s.vertices s.planes };
+
+    ghost inverse = { λ solid. record { vertices = solid.vertices; planes = planes_of solid.vertices } };
 }
 
 impl Arb8 {

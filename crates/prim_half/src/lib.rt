@@ -2,5 +2,7 @@
 #![tactic(auto)]
 
 mod half;
+#[cfg(test)]
+mod tests;
 
 pub use half::Half;

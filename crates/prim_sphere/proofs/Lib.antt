@@ -1,3 +1,4 @@
 pub mod Squares
 pub mod Chords
 pub mod Bounds
+pub mod Examples

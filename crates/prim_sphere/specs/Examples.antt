@@ -5,11 +5,20 @@ use Rattle.lattice_core.specs.declared.ray.Dir.TheVariants.{PlusX}
 use Rattle.lattice_core.specs.declared.boxes.Side.TheVariants.{At}
 use Rattle.lattice_core.specs.declared.boxes.Box3.TheVariants.{Span}
 use Rattle.lattice_core.specs.Vectors.{zero_vector}
-use Rattle.prim_sphere.specs.Spheres.{chord_at, level_of, box_of}
+use Rattle.prim_sphere.specs.Spheres.{nearest_on, distance_squared, half_chord_squared, chord_at, level_of, box_of}
 
 -- from 10 to the left of the centre, to the right
-abbrev ray_at : ℤ → ℤ → Ray
+abbrev pub ray_at : ℤ → ℤ → Ray
 ray_at y z = record { origin = record { x = negsuc 9; y = y; z = z }; dir = PlusX }
+
+nearest : nearest_on zero_vector (ray_at (pos 1) (pos 1)) ≡ pos 10
+nearest = refl
+
+distance : distance_squared zero_vector (ray_at (pos 1) (pos 1)) ≡ pos 2
+distance = refl
+
+half_of_the_chord : half_chord_squared zero_vector (pos 5) (ray_at (pos 1) (pos 1)) ≡ pos 23
+half_of_the_chord = refl
 
 beside_the_centre : chord_at zero_vector (pos 5) (ray_at (pos 1) (pos 1)) ≡ Some (record { a = pos 10; k = 23 })
 beside_the_centre = refl

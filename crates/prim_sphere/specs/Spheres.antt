@@ -9,6 +9,7 @@ use Rattle.lattice_core.specs.declared.boxes.Side.TheVariants.{At}
 use Rattle.lattice_core.specs.declared.boxes.Box3.{Box3}
 use Rattle.lattice_core.specs.declared.boxes.Box3.TheVariants.{Span}
 use Rattle.lattice_core.specs.Boxes.{HasPoint}
+use Rattle.lattice_core.specs.Limits.{IsWithin}
 use Rattle.lattice_core.specs.Rays.{scaled_point}
 use Rattle.lattice_core.specs.Units.{unit_of}
 use Rattle.lattice_core.specs.Vectors.{dot_product, vector_difference}
@@ -18,6 +19,16 @@ use Rattle.prim_sphere.specs.declared.chord.Chord.{Chord}
 pub record IsRadius (radius : ℤ) : Type 0 where
   pub some : pos 1 ≤ℤ radius
   pub size : radius ≤ℤ COORD
+
+-- the points whose distance from the centre is at most the radius
+pub record Ball : Type 0 where
+  pub centre : V3
+  pub radius : ℤ
+
+-- the radius is that of a sphere, and the coordinates of the centre are at most COORD in size
+pub record IsBall (centre : V3) (radius : ℤ) : Type 0 where
+  pub centre_size : IsWithin COORD centre
+  pub radius_size : IsRadius radius
 
 abbrev pub squared : ℤ → ℤ
 squared z = z *ℤ z

@@ -1,19 +1,25 @@
-ghost use Rattle.std.specs.Prelude.{◌≤ℤ◌, pos};
-ghost use Rattle.lattice_core.specs.declared.limit.TheConstants.{COORD};
-ghost use Rattle.lattice_core.specs.Limits.{IsWithin};
-
 use lattice_core::V3;
 use plane_geom::ShapeFault;
+use std::marker::Model;
 
 /// The points at most `radius` from `centre`, in millimetres. The radius is at least 1, and it and the coordinates of
-/// the centre are at most `COORD` in size.
+/// the centre are at most `COORD` in size. Contracts see its centre and its radius.
 #[derive(Clone, Copy, Debug, PartialEq, Eq, Hash)]
 pub struct Sphere {
     centre: V3,
     radius: i64,
-    pub ghost centre_size: { IsWithin COORD centre },
-    pub ghost some_radius: { pos 1 ≤ℤ radius },
-    pub ghost radius_size: { radius ≤ℤ COORD },
+}
+
+impl Model for Sphere {
+    ghost use Rattle.prim_sphere.specs.Spheres.{Ball, IsBall};
+
+    ghost Value = { Ball };
+
+    ghost view = { λ s. record { centre = s.centre; radius = s.radius } };
+
+    ghost invariant = { λ s. IsBall s.centre s.radius };
+
+    ghost inverse = { λ ball. record { centre = ball.centre; radius = ball.radius } };
 }
 
 impl Sphere {

@@ -15,3 +15,4 @@ pub mod TextLengths
 pub mod Sizes
 pub mod SpelledPlaces
 pub mod PlaceOrderLaws
+pub mod Examples

@@ -28,9 +28,10 @@ fn cmp_fractions(p: i128, q: i128, r: i128, s: i128) -> Ordering
     product(p, s).cmp(&product(r, q))
 }
 
-/// The order of `m` and `√n`: a negative number is below every root, and else the squares decide.
+/// The order of `m` and `√n`: a negative number is below every root, and else the squares decide, which
+/// are below 2^127.
 fn cmp_root(m: i128, n: u128) -> Ordering
-    requires { unsigned_abs m < 2 ^ 64 }
+    requires { unsigned_abs m ≤ 5 * 2 ^ 61 }
     ensures { IsRootOrder result m (pos n) }
 {
     if m < 0 {
@@ -56,7 +57,7 @@ fn offset(p: i128, q: i128, a: i64) -> i128
     requires fraction { IsFractionInRange p q }
     requires whole { unsigned_abs a < WHOLE_LIMIT }
     ensures value { result ≡ p -ℤ (a *ℤ q) }
-    ensures size { unsigned_abs result < 2 ^ 64 }
+    ensures size { unsigned_abs result ≤ 5 * 2 ^ 61 }
 {
     p - product(a as i128, q)
 }
@@ -155,8 +156,8 @@ fn cmp_sum_with_difference(a: i64, k: u64, b: i64, l: u64) -> Ordering
 }
 
 impl Pos {
-    /// The exact order of two positions. It is decided by signs and by products below 2^127, and takes no
-    /// memory.
+    /// The exact order of two positions in range. It is decided by signs and by products below 2^127, and
+    /// takes no memory.
     pub fn cmp(&self, other: &Pos) -> Ordering
         requires self_in_range { IsInRange self.now }
         requires other_in_range { IsInRange other.now }

@@ -6,7 +6,8 @@ ghost use Rattle.surd_order.specs.Spelled.{spelled};
 
 use wide_core::{gcd, isqrt};
 
-/// A position on a ray: `p / q`, or `a + √k`, or with `plus` false `a - √k`.
+/// A position on a ray, in millimetres from its origin: `p / q`, or `a + √k`, or with `plus` false
+/// `a - √k`.
 ///
 /// It has one spelling: a fraction is in lowest terms with `q > 0`, and `k` is not a square. `Pos::frac`
 /// and `Pos::surd` make it, and then two positions are equal values exactly where they are one place.
@@ -63,7 +64,7 @@ impl Pos {
         }
     }
 
-    /// The fraction `p / q` in its one spelling.
+    /// The fraction `p / q` in its one spelling. `q` is not 0, and neither is the least `i128`.
     pub fn frac(p: i128, q: i128) -> Pos
         requires divisor { q ≢ pos 0 }
         requires p_size { unsigned_abs p < 2 ^ 127 }
@@ -81,7 +82,7 @@ impl Pos {
     }
 
     /// The position `a + √k`, or with `plus` false `a - √k`, in its one spelling: the root of a square is
-    /// taken.
+    /// taken. `a` is below 2^62 in size.
     pub fn surd(a: i64, plus: bool, k: u64) -> Pos
         requires { unsigned_abs a < 2 ^ 62 }
         ensures spelled { IsSpelled result }

@@ -25,7 +25,7 @@ pub record KeepsLines {D L C F : Type 0} (rules : Rules D L C F) (P : D → Type
   pub reply : (d : D) (l : L) (c : C) → P d → Q l → R c → IsPrintableReply (rules.reply d l c)
   pub tells : (d : D) (l : L) (c : C) → R c → says_memory (rules.reply d l c) ≡ false
 
-lane_no_longer : {X : Type 0} (entries : List (Entry X)) (k : ℕ) → length (lane entries k) ≤ length entries
+pub lane_no_longer : {X : Type 0} (entries : List (Entry X)) (k : ℕ) → length (lane entries k) ≤ length entries
 lane_no_longer [] k = omega arith
 lane_no_longer (e ∷ rest) k = no_longer (e.session == k) e.item (lane rest k) (length rest) (lane_no_longer rest k)
   where
@@ -84,7 +84,7 @@ module _ {D L C F : Type 0} (rules : Rules D L C F) (P : D → Type 0) (Q : L �
       (each_printable (stepped rules s e) rest (book_kept s.book e.item h fine.0)
       (λ j. stepped_kept (e.session == j) _ _ (own_kept s.book (s.own j) e.item h (q j) fine.0) (q j)) (omega (arith, up, fits)) fine.1 k)
 
-  run_length : (s : State D L) (entries : List (Entry (Marked C))) → length (run_of rules s entries) ≡ length entries
+  pub run_length : (s : State D L) (entries : List (Entry (Marked C))) → length (run_of rules s entries) ≡ length entries
   run_length s [] = refl
   run_length s (e ∷ rest) = ap suc (run_length (stepped rules s e) rest)
 

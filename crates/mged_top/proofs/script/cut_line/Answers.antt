@@ -1,4 +1,4 @@
-use Rattle.std.proofs.Common.{◌≡◌, ◌≢◌, ◌<◌, ◌+◌, ◌-◌, ◌==◌, ◌∷◌, [], ◌∙◌, ℕ, suc, Bool, true, false, List, Some, None, position, get_or, length, take, drop, ap, sym, arith, refl, add-one, eqb-true, length-drop}
+use Rattle.std.proofs.Common.{◌+◌, ◌-◌, ◌==◌, ◌∷◌, ◌∙◌, ℕ, List, length, take, drop, ap, sym, arith, add-one, eqb-true, length-drop}
 use Rattle.std.proofs.lemmas.Bool.{eqb-false}
 use Rattle.std.proofs.lemmas.List.Quantifiers.{position-Some}
 use Rattle.transcript.specs.Lines.{lines_in}

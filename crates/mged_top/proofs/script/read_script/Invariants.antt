@@ -1,7 +1,8 @@
-use Rattle.std.proofs.Common.{◌≡◌, ◌≤◌, ◌+◌, ◌++◌, All, length, map, vec_len, List, ℕ}
+use Rattle.std.proofs.Common.{◌≡◌, ◌≤◌, ◌+◌, ◌++◌, All, length, map}
 use Rattle.std.specs.List.{position_from}
 use Rattle.transcript.specs.Lines.{lines_in}
 use Rattle.mged_top.specs.Answers.{HasSession, command_entry}
+use Rattle.mged_top.specs.Readable.{IsReadable}
 use Rattle.mged_top.specs.Scripts.{begins_with_at, commands_in}
 use Rattle.mged_top.proofs.script.read_script.Given as goal
 
@@ -11,6 +12,7 @@ invariant-loop-rest l = record {
   sessions : position_from begins_with_at (l.number + 1) (lines_in l.rest) ≡ position_from begins_with_at 1 (lines_in l.text);
   commands : map command_entry l.commands ++ commands_in (lines_in l.rest) ≡ commands_in (lines_in l.text);
   read : All HasSession (map command_entry l.commands);
+  readable : All IsReadable (map command_entry l.commands);
   few : length l.commands ≤ l.number;
   many : l.number + length l.rest ≤ length l.text;
 }

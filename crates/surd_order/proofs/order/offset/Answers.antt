@@ -1,4 +1,4 @@
-use Rattle.std.proofs.Common.{arith, rules, FitsSigned, ◌≡◌, ◌≤◌, ◌*◌, ◌<◌, ◌-ℤ◌, ◌*ℤ◌, ◌^◌, ℤ, subst, sym, ap}
+use Rattle.std.proofs.Common.{arith, rules, FitsSigned, ◌≡◌, ◌≤◌, ◌*◌, ◌-ℤ◌, ◌*ℤ◌, ◌^◌, ℤ, subst, sym, ap}
 use Rattle.std.proofs.lemmas.Int.{ints, to_z-of_z, fits_signed_from_abs}
 use Rattle.std.specs.Int.RustNames.{unsigned_abs}
 use mir.Syntax.{w64, w128}
@@ -25,5 +25,5 @@ returns c =
     let fp : FitsSigned w128 c.args.p = c.ranges.p in
     let fr : FitsSigned w128 c.product.result = search rules in
     let fd : FitsSigned w128 (c.args.p -ℤ c.product.result) = omega (arith, ints, small c, c.requires.fraction.over) in
-    let size : unsigned_abs (c.args.p -ℤ c.product.result) < 2 ^ 64 = omega (arith, ints, small c, c.requires.fraction.over) in
+    let size : unsigned_abs (c.args.p -ℤ c.product.result) ≤ 5 * 2 ^ 61 = omega (arith, ints, small c, c.requires.fraction.over) in
     simp to_z-of_z (record { value = ap (λ z. c.args.p -ℤ z) (far c).0; size = size })

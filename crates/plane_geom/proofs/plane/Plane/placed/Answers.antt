@@ -4,7 +4,8 @@ use mir.Syntax.{w128}
 use Rattle.lattice_core.specs.Limits.{IsAtMost, IsWithin}
 use Rattle.lattice_core.proofs.Turning.{turned_within}
 use Rattle.plane_geom.proofs.Sizes.{sum_size, dot_size, fits128}
-use Rattle.plane_geom.proofs.Placed.{placed_is}
+use Rattle.plane_geom.proofs.Placed.{placed_is, keeps_heights}
+use Rattle.plane_geom.specs.Planes.{KeepsHeights}
 use Rattle.plane_geom.proofs.plane.Plane.placed.Goals as goal
 
 pub dot-requires-clause-normal : goal.dot-requires-clause-normal
@@ -52,3 +53,7 @@ returns-clause-size c =
     let p = sum_size 105553116266496 (3 * (2147483648 * 262144)) d k c.requires.plane.offset kp in
     let f : FitsSigned w128 (c.args.self.now.d +ℤ c.dot.result) = fits128 (105553116266496 + 3 * (2147483648 * 262144)) (d +ℤ k) (lit< tt) p in
     record { normal = small; offset = simp to_z-of_z p }
+
+pub returns-clause-heights : goal.returns-clause-heights
+returns-clause-heights c =
+    subst (KeepsHeights c.args.by.now c.args.self.now) (sym (returns-clause-value c)) (keeps_heights c.args.by.now c.args.self.now c.args.by.now.turn.in_range)

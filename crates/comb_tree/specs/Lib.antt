@@ -1,0 +1,6 @@
+pub mod Nodes
+pub mod Lists
+pub mod Meaning
+pub mod Changes
+pub mod Outcomes
+pub mod Steps

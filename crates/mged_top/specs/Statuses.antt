@@ -1,0 +1,29 @@
+-- The numbers and lines of the statuses.
+use Rattle.std.specs.Prelude.{ℕ, List, [], ◌++◌, codes, decimal}
+use Rattle.mged_top.specs.declared.script.ScriptFlaw.{ScriptFlaw}
+use Rattle.mged_top.specs.declared.script.ScriptFlaw.TheVariants.{Size, Session}
+use Rattle.mged_top.specs.declared.status.Status.{Status}
+use Rattle.mged_top.specs.declared.status.Status.TheVariants.{Done, SomeRefused, Usage, ScriptRefused, ReadFault, WriteFault, Memory}
+
+abbrev pub exit_number : Status → ℕ
+exit_number Done = 0
+exit_number SomeRefused = 1
+exit_number Usage = 2
+exit_number (ScriptRefused flaw) = 4
+exit_number ReadFault = 5
+exit_number WriteFault = 6
+exit_number Memory = 7
+
+abbrev pub flaw_text : ScriptFlaw → List ℕ
+flaw_text Size = codes "size"
+flaw_text (Session line) = codes "line " ++ (decimal line ++ codes " session")
+
+-- where a transcript is written there is no line
+abbrev pub status_line : Status → List ℕ
+status_line Done = []
+status_line SomeRefused = []
+status_line Usage = codes "mgedrt: usage"
+status_line (ScriptRefused flaw) = codes "mgedrt: script " ++ flaw_text flaw
+status_line ReadFault = codes "mgedrt: read"
+status_line WriteFault = codes "mgedrt: write"
+status_line Memory = codes "mgedrt: memory"

@@ -1,0 +1,65 @@
+ghost use Rattle.std.specs.Prelude.{◌≡◌};
+ghost use Rattle.mged_top.specs.Statuses.{exit_number, status_line};
+
+use crate::script::ScriptFlaw;
+use fixed_text::FixedText;
+
+/// How a call of the program ended.
+#[derive(Clone, Copy, Debug, PartialEq, Eq)]
+pub enum Status {
+    /// All is written, and no command is refused.
+    Done,
+    /// All is written, and at least one command is refused.
+    SomeRefused,
+    /// The words of the command line are not understood. Nothing is read or written.
+    Usage,
+    /// The script is refused. Nothing is written.
+    ScriptRefused(ScriptFlaw),
+    /// A read failed. Nothing is written.
+    ReadFault,
+    /// A write failed. The sink holds first bytes of the transcript, not all.
+    WriteFault,
+    /// There was no memory. Nothing is written.
+    Memory,
+}
+
+/// The line of a status.
+pub type StatusText = FixedText<96>;
+
+impl Status {
+    /// The number with which the program ends.
+    pub fn number(&self) -> u8
+        ensures { result ≡ exit_number self.now }
+    {
+        match self {
+            Status::Done => 0,
+            Status::SomeRefused => 1,
+            Status::Usage => 2,
+            Status::ScriptRefused(_) => 4,
+            Status::ReadFault => 5,
+            Status::WriteFault => 6,
+            Status::Memory => 7,
+        }
+    }
+
+    /// Writes the line of the status, without its end, in place of what `out` held. It is empty where the
+    /// transcript is written.
+    pub fn write_line(&self, out: &mut StatusText)
+        ensures { out.new ≡ status_line self.now }
+    {
+        out.clear();
+        match self {
+            Status::Done | Status::SomeRefused => {}
+            Status::Usage => out.push(b"mgedrt: usage"),
+            Status::ScriptRefused(ScriptFlaw::Size) => out.push(b"mgedrt: script size"),
+            Status::ScriptRefused(ScriptFlaw::Session(line)) => {
+                out.push(b"mgedrt: script line ");
+                out.push_number(*line);
+                out.push(b" session");
+            }
+            Status::ReadFault => out.push(b"mgedrt: read"),
+            Status::WriteFault => out.push(b"mgedrt: write"),
+            Status::Memory => out.push(b"mgedrt: memory"),
+        }
+    }
+}

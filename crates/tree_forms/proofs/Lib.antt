@@ -1,0 +1,4 @@
+pub mod Running
+pub mod Back
+pub mod Numbering
+pub mod Stored

@@ -2,7 +2,7 @@ ghost use Rattle.std.specs.Prelude.{◌≡◌, ◌≤◌, All, IfSome};
 ghost use Rattle.std.specs.Option.{ForSome, option_map};
 ghost use Rattle.lattice_core.specs.declared.limit.TheConstants.{SHIFT, WORLD, COORD};
 ghost use Rattle.lattice_core.specs.Limits.{IsWithin, IsAtMost};
-ghost use Rattle.solid_set.specs.Rpps.{vector, rpp_vertices};
+ghost use Rattle.solid_set.specs.Rpps.{vector, rpp_vertices, IsArb8Of};
 ghost use Rattle.prim_sphere.specs.Spheres.{chord_at};
 ghost use Rattle.solid_set.specs.Levels.{chord_level};
 ghost use Rattle.plane_geom.specs.Planes.{IsWorldPlane, placed_plane};
@@ -51,11 +51,7 @@ impl Solid {
         requires zmax { IsAtMost COORD zmax }
         ensures { IsArb8Of result (rpp_vertices xmin xmax ymin ymax zmin zmax) }
     {
-        let v = rpp_vertices(xmin, xmax, ymin, ymax, zmin, zmax);
-        match Arb8::new(v) {
-            Ok(arb8) => Ok(Solid::Arb8(arb8)),
-            Err(fault) => Err(fault),
-        }
+        arb8_of(rpp_vertices(xmin, xmax, ymin, ymax, zmin, zmax))
     }
 
     /// The solid in the world. Its shift is at most `SHIFT` in size.
@@ -69,6 +65,16 @@ impl Solid {
             Solid::Sphere(sphere) => Placed::sphere(sphere, by),
             Solid::Half(half) => Placed::half(half, by),
         }
+    }
+}
+
+fn arb8_of(v: [V3; 8]) -> Result<Solid, ShapeFault>
+    requires { All (IsWithin COORD) v }
+    ensures { IsArb8Of result v }
+{
+    match Arb8::new(v) {
+        Ok(arb8) => Ok(Solid::Arb8(arb8)),
+        Err(fault) => Err(fault),
     }
 }
 

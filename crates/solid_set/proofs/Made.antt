@@ -4,6 +4,8 @@ use Rattle.std.proofs.Common.{FitsSigned, w64, lit<}
 use Rattle.std.proofs.lemmas.Int.{ints}
 use Rattle.plane_geom.proofs.Sizes.{fits64}
 use Rattle.prim_sphere.specs.Spheres.{IsRadius}
+use Rattle.lattice_core.specs.declared.limit.TheConstants.{COORD}
+use Rattle.lattice_core.specs.Limits.{IsWithin}
 use Rattle.std.specs.Option.{ForSome}
 use Rattle.plane_geom.specs.declared.plane.Plane.{Plane}
 use Rattle.plane_geom.specs.Planes.{IsWorldPlane}
@@ -33,3 +35,15 @@ no_side c r k d lt x e = absurd (omega arith)
 
 pub radius_fits : (r : ℤ) → IsRadius r → FitsSigned w64 r
 radius_fits r h = fits64 16384 r (lit< tt) (omega (arith, ints, h.some), h.size)
+
+pub all_eight : (a b c d e f g h : V3) → IsWithin COORD a → IsWithin COORD b → IsWithin COORD c → IsWithin COORD d → IsWithin COORD e → IsWithin COORD f → IsWithin COORD g → IsWithin COORD h
+    → All (IsWithin COORD) (a ∷ b ∷ c ∷ d ∷ e ∷ f ∷ g ∷ h ∷ [])
+all_eight a b c d e f g h i j k l m n o p zero x lt = i
+all_eight a b c d e f g h i j k l m n o p (suc zero) x lt = j
+all_eight a b c d e f g h i j k l m n o p (suc (suc zero)) x lt = k
+all_eight a b c d e f g h i j k l m n o p (suc (suc (suc zero))) x lt = l
+all_eight a b c d e f g h i j k l m n o p (suc (suc (suc (suc zero)))) x lt = m
+all_eight a b c d e f g h i j k l m n o p (suc (suc (suc (suc (suc zero))))) x lt = n
+all_eight a b c d e f g h i j k l m n o p (suc (suc (suc (suc (suc (suc zero)))))) x lt = o
+all_eight a b c d e f g h i j k l m n o p (suc (suc (suc (suc (suc (suc (suc zero))))))) x lt = p
+all_eight a b c d e f g h i j k l m n o p (suc (suc (suc (suc (suc (suc (suc (suc q)))))))) x lt = absurd (omega arith)

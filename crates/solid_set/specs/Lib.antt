@@ -5,3 +5,4 @@ pub mod Bounds
 pub mod Surfaces
 pub mod Laws
 pub mod Levels
+pub mod Rpps

@@ -10,7 +10,7 @@ use Rattle.lattice_core.specs.declared.placement.Placement.{Placement}
 use Rattle.lattice_core.specs.Limits.{IsWithin}
 use Rattle.plane_geom.specs.declared.plane.Plane.{Plane}
 use Rattle.plane_geom.specs.Planes.{PlaneHolds, placed_plane}
-use Rattle.prim_half.specs.declared.half.Half.{Half}
+use Rattle.prim_half.specs.Halves.{HalfSpace as HalfNumbers}
 use Rattle.prim_arb8.specs.Faces.{planes_of}
 use Rattle.prim_sphere.specs.declared.limit.TheConstants.{PLACED}
 use Rattle.prim_sphere.specs.Spheres.{SphereHolds, IsRadius}
@@ -21,7 +21,7 @@ use Rattle.solid_set.specs.declared.surface.Surface.{Surface}
 use Rattle.solid_set.specs.declared.surface.Surface.TheVariants.{Planes, HalfSpace, Ball}
 use Rattle.solid_set.specs.Bounds.{box_of, all_of_space}
 
-abbrev pub plane_of_half : Half → Plane
+abbrev pub plane_of_half : HalfNumbers → Plane
 plane_of_half half = record { n = half.normal; d = half.distance }
 
 abbrev pub placed_sides : Placement → List (Option Plane) → List (Option Plane)

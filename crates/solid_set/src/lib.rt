@@ -12,3 +12,6 @@ pub use crossed::Crossed;
 pub use placed::Placed;
 pub use solid::Solid;
 pub use surface::Surface;
+
+#[cfg(test)]
+mod tests;

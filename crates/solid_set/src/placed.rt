@@ -1,7 +1,8 @@
 ghost use Rattle.std.specs.Prelude.{◌≡◌, ◌≤◌, All, IfSome};
 ghost use Rattle.std.specs.Option.{ForSome, option_map};
-ghost use Rattle.lattice_core.specs.declared.limit.TheConstants.{SHIFT, WORLD};
-ghost use Rattle.lattice_core.specs.Limits.{IsWithin};
+ghost use Rattle.lattice_core.specs.declared.limit.TheConstants.{SHIFT, WORLD, COORD};
+ghost use Rattle.lattice_core.specs.Limits.{IsWithin, IsAtMost};
+ghost use Rattle.solid_set.specs.Rpps.{vector, rpp_vertices, IsArb8Of};
 ghost use Rattle.prim_sphere.specs.Spheres.{chord_at};
 ghost use Rattle.solid_set.specs.Levels.{chord_level};
 ghost use Rattle.plane_geom.specs.Planes.{IsWorldPlane, placed_plane};
@@ -14,7 +15,7 @@ use crate::solid::Solid;
 use crate::span::{segment_of_ball, segment_through};
 use crate::surface::Surface;
 use lattice_core::{Box3, Placement, Ray, V3};
-use plane_geom::Plane;
+use plane_geom::{Plane, ShapeFault};
 use prim_arb8::Arb8;
 use prim_half::Half;
 use prim_sphere::{Sphere, bounds_at, crossed_at};
@@ -35,6 +36,23 @@ impl Solid {
     ghost use Rattle.lattice_core.specs.declared.limit.TheConstants.{SHIFT};
     ghost use Rattle.lattice_core.specs.Limits.{IsWithin};
     ghost use Rattle.solid_set.specs.Surfaces.{surface_of, bounds_of};
+    ghost use Rattle.lattice_core.specs.Limits.{IsAtMost};
+    ghost use Rattle.lattice_core.specs.declared.limit.TheConstants.{COORD};
+    ghost use Rattle.solid_set.specs.Rpps.{rpp_vertices, IsArb8Of};
+
+    /// The box from the least to the greatest coordinates along each axis, in millimetres, or the fault of its vertices.
+    /// Vertices 1 to 4 lie at `xmin`: (ymin, zmin), (ymax, zmin), (ymax, zmax), (ymin, zmax); 5 to 8 likewise at `xmax`.
+    pub fn rpp(xmin: i64, xmax: i64, ymin: i64, ymax: i64, zmin: i64, zmax: i64) -> Result<Solid, ShapeFault>
+        requires xmin { IsAtMost COORD xmin }
+        requires xmax { IsAtMost COORD xmax }
+        requires ymin { IsAtMost COORD ymin }
+        requires ymax { IsAtMost COORD ymax }
+        requires zmin { IsAtMost COORD zmin }
+        requires zmax { IsAtMost COORD zmax }
+        ensures { IsArb8Of result (rpp_vertices xmin xmax ymin ymax zmin zmax) }
+    {
+        arb8_of(rpp_vertices(xmin, xmax, ymin, ymax, zmin, zmax))
+    }
 
     /// The solid in the world. Its shift is at most `SHIFT` in size.
     pub fn placed(&self, by: &Placement) -> Placed
@@ -48,6 +66,48 @@ impl Solid {
             Solid::Half(half) => Placed::half(half, by),
         }
     }
+}
+
+fn arb8_of(v: [V3; 8]) -> Result<Solid, ShapeFault>
+    requires { All (IsWithin COORD) v }
+    ensures { IsArb8Of result v }
+{
+    match Arb8::new(v) {
+        Ok(arb8) => Ok(Solid::Arb8(arb8)),
+        Err(fault) => Err(fault),
+    }
+}
+
+fn vector(x: i64, y: i64, z: i64) -> V3
+    requires x { IsAtMost COORD x }
+    requires y { IsAtMost COORD y }
+    requires z { IsAtMost COORD z }
+    ensures value { result ≡ vector x y z }
+    ensures size { IsWithin COORD result }
+{
+    V3 { x, y, z }
+}
+
+fn rpp_vertices(xmin: i64, xmax: i64, ymin: i64, ymax: i64, zmin: i64, zmax: i64) -> [V3; 8]
+    requires xmin { IsAtMost COORD xmin }
+    requires xmax { IsAtMost COORD xmax }
+    requires ymin { IsAtMost COORD ymin }
+    requires ymax { IsAtMost COORD ymax }
+    requires zmin { IsAtMost COORD zmin }
+    requires zmax { IsAtMost COORD zmax }
+    ensures value { result ≡ rpp_vertices xmin xmax ymin ymax zmin zmax }
+    ensures size { All (IsWithin COORD) result }
+{
+    [
+        vector(xmin, ymin, zmin),
+        vector(xmin, ymax, zmin),
+        vector(xmin, ymax, zmax),
+        vector(xmin, ymin, zmax),
+        vector(xmax, ymin, zmin),
+        vector(xmax, ymax, zmin),
+        vector(xmax, ymax, zmax),
+        vector(xmax, ymin, zmax),
+    ]
 }
 
 fn placed_side(arb8: &Arb8, face: u8, by: &Placement) -> Option<Plane>

@@ -5,3 +5,4 @@ pub mod Answers
 pub mod Transcript
 pub mod Reading
 pub mod Outcome
+pub mod Examples

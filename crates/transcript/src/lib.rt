@@ -2,6 +2,8 @@
 #![tactic(auto)]
 
 mod body;
+#[cfg(test)]
+mod tests;
 mod write;
 
 pub use body::Body;

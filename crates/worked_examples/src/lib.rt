@@ -1,0 +1,12 @@
+//! Worked examples of the program: scripts with the transcripts that they give, and what stands after a fault.
+//! They run over sources, sinks and shelves in memory, and are tests alone.
+#![tactic(auto)]
+
+#[cfg(test)]
+mod commands;
+#[cfg(test)]
+mod faults;
+#[cfg(test)]
+mod run;
+#[cfg(test)]
+mod scripts;

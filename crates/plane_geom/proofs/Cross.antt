@@ -9,7 +9,7 @@ use Rattle.plane_geom.specs.declared.plane.Plane.{Plane}
 use Rattle.plane_geom.specs.Vectors.{cross_product}
 use Rattle.plane_geom.specs.Planes.{normal_of, is_zero_vector, plane_of, IsThrough}
 use Rattle.lattice_core.proofs.Turning.{vector_same}
-use Rattle.plane_geom.proofs.Tests.{equal_from, and_left, and_right}
+use Rattle.plane_geom.proofs.BoolTests.{equal_from, and_left, and_right}
 
 pub sub_mul : (a b c : ℤ) → (a -ℤ b) *ℤ c ≡ (a *ℤ c) -ℤ (b *ℤ c)
 sub_mul a b c =

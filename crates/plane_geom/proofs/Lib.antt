@@ -1,4 +1,4 @@
-pub mod Tests
+pub mod BoolTests
 pub mod Sizes
 pub mod Cross
 pub mod Crossings

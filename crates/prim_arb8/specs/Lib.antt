@@ -1,2 +1,3 @@
 pub mod Points
 pub mod Faces
+pub mod Solids

@@ -1,28 +1,44 @@
 ghost use Rattle.std.specs.Prelude.{◌≡◌, ◌≤◌, All, Some, None};
+ghost use Rattle.std.specs.Option.{ForSome};
 ghost use Rattle.lattice_core.specs.declared.limit.TheConstants.{COORD};
 ghost use Rattle.lattice_core.specs.Limits.{IsWithin};
+ghost use Rattle.plane_geom.specs.Planes.{IsSolidPlane};
 ghost use Rattle.prim_arb8.specs.Faces.{planes_of, first_fault, cases_of};
 
 use crate::face::{fault_of, planes_of};
 use lattice_core::V3;
 use plane_geom::{Plane, ShapeFault};
+use std::marker::Model;
 
 /// A convex solid of eight vertices: the points that the planes of its faces and of the box of its vertices hold.
 /// The faces 1 to 6 have the vertices 1234, 5678, 1265, 2376, 3487 and 4158, and vertices may coincide. The faces 7 to
-/// 12 are those of the box: x at most, x at least, y at most, y at least, z at most and z at least.
+/// 12 are those of the box: x at most, x at least, y at most, y at least, z at most and z at least. Contracts see its
+/// vertices.
 #[derive(Clone, Copy, Debug)]
 pub struct Arb8 {
     vertices: [V3; 8],
     planes: [Option<Plane>; 12],
-    pub ghost size: { All (IsWithin COORD) vertices },
-    pub ghost sides: { planes ≡ planes_of vertices },
-    pub ghost sound: { first_fault (cases_of vertices) ≡ None },
+}
+
+impl Model for Arb8 {
+    ghost use Rattle.prim_arb8.specs.Faces.{planes_of};
+    ghost use Rattle.prim_arb8.specs.Solids.{EightVertices, IsArb8};
+
+    ghost Value = { EightVertices };
+
+    ghost view = { λ s. record { vertices = s.vertices } };
+
+    ghost invariant = { λ s. IsArb8 s.vertices s.planes };
+
+    ghost inverse = { λ solid. record { vertices = solid.vertices; planes = planes_of solid.vertices } };
 }
 
 impl Arb8 {
     ghost use Rattle.std.specs.Prelude.{◌≡◌, ◌≤◌, All, MatchResult, Some, None};
+    ghost use Rattle.std.specs.Option.{ForSome};
     ghost use Rattle.lattice_core.specs.declared.limit.TheConstants.{COORD};
     ghost use Rattle.lattice_core.specs.Limits.{IsWithin};
+    ghost use Rattle.plane_geom.specs.Planes.{IsSolidPlane};
     ghost use Rattle.prim_arb8.specs.Faces.{first_fault, cases_of, plane_at};
 
     /// The solid of these vertices, or the first fault: `Flat`, then face by face `NotPlanar` and `NotConvex`.
@@ -51,7 +67,8 @@ impl Arb8 {
     /// The outward plane of a face from 1 to 12, or `None` where the face is degenerate.
     pub fn plane(&self, face: u8) -> Option<Plane>
         requires { (1 ≤ face) × (face ≤ 12) }
-        ensures { result ≡ plane_at self.now.vertices face }
+        ensures value { result ≡ plane_at self.now.vertices face }
+        ensures size { ForSome result IsSolidPlane }
     {
         self.planes[usize::from(face - 1)]
     }

@@ -1,4 +1,5 @@
 ghost use Rattle.std.specs.Prelude.{◌≡◌, ◌≤◌, All, IfSome, Some, None};
+ghost use Rattle.std.specs.Option.{ForSome};
 ghost use Rattle.lattice_core.specs.declared.limit.TheConstants.{COORD};
 ghost use Rattle.lattice_core.specs.Limits.{IsWithin, IsAtMost};
 ghost use Rattle.lattice_core.specs.Units.{unit_of};
@@ -140,6 +141,7 @@ fn box_plane(v: &[V3; 8], dir: Dir) -> Plane
 pub fn planes_of(v: &[V3; 8]) -> [Option<Plane>; 12]
     requires { All (IsWithin COORD) v.now }
     ensures value { result ≡ planes_of v.now }
+    ensures size { All (λ side. ForSome side IsSolidPlane) result }
 {
     [
         outward_face(v, 1),

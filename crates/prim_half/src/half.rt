@@ -7,16 +7,26 @@ ghost use Rattle.plane_geom.specs.declared.fault.ShapeFault.TheVariants.{ZeroNor
 
 use lattice_core::V3;
 use plane_geom::{Plane, ShapeFault};
+use std::marker::Model;
 
 /// The half-space of the points `p` with `normal · p` at most `distance`. Its normal is not zero, and its numbers are
-/// at most `COORD` in size.
+/// at most `COORD` in size. Contracts see its normal and its distance.
 #[derive(Clone, Copy, Debug, PartialEq, Eq, Hash)]
 pub struct Half {
     normal: V3,
     distance: i64,
-    pub ghost normal_size: { IsWithin COORD normal },
-    pub ghost distance_size: { IsAtMost COORD distance },
-    pub ghost direction: { normal ≢ zero_vector },
+}
+
+impl Model for Half {
+    ghost use Rattle.prim_half.specs.Halves.{HalfSpace, IsHalf};
+
+    ghost Value = { HalfSpace };
+
+    ghost view = { λ s. record { normal = s.normal; distance = s.distance } };
+
+    ghost invariant = { λ s. IsHalf s.normal s.distance };
+
+    ghost inverse = { λ half. record { normal = half.normal; distance = half.distance } };
 }
 
 impl Half {

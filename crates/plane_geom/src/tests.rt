@@ -38,7 +38,8 @@ fn ray(x: i64, y: i64, z: i64, dir: Dir) -> Ray
     requires x { IsAtMost COORD x }
     requires y { IsAtMost COORD y }
     requires z { IsAtMost COORD z }
-    ensures { IsWithin WORLD result.origin }
+    ensures origin { IsWithin WORLD result.origin }
+    ensures dir { result.dir ≡ dir }
 {
     Ray {
         origin: V3 { x, y, z },
@@ -51,6 +52,7 @@ fn plane(x: i64, y: i64, z: i64, d: i64) -> Plane
     requires y { IsAtMost COORD y }
     requires z { IsAtMost COORD z }
     requires d { IsAtMost COORD d }
+    ensures normal { result.n ≡ vector x y z }
     ensures solid { IsSolidPlane result }
     ensures world { IsWorldPlane result }
 {

@@ -10,3 +10,5 @@ mod faults;
 mod run;
 #[cfg(test)]
 mod scripts;
+#[cfg(test)]
+mod solids;

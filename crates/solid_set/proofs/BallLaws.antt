@@ -1,13 +1,12 @@
 -- Where a ball holds a ray, by the places of its two crossings.
-use Rattle.std.proofs.Common.{◌≡◌, ◌∙◌, ◌⊎◌, ◌↔◌, ℕ, ℤ, zero, suc, pos, negsuc, ◌-ℤ◌, ◌*ℤ◌, ◌<ℤ◌, ◌≤ℤ◌, Bool, true, false, refl, ap, sym, subst, inl, inr, arith}
+use Rattle.std.proofs.Common.{◌≡◌, ◌⊎◌, ℕ, ℤ, pos, ◌-ℤ◌, ◌*ℤ◌, ◌<ℤ◌, ◌≤ℤ◌, true, false, refl, ap, inl, inr, arith}
 use Rattle.std.proofs.lemmas.Int.{ints}
-use Rattle.std.proofs.Math.IntN.{neg_ℤ}
 use Rattle.std.specs.Ordering.{ordering_reverse}
 use Rattle.std.specs.declared.cmp.Ordering.{Ordering}
 use Rattle.std.specs.declared.cmp.Ordering.TheVariants.{Less, Equal, Greater}
 use Rattle.surd_order.specs.declared.position.Pos.TheVariants.{Frac, Surd}
 use Rattle.surd_order.specs.AtMost.{AtMost}
-use Rattle.surd_order.specs.Order.{Precedes, IsOrderOf}
+use Rattle.surd_order.specs.Order.{Precedes}
 use Rattle.surd_order.specs.Roots.{IsRootOrder}
 use Rattle.surd_order.proofs.RootLaws.{root_order}
 use Rattle.surd_order.proofs.FractionSurdOrder.{difference_ordered}

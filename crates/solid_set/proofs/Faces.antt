@@ -1,5 +1,5 @@
 -- A face at an end of a segment is crossed by the ray.
-use Rattle.std.proofs.Common.{◌≡◌, ◌≢◌, ◌∙◌, ◌⊎◌, ℕ, zero, suc, ◌+◌, ◌-◌, ◌≤◌, pos, Bool, true, false, cond, List, [], ◌∷◌, ◌++◌, Option, Some, None, refl, ap, sym, subst, inl, inr, arith}
+use Rattle.std.proofs.Common.{◌≡◌, ◌≢◌, ◌∙◌, ◌⊎◌, ℕ, suc, ◌+◌, ◌-◌, ◌≤◌, pos, Bool, true, false, cond, List, [], ◌∷◌, ◌++◌, Option, Some, None, refl, ap, sym, subst, inl, inr, arith}
 use Rattle.std.specs.Prelude.{slice_index_or}
 use Rattle.solid_set.specs.Levels.{IsEndFace}
 use Rattle.std.proofs.lemmas.Int.{ints}
@@ -12,7 +12,7 @@ use Rattle.plane_geom.specs.Planes.{IsCrossing, slope_on}
 use Rattle.surd_order.specs.declared.position.Seg.{Seg}
 use Rattle.solid_set.specs.declared.crossed.Crossed.{Crossed}
 use Rattle.solid_set.specs.Crossings.{crossing_of, entered, left, entering_from, leaving_from, is_missed_by}
-use Rattle.solid_set.specs.Segments.{face_or_none, face_at, start_of, end_of, segment_between, segment_through}
+use Rattle.solid_set.specs.Segments.{face_or_none, segment_through}
 use Rattle.solid_set.proofs.Unique.{crossing_is}
 
 -- the ray crosses the plane of a face
@@ -66,14 +66,14 @@ entering_cut ray test n [] = inl refl
 entering_cut ray test n (None ∷ sides) = cut_later ray n None sides _ (entering_cut ray test (n + 1) sides)
 entering_cut ray test n (Some plane ∷ sides) =
     entered_cut ray n plane sides test (entering_from ray (n + 1) sides) (crossing_of plane ray) (crossing_is plane ray)
-      (cut_later ray n (Some plane) sides _ (entering_cut ray test (n + 1) sides))
+    (cut_later ray n (Some plane) sides _ (entering_cut ray test (n + 1) sides))
 
 leaving_cut : (ray : Ray) (test : Crossed → Bool) (n : ℕ) (sides : List (Option Plane)) → IsCutOrNone ray n sides (face_or_none (find test (leaving_from ray n sides)))
 leaving_cut ray test n [] = inl refl
 leaving_cut ray test n (None ∷ sides) = cut_later ray n None sides _ (leaving_cut ray test (n + 1) sides)
 leaving_cut ray test n (Some plane ∷ sides) =
     left_cut ray n plane sides test (leaving_from ray (n + 1) sides) (crossing_of plane ray) (crossing_is plane ray)
-      (cut_later ray n (Some plane) sides _ (leaving_cut ray test (n + 1) sides))
+    (cut_later ray n (Some plane) sides _ (leaving_cut ray test (n + 1) sides))
 
 both_cut : (b : Bool) (P : ℕ → Type 0) (seg : Seg) (face : ℕ) → P seg.start_face → P seg.end_face → IsEndFace face (cond b (Some seg) None) → P face
 both_cut true P seg face h g at = elim at [ inl e ↦ subst P (sym e) h | inr e ↦ subst P (sym e) g ]
@@ -86,7 +86,7 @@ none_cut false P o face h at = h at
 pub segment_cut : (ray : Ray) (sides : List (Option Plane)) (face : ℕ) → IsEndFace face (segment_through sides ray) → IsCutOrNone ray 1 sides face
 segment_cut ray sides face at =
     none_cut (is_missed_by ray sides) (IsCutOrNone ray 1 sides) _ face
-      (λ at'. both_cut _ (IsCutOrNone ray 1 sides) _ face (entering_cut ray _ 1 sides) (leaving_cut ray _ 1 sides) at') at
+    (λ at'. both_cut _ (IsCutOrNone ray 1 sides) _ face (entering_cut ray _ 1 sides) (leaving_cut ray _ 1 sides) at') at
 
 pub steep_at : (ray : Ray) (sides : List (Option Plane)) (face : ℕ) (plane : Plane) → face ≢ 0 → IsCutOrNone ray 1 sides face → slice_index_or sides (face - 1) None ≡ Some plane → slope_on plane ray ≢ pos 0
 steep_at ray sides face plane some (inl none) e = absurd (some none)

@@ -1,18 +1,18 @@
 -- The place that no other one is ahead of.
-use Rattle.std.proofs.Common.{◌≡◌, ◌∙◌, ◌⊎◌, ℕ, ◌≤◌, Bool, true, false, cond, ◌==◌, not, ◌&&◌, List, [], ◌∷◌, ◌++◌, map, Option, Some, None, refl, ap, sym, subst, inl, inr, arith}
-use Rattle.std.specs.List.{find, list_all}
+use Rattle.std.proofs.Common.{◌≡◌, ◌∙◌, ◌⊎◌, ℕ, ◌≤◌, Bool, true, false, cond, ◌==◌, not, ◌&&◌, List, [], ◌∷◌, ◌++◌, Option, Some, None, refl, ap, sym, subst, inl, inr, arith}
+use Rattle.std.specs.List.{find}
 use Rattle.std.specs.Option.{option_or}
 use Rattle.std.proofs.lemmas.List.Folds.{find-append}
 use Rattle.std.proofs.lemmas.Bool.Decides.{nat_tests}
 use Rattle.std.specs.Cmp.{IsTotalOrder}
-use Rattle.std.proofs.lemmas.Cmp.{alike_right, upto, tied_itself}
-use Rattle.std.specs.Ordering.{is_eq, is_gt, is_lt, ordering_reverse}
+use Rattle.std.proofs.lemmas.Cmp.{upto, tied_itself}
+use Rattle.std.specs.Ordering.{is_eq, is_gt, ordering_reverse}
 use Rattle.std.specs.declared.cmp.Ordering.{Ordering}
 use Rattle.std.specs.declared.cmp.Ordering.TheVariants.{Less, Equal, Greater}
 use Rattle.surd_order.specs.declared.position.Pos.{Pos}
 use Rattle.surd_order.specs.PlaceOrder.{place_cmp}
 use Rattle.solid_set.specs.declared.crossed.Crossed.{Crossed}
-use Rattle.solid_set.specs.Segments.{is_unbeaten, foremost, place_or, places_of, face_or_none, face_at}
+use Rattle.solid_set.specs.Segments.{is_unbeaten, foremost, place_or, places_of, face_or_none}
 use Rattle.solid_set.specs.Spans.{at, chosen}
 use Rattle.solid_set.proofs.Ranking.{IsRanking}
 
@@ -71,7 +71,7 @@ foremost_found : (R : Pos → Pos → Ordering) (first : Pos) (rest : List Pos) 
     → IsForemost R first rest (place_or o first)
 foremost_found R first rest o f =
     subst (λ (p : Option Pos). IsForemost R first rest (place_or p first)) (sym f.is)
-      (record { among = f.among; ahead = unbeaten_to R (first ∷ rest) f.place f.passes })
+    (record { among = f.among; ahead = unbeaten_to R (first ∷ rest) f.place f.passes })
 
 pub foremost_is : (R : Pos → Pos → Ordering) (first : Pos) (rest : List Pos) (x : Pos) → IsForemost R first rest x
     → IsForemost R first rest (foremost (λ a b. is_gt (R a b)) first rest)
@@ -134,8 +134,8 @@ none_tied : (R : Pos → Pos → Ordering) → IsRanking R → (x z : Pos) → R
 none_tied R ranking x z lt [] none = refl
 none_tied R ranking x z lt (c ∷ cs) none =
     find_skip (λ (c : Crossed). is_eq (place_cmp c.place z)) c cs
-      (ranking.ties c.place z ∙ ap is_eq (less_after R ranking.total c.place x z (R c.place x) refl none.0 lt))
-      (none_tied R ranking x z lt cs none.1)
+    (ranking.ties c.place z ∙ ap is_eq (less_after R ranking.total c.place x z (R c.place x) refl none.0 lt))
+    (none_tied R ranking x z lt cs none.1)
 
 option_or_none : (o : Option Crossed) → option_or o None ≡ o
 option_or_none None = refl
@@ -173,7 +173,7 @@ best_taken R ranking first cs best c h some gt =
       place = record { among = inr (has_last cs c); ahead = (moved.0, none_more R c.place cs c moved.1 (ap is_gt itself)) };
       face = subst (λ (o : Option Crossed). FaceIs o c.face)
           (sym (find_last (λ (d : Crossed). is_eq (place_cmp d.place c.place)) cs c (ranking.ties c.place c.place ∙ ap is_eq itself)
-            ∙ ap (λ (o : Option Crossed). option_or o (Some c)) (none_tied R ranking best.place c.place lt cs h.place.ahead.1)))
+          ∙ ap (λ (o : Option Crossed). option_or o (Some c)) (none_tied R ranking best.place c.place lt cs h.place.ahead.1)))
           (refl, some);
     }
 

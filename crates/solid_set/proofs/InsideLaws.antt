@@ -1,7 +1,6 @@
 -- What whole lists of crossings tell of the points of a ray.
-use Rattle.std.proofs.Common.{◌≡◌, ◌∙◌, ◌⊎◌, ◌↔◌, ℕ, ◌+◌, ℤ, pos, ◌*ℤ◌, ◌<ℤ◌, ◌≤ℤ◌, Bool, true, false, cond, ◌||◌, List, [], ◌∷◌, ◌++◌, Option, Some, None, refl, ap, sym, subst, inl, inr, arith}
+use Rattle.std.proofs.Common.{◌≡◌, ◌∙◌, ℕ, ◌+◌, ℤ, pos, ◌*ℤ◌, ◌<ℤ◌, ◌≤ℤ◌, Bool, true, false, cond, ◌||◌, List, [], ◌∷◌, ◌++◌, Option, Some, None, refl, ap, sym, subst, inl, inr, arith}
 use Rattle.std.proofs.lemmas.Int.{ints, by_lt_z}
-use Rattle.std.proofs.lemmas.Cmp.{tied_itself}
 use Rattle.std.specs.Ordering.{is_lt, is_gt}
 use Rattle.std.specs.declared.cmp.Ordering.{Ordering}
 use Rattle.std.specs.declared.cmp.Ordering.TheVariants.{Less, Equal, Greater}
@@ -15,7 +14,7 @@ use Rattle.plane_geom.specs.Planes.{IsCrossing, PlaneHolds}
 use Rattle.surd_order.specs.declared.position.Pos.{Pos}
 use Rattle.surd_order.specs.declared.position.Pos.TheVariants.{Frac}
 use Rattle.surd_order.specs.declared.position.Seg.{Seg}
-use Rattle.surd_order.specs.Order.{Precedes, SamePlace, IsPlace, IsOrderOf}
+use Rattle.surd_order.specs.Order.{Precedes, SamePlace, IsPlace}
 use Rattle.surd_order.proofs.FractionOrder.{fraction_before, fractions_same}
 use Rattle.surd_order.proofs.LawProofs.{is_kept_by_same_place}
 use Rattle.surd_order.proofs.OrderLaws.{asymmetric, same_symm, between}
@@ -54,8 +53,8 @@ pub record IsCutBy (surface : Surface) (ray : Ray) (es ls : List Crossed) : Type
 pub not_preceding : (p q r s : ℤ) → pos 0 <ℤ q → pos 0 <ℤ s → (r *ℤ q) ≤ℤ (p *ℤ s) → ¬ (Precedes (Frac p q) (Frac r s))
 not_preceding p q r s some some' le =
     by_lt_z (r *ℤ q) (p *ℤ s)
-      (λ lt. asymmetric (Frac r s) (Frac p q) some' some (fraction_before r s p q some lt))
-      (λ ge. (fractions_same p q r s some some' (omega (arith, ints))).not_before)
+    (λ lt. asymmetric (Frac r s) (Frac p q) some' some (fraction_before r s p q some lt))
+    (λ ge. (fractions_same p q r s some some' (omega (arith, ints))).not_before)
 
 pub preceding : (p q r s : ℤ) → pos 0 <ℤ s → ¬ (Precedes (Frac p q) (Frac r s)) → (r *ℤ q) ≤ℤ (p *ℤ s)
 preceding p q r s some not_before = by_lt_z (p *ℤ s) (r *ℤ q) (λ lt. absurd (not_before (fraction_before p q r s some lt))) (λ le. le)
@@ -96,7 +95,7 @@ planes_held ray n (None ∷ sides) p q some e = planes_held ray (n + 1) sides p 
 planes_held ray n (Some plane ∷ sides) p q some e =
     let parts = none_of_or (is_miss (crossing_of plane ray)) (is_missed_by ray sides) e in
     held_more plane ray n p q some (entering_from ray (n + 1) sides) (leaving_from ray (n + 1) sides) (AllHold sides ray p q)
-      (planes_held ray (n + 1) sides p q some parts.1) (crossing_of plane ray) (crossing_is plane ray) parts.0
+    (planes_held ray (n + 1) sides p q some parts.1) (crossing_of plane ray) (crossing_is plane ray) parts.0
 
 missed_plane : (plane : Plane) (ray : Ray) (c : Crossing) → IsCrossing plane ray c → is_miss c ≡ true → (p q : ℤ) → pos 0 <ℤ q → ¬ (PlaneHolds plane ray p q)
 missed_plane plane ray (Enters r s) h e p q some = absurd (let f : false ≡ true = e in cc)
@@ -113,8 +112,8 @@ missed_all ray [] e p q some = absurd (let f : false ≡ true = e in cc)
 missed_all ray (None ∷ sides) e p q some = missed_all ray sides e p q some
 missed_all ray (Some plane ∷ sides) e p q some = λ h.
     missed_or (is_miss (crossing_of plane ray)) (is_missed_by ray sides) ⊥ e
-      (λ here. missed_plane plane ray (crossing_of plane ray) (crossing_is plane ray) here p q some h.0)
-      (λ there. missed_all ray sides there p q some h.1)
+    (λ here. missed_plane plane ray (crossing_of plane ray) (crossing_is plane ray) here p q some h.0)
+    (λ there. missed_all ray sides there p q some h.1)
 
 -- what is not ahead of the foremost place
 not_ahead : (x y : Pos) → IsPlace x → IsPlace y → is_gt (place_cmp y x) ≡ false → ¬ (Precedes x y)
@@ -131,15 +130,17 @@ has_none_before (y ∷ ys) x f has none = elim has [ inl e ↦ subst (λ (z : Po
 -- a fraction that does not precede the start precedes no place that is not ahead of it
 all_none_after : (ys : List Pos) (x f : Pos) → ¬ (Precedes f x) → ((y : Pos) → Has ys y → ¬ (Precedes x y)) → NoneAfter ys f
 all_none_after [] x f not_before ahead = tt
-all_none_after (y ∷ ys) x f not_before ahead =
-    ((λ before. elim (between f x y before) [ inl early ↦ not_before early | inr late ↦ ahead y (inl refl) late ]),
-      all_none_after ys x f not_before (λ z has. ahead z (inr has)))
+all_none_after (y ∷ ys) x f not_before ahead = (
+  (λ before. elim (between f x y before) [ inl early ↦ not_before early | inr late ↦ ahead y (inl refl) late ]),
+  all_none_after ys x f not_before (λ z has. ahead z (inr has)),
+)
 
 all_none_before : (ys : List Pos) (x f : Pos) → ¬ (Precedes x f) → ((y : Pos) → Has ys y → ¬ (Precedes y x)) → NoneBefore ys f
 all_none_before [] x f not_after ahead = tt
-all_none_before (y ∷ ys) x f not_after ahead =
-    ((λ before. elim (between y x f before) [ inl early ↦ ahead y (inl refl) early | inr late ↦ not_after late ]),
-      all_none_before ys x f not_after (λ z has. ahead z (inr has)))
+all_none_before (y ∷ ys) x f not_after ahead = (
+  (λ before. elim (between y x f before) [ inl early ↦ ahead y (inl refl) early | inr late ↦ not_after late ]),
+  all_none_before ys x f not_after (λ z has. ahead z (inr has)),
+)
 
 -- the start and the end of whole lists of crossings
 pub record AreEnds (es ls : List Crossed) (s e : Pos) : Type 0 where
@@ -181,14 +182,14 @@ encloses surface ray es ls seg cut s e ends same same' = record {
       let late : Precedes s (Frac p q) = is_kept_by_same_place.before s seg.start (Frac p q) (same_symm seg.start s same) after in
       let early : Precedes (Frac p q) e = is_kept_by_same_place.after (Frac p q) seg.end e before same' in
       cut.inside p q some
-        (all_none_after (places_of es) s (Frac p q) (asymmetric s (Frac p q) ends.start_place some late) (λ y has. ends.start_first y (inr has)))
-        (all_none_before (places_of ls) e (Frac p q) (asymmetric (Frac p q) e some ends.end_place early) (λ y has. ends.end_last y (inr has)));
+      (all_none_after (places_of es) s (Frac p q) (asymmetric s (Frac p q) ends.start_place some late) (λ y has. ends.start_first y (inr has)))
+      (all_none_before (places_of ls) e (Frac p q) (asymmetric (Frac p q) e some ends.end_place early) (λ y has. ends.end_last y (inr has)));
   before = λ p q on early inside.
       has_none_after (ray_start ∷ places_of es) s (Frac p q) ends.start_among (not_before_ray p q on, cut.after p q on.positive inside)
-        (is_kept_by_same_place.after (Frac p q) seg.start s early same);
+      (is_kept_by_same_place.after (Frac p q) seg.start s early same);
   after = λ p q on late inside.
       has_none_before (ray_end ∷ places_of ls) e (Frac p q) ends.end_among (not_after_ray p q on, cut.before p q on.positive inside)
-        (is_kept_by_same_place.before e seg.end (Frac p q) (same_symm seg.end e same') late);
+      (is_kept_by_same_place.before e seg.end (Frac p q) (same_symm seg.end e same') late);
 }
 
 no_two : (surface : Surface) (ray : Ray) (es ls : List Crossed) → IsCutBy surface ray es ls → (s e : Pos) → AreEnds es ls s e → ¬ (Precedes s e)

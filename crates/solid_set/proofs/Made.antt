@@ -1,5 +1,5 @@
 -- The one side of a half-space.
-use Rattle.std.proofs.Common.{◌≡◌, ◌<◌, ℕ, zero, suc, All, List, [], ◌∷◌, Option, Some, subst, arith}
+use Rattle.std.proofs.Common.{◌≡◌, zero, suc, All, List, [], ◌∷◌, Option, Some, subst, arith}
 use Rattle.std.proofs.Common.{FitsSigned, w64, lit<}
 use Rattle.std.proofs.lemmas.Int.{ints}
 use Rattle.plane_geom.proofs.Sizes.{fits64}

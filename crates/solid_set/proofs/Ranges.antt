@@ -1,20 +1,14 @@
 -- Spans stay in range.
-use Rattle.std.proofs.Common.{◌≡◌, ◌<◌, ◌^◌, ℤ, pos, ◌<ℤ◌, Bool, true, false, arith, FitsSigned, w64}
+use Rattle.std.proofs.Common.{◌<◌, ◌^◌, ℤ, pos, ◌<ℤ◌, arith, FitsSigned, w64}
 use Rattle.std.proofs.lemmas.Int.{ints, fits_signed_from_abs}
 use mir.Syntax.{w128}
 use Rattle.std.specs.Int.RustNames.{unsigned_abs}
-use Rattle.std.specs.declared.cmp.Ordering.{Ordering}
-use Rattle.std.specs.declared.cmp.Ordering.TheVariants.{Less, Equal, Greater}
 use Rattle.lattice_core.specs.declared.ray.Ray.{Ray}
 use Rattle.plane_geom.specs.declared.plane.Plane.{Plane}
 use Rattle.plane_geom.specs.declared.plane.Crossing.{Crossing}
 use Rattle.plane_geom.specs.declared.plane.Crossing.TheVariants.{Enters, Leaves, Holds, Misses}
 use Rattle.plane_geom.specs.Planes.{IsCrossing, IsSmallCrossing}
-use Rattle.surd_order.specs.declared.position.Pos.TheVariants.{Frac}
-use Rattle.surd_order.specs.Range.{IsInRange}
-use Rattle.solid_set.specs.declared.crossed.Crossed.{Crossed}
 use Rattle.solid_set.specs.Spans.{IsCrossingInRange, IsSpanInRange, whole_span}
-use Rattle.surd_order.specs.PlaceOrder.{place_cmp}
 
 pub fits_over : (z : ℤ) → unsigned_abs z < 2 ^ 57 → FitsSigned w128 z
 fits_over z h = fits_signed_from_abs w128 z (omega arith)

@@ -1,5 +1,5 @@
 -- The running span against the whole lists of crossings.
-use Rattle.std.proofs.Common.{◌≡◌, ◌∙◌, ℕ, ◌+◌, ◌≤◌, pos, ◌<ℤ◌, Bool, true, false, cond, ◌||◌, List, [], ◌∷◌, ◌++◌, length, take, drop, ◌<◌, Option, Some, None, MatchOption, refl, ap, sym, subst, inl, inr, arith, append_assoc}
+use Rattle.std.proofs.Common.{◌≡◌, ◌∙◌, ℕ, ◌+◌, ◌≤◌, Bool, true, false, cond, ◌||◌, List, [], ◌∷◌, ◌++◌, length, take, drop, ◌<◌, Option, Some, None, MatchOption, refl, ap, sym, subst, inl, inr, arith, append_assoc}
 use Rattle.std.proofs.lemmas.Int.{ints}
 use Rattle.std.proofs.lemmas.Cmp.{alike_right}
 use Rattle.std.specs.Prelude.{slice_index_or}
@@ -8,7 +8,7 @@ use Rattle.std.proofs.lemmas.List.{length-take-le}
 use Rattle.std.specs.List.{find}
 use Rattle.std.specs.Ordering.{is_lt, is_eq}
 use Rattle.std.specs.declared.cmp.Ordering.{Ordering}
-use Rattle.std.specs.declared.cmp.Ordering.TheVariants.{Less, Equal, Greater}
+use Rattle.std.specs.declared.cmp.Ordering.TheVariants.{Equal}
 use Rattle.lattice_core.specs.declared.ray.Ray.{Ray}
 use Rattle.plane_geom.specs.declared.plane.Plane.{Plane}
 use Rattle.plane_geom.specs.declared.plane.Crossing.{Crossing}
@@ -24,10 +24,10 @@ use Rattle.solid_set.specs.declared.crossed.Crossed.{Crossed}
 use Rattle.solid_set.specs.declared.span.Span.{Span}
 use Rattle.solid_set.specs.Crossings.{crossing_of, entered, left, is_miss, entering_from, leaving_from, is_missed_by}
 use Rattle.solid_set.specs.Segments.{ray_start, ray_end, places_of, face_at, face_or_none, start_of, end_of, segment_between, segment_through}
-use Rattle.solid_set.specs.Spans.{IsSpanInRange, crossed_span, cut_span, finished_span, segment_at, at, whole_span}
+use Rattle.solid_set.specs.Spans.{IsSpanInRange, crossed_span, cut_span, finished_span, whole_span}
 use Rattle.surd_order.specs.Spelled.{spelled}
 use Rattle.solid_set.proofs.Ranking.{IsRanking, turned_cmp, forwards, backwards}
-use Rattle.solid_set.proofs.Foremost.{Has, IsForemost, IsBest, FaceIs, face_is, foremost_is, foremost_tie, best_next, best_first}
+use Rattle.solid_set.proofs.Foremost.{Has, IsForemost, IsBest, face_is, foremost_is, foremost_tie, best_next, best_first}
 use Rattle.solid_set.proofs.Unique.{crossing_is}
 use Rattle.solid_set.proofs.Spellings.{spelled_tie, ranged_place}
 
@@ -125,7 +125,7 @@ span_next ray sides None n span e h = record {
 }
 span_next ray sides (Some plane) n span e h =
     joined_span ray sides plane n span e h (crossed_span span n (crossing_of plane ray))
-      (crossed_step (entering_from ray 1 sides) (leaving_from ray 1 sides) span n (omega arith) h.start h.end (crossing_of plane ray))
+    (crossed_step (entering_from ray 1 sides) (leaving_from ray 1 sides) span n (omega arith) h.start h.end (crossing_of plane ray))
 
 -- once a plane missed, further planes don't help
 pub missed_stays : (ray : Ray) (sides more : List (Option Plane)) → is_missed_by ray sides ≡ true → is_missed_by ray (sides ++ more) ≡ true
@@ -210,9 +210,9 @@ finished ray sides span range h =
     let es : List Crossed = entering_from ray 1 sides in
     let ls : List Crossed = leaving_from ray 1 sides in
     finished_parts es ls span
-      (record { each = entering_places ray 1 sides }) (record { each = leaving_places ray 1 sides }) range h.start h.end
-      (foremost_is place_cmp ray_start (places_of es) span.start.place h.start.place)
-      (foremost_is turned_cmp ray_end (places_of ls) span.end.place h.end.place)
+    (record { each = entering_places ray 1 sides }) (record { each = leaving_places ray 1 sides }) range h.start h.end
+    (foremost_is place_cmp ray_start (places_of es) span.start.place h.start.place)
+    (foremost_is turned_cmp ray_end (places_of ls) span.end.place h.end.place)
     ∙ ap (λ (b : Bool). cond b None (segment_between es ls)) (sym h.missed)
 
 pub missed_none : (ray : Ray) (sides : List (Option Plane)) → is_missed_by ray sides ≡ true → segment_through sides ray ≡ None
@@ -224,8 +224,8 @@ pub loop_next : (ray : Ray) (all : List (Option Plane)) (i : ℕ) (span : Span) 
 loop_next ray all i span lt h =
     let n : i + 1 ≡ 1 + length (take i all) = let l : length (take i all) ≡ i = length-take-le i all (omega arith) in omega (arith, l) in
     subst (λ (sides : List (Option Plane)). MatchOption (cut_span span (i + 1) (slice_index_or all i None) ray) (is_missed_by ray sides ≡ true) (λ next. IsSpanOf ray sides next))
-      (sym (take_more all i None lt))
-      (span_next ray (take i all) (slice_index_or all i None) (i + 1) span n h)
+    (sym (take_more all i None lt))
+    (span_next ray (take i all) (slice_index_or all i None) (i + 1) span n h)
 
 pub loop_missed : (ray : Ray) (all : List (Option Plane)) (i : ℕ) → is_missed_by ray (take (i + 1) all) ≡ true → segment_through all ray ≡ None
 loop_missed ray all i e =

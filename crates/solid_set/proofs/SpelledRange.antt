@@ -1,12 +1,12 @@
 -- The one spelling of a position in range is in range.
-use Rattle.std.proofs.Common.{◌≡◌, ◌<◌, ◌≤◌, ◌+◌, ◌*◌, ◌/◌, ◌^◌, ◌==◌, ℕ, suc, ℤ, pos, negsuc, int_div, ◌+ℤ◌, ◌-ℤ◌, ◌<ℤ◌, ◌≤ℤ◌, Bool, true, false, cond, refl, sym, ap, subst, arith}
+use Rattle.std.proofs.Common.{◌≡◌, ◌<◌, ◌≤◌, ◌*◌, ◌^◌, ◌==◌, ℕ, ℤ, pos, negsuc, int_div, ◌<ℤ◌, Bool, true, false, cond, refl, arith}
 use Rattle.std.proofs.lemmas.Int.{ints}
 use Rattle.std.proofs.lemmas.Nat.{mul-le}
 use Rattle.std.specs.Int.RustNames.{unsigned_abs}
 use Rattle.surd_order.specs.declared.position.Pos.{Pos}
 use Rattle.surd_order.specs.declared.position.Pos.TheVariants.{Frac, Surd}
 use Rattle.surd_order.specs.Range.{IsInRange, IsFractionInRange, IsSurdInRange}
-use Rattle.surd_order.specs.Spelled.{spelled, divided, beside, taken}
+use Rattle.surd_order.specs.Spelled.{spelled, divided, beside}
 use Rattle.surd_order.proofs.SpelledPlaces.{is_one_spelling}
 use Rattle.wide_core.specs.Gcd.{gcd_of}
 use Rattle.wide_core.specs.Root.{root_of}

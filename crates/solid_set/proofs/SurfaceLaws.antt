@@ -1,7 +1,6 @@
 -- The segment of a surface: what it tells of the points of a ray, and that it is sound.
-use Rattle.std.proofs.Common.{◌≡◌, ◌≢◌, ◌∙◌, ◌⊎◌, ◌↔◌, ℕ, ◌-◌, ℤ, pos, ◌<ℤ◌, Bool, true, false, cond, List, [], ◌∷◌, Option, Some, None, refl, ap, sym, subst, inl, inr, arith}
-use Rattle.std.specs.Prelude.{IfSome, IfNone, slice_index_or}
-use Rattle.std.proofs.lemmas.Int.{ints}
+use Rattle.std.proofs.Common.{◌≡◌, ◌≢◌, ◌∙◌, ℕ, ℤ, pos, Bool, true, false, cond, List, [], ◌∷◌, Option, Some, None, refl, ap, sym, subst, inl, inr, arith}
+use Rattle.std.specs.Prelude.{IfSome, IfNone}
 use Rattle.std.proofs.lemmas.Cmp.{tied_itself}
 use Rattle.std.specs.Cmp.{IsTotalOrder}
 use Rattle.std.specs.Ordering.{is_lt, is_gt, ordering_reverse}
@@ -15,7 +14,6 @@ use Rattle.prim_sphere.specs.declared.chord.Chord.{Chord}
 use Rattle.prim_sphere.specs.Spheres.{chord_at, HoldsBetween, HoldsOnceAtMost}
 use Rattle.prim_sphere.proofs.Chords.{held_at, missed_at}
 use Rattle.surd_order.specs.declared.position.Pos.{Pos}
-use Rattle.surd_order.specs.declared.position.Pos.TheVariants.{Frac, Surd}
 use Rattle.surd_order.specs.declared.position.Seg.{Seg}
 use Rattle.surd_order.specs.Order.{Precedes, IsPlace}
 use Rattle.surd_order.proofs.FractionOrder.{fractions_same}
@@ -27,20 +25,18 @@ use Rattle.surd_order.specs.Spelled.{spelled}
 use Rattle.surd_order.proofs.SpelledPlaces.{is_one_spelling}
 use Rattle.surd_order.proofs.PlaceOrderLaws.{places_are_compared}
 use Rattle.solid_set.specs.declared.crossed.Crossed.{Crossed}
-use Rattle.solid_set.specs.declared.span.Span.{Span}
 use Rattle.solid_set.specs.declared.surface.Surface.{Surface}
 use Rattle.solid_set.specs.declared.surface.Surface.TheVariants.{Planes, HalfSpace, Ball}
-use Rattle.solid_set.specs.Segments.{ray_start, ray_end, places_of, face_at, start_of, end_of, segment_between, segment_of, entering, leaving, is_missed, chord_end, is_no_chord, sides_of}
-use Rattle.solid_set.specs.Surfaces.{IsInside}
+use Rattle.solid_set.specs.Segments.{ray_start, ray_end, places_of, face_at, start_of, end_of, segment_between, segment_of, entering, leaving, is_missed, chord_end, is_no_chord}
 use Rattle.solid_set.specs.Spans.{IsSpanInRange, ball_span, ball_crossed, finished_span, at}
 use Rattle.solid_set.specs.Levels.{side_at, IsFaceOn}
 use Rattle.solid_set.specs.Laws.{HoldsAtMostOne, TellsInside, IsSound, IsSegInRange}
 use Rattle.solid_set.proofs.Ranking.{turned_cmp, forwards, backwards}
-use Rattle.solid_set.proofs.Foremost.{Has, NoneAhead, IsForemost, IsBest, none_moved, foremost_is, best_first, best_next}
+use Rattle.solid_set.proofs.Foremost.{IsForemost, IsBest, none_moved, foremost_is, best_first, best_next}
 use Rattle.solid_set.proofs.SpanLaws.{ArePlaces, entering_places, leaving_places, finished_parts}
 use Rattle.solid_set.proofs.InsideLaws.{IsCutBy, AreEnds, planes_held, missed_all, ends_are, tells}
 use Rattle.solid_set.proofs.BallLaws.{near_not_before, near_not_after, near_from}
-use Rattle.solid_set.proofs.Faces.{IsCutOrNone, segment_cut, steep_at}
+use Rattle.solid_set.proofs.Faces.{segment_cut, steep_at}
 
 planes_cut : (sides : List (Option Plane)) (ray : Ray) → is_missed (Planes sides) ray ≡ false → IsCutBy (Planes sides) ray (entering (Planes sides) ray) (leaving (Planes sides) ray)
 planes_cut sides ray e = record {
@@ -146,7 +142,7 @@ sound_by es ls seg ends Less order is range =
     let found : Seg = record { start = spelled (start_of es); start_face = face_at (start_of es) es; end = spelled (end_of ls); end_face = face_at (end_of ls) ls } in
     let same : found ≡ seg = cc in
     sound_seg es ls seg ends (ap (λ (s : Seg). s.start) (sym same)) (ap (λ (s : Seg). s.end) (sym same))
-      ((places_are_compared (start_of es) (end_of ls) ends.start_place ends.end_place).less.0 order) range
+    ((places_are_compared (start_of es) (end_of ls) ends.start_place ends.end_place).less.0 order) range
 sound_by es ls seg ends Equal order is range = absurd (none_some seg is)
 sound_by es ls seg ends Greater order is range = absurd (none_some seg is)
 
@@ -157,7 +153,7 @@ missed_sound false es ls seg ends is range = sound_by es ls seg ends (place_cmp 
 pub segment_sound : (surface : Surface) (ray : Ray) (seg : Seg) → segment_of surface ray ≡ Some seg → IsSegInRange seg → IsSound seg
 segment_sound surface ray seg is range =
     missed_sound (is_missed surface ray) (entering surface ray) (leaving surface ray) seg
-      (ends_of (entering surface ray) (leaving surface ray) (enter_places surface ray) (leave_places surface ray)) is range
+    (ends_of (entering surface ray) (leaving surface ray) (enter_places surface ray) (leave_places surface ray)) is range
 
 -- the span of a chord is the segment of the ball
 pub ball_finished : (c : V3) (r : ℤ) (ray : Ray) (chord : Chord) → chord_at c r ray ≡ Some chord → IsSpanInRange (ball_span chord) → finished_span (ball_span chord) ≡ segment_of (Ball c r) ray
@@ -167,8 +163,8 @@ ball_finished c r ray chord is range =
     let start : IsBest place_cmp ray_start es (ball_span chord).start = best_next place_cmp forwards ray_start [] (at 0 ray_start) (ball_crossed chord false) (best_first place_cmp forwards ray_start) (omega arith) in
     let end : IsBest turned_cmp ray_end ls (ball_span chord).end = best_next turned_cmp backwards ray_end [] (at 0 ray_end) (ball_crossed chord true) (best_first turned_cmp backwards ray_end) (omega arith) in
     finished_parts es ls (ball_span chord) (chord_places (Some chord) false) (chord_places (Some chord) true) range start end
-      (foremost_is place_cmp ray_start (places_of es) (ball_span chord).start.place start.place)
-      (foremost_is turned_cmp ray_end (places_of ls) (ball_span chord).end.place end.place)
+    (foremost_is place_cmp ray_start (places_of es) (ball_span chord).start.place start.place)
+    (foremost_is turned_cmp ray_end (places_of ls) (ball_span chord).end.place end.place)
     ∙ ap (λ (o : Option Chord). cond (is_no_chord o) None (segment_between (chord_end o false) (chord_end o true))) (sym is)
 
 pub ball_none : (c : V3) (r : ℤ) (ray : Ray) → chord_at c r ray ≡ None → segment_of (Ball c r) ray ≡ None

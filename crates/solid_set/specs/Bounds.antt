@@ -32,8 +32,8 @@ high_side by vertices dir = At (farthest by vertices dir)
 abbrev pub box_of : Placement → List V3 → Box3
 box_of by vertices =
     Span (low_side by vertices MinusX) (high_side by vertices PlusX)
-      (low_side by vertices MinusY) (high_side by vertices PlusY)
-      (low_side by vertices MinusZ) (high_side by vertices PlusZ)
+    (low_side by vertices MinusY) (high_side by vertices PlusY)
+    (low_side by vertices MinusZ) (high_side by vertices PlusZ)
 
 abbrev pub all_of_space : Box3
 all_of_space = Span Open Open Open Open Open Open

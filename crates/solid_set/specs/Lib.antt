@@ -6,3 +6,4 @@ pub mod Surfaces
 pub mod Laws
 pub mod Levels
 pub mod Rpps
+pub mod Examples

@@ -1,5 +1,5 @@
 -- The box from the least to the greatest coordinates along each axis, as a solid of eight vertices.
-use Rattle.std.specs.Prelude.{◌≡◌, ℤ, List, [], ◌∷◌, Option, Some, None, Result, Ok, Err}
+use Rattle.std.specs.Prelude.{◌≡◌, ℤ, List, [], ◌∷◌, Some, None, Result, Ok, Err}
 use Rattle.lattice_core.specs.declared.vector.V3.{V3}
 use Rattle.plane_geom.specs.declared.fault.ShapeFault.{ShapeFault}
 use Rattle.prim_arb8.specs.Faces.{first_fault, cases_of}

@@ -71,13 +71,13 @@ end_of leaving = least ray_end (places_of leaving)
 abbrev pub segment_between : List Crossed → List Crossed → Option Seg
 segment_between entering leaving =
     cond (is_lt (place_cmp (start_of entering) (end_of leaving)))
-      (Some (record {
-        start = spelled (start_of entering);
-        start_face = face_at (start_of entering) entering;
-        end = spelled (end_of leaving);
-        end_face = face_at (end_of leaving) leaving;
-      }))
-      None
+    (Some (record {
+      start = spelled (start_of entering);
+      start_face = face_at (start_of entering) entering;
+      end = spelled (end_of leaving);
+      end_face = face_at (end_of leaving) leaving;
+    }))
+    None
 
 -- the part of a ray that planes hold, with the faces numbered from 1 on
 abbrev pub segment_through : List (Option Plane) → Ray → Option Seg

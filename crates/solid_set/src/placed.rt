@@ -42,7 +42,14 @@ impl Solid {
 
     /// The box from the least to the greatest coordinates along each axis, in millimetres, or the fault of its vertices.
     /// Vertices 1 to 4 lie at `xmin`: (ymin, zmin), (ymax, zmin), (ymax, zmax), (ymin, zmax); 5 to 8 likewise at `xmax`.
-    pub fn rpp(xmin: i64, xmax: i64, ymin: i64, ymax: i64, zmin: i64, zmax: i64) -> Result<Solid, ShapeFault>
+    pub fn rpp(
+        xmin: i64,
+        xmax: i64,
+        ymin: i64,
+        ymax: i64,
+        zmin: i64,
+        zmax: i64,
+    ) -> Result<Solid, ShapeFault>
         requires xmin { IsAtMost COORD xmin }
         requires xmax { IsAtMost COORD xmax }
         requires ymin { IsAtMost COORD ymin }
@@ -244,13 +251,7 @@ impl Placed {
                 Some(side) => *side,
                 None => None,
             },
-            Surface::HalfSpace(plane) => {
-                if face == 1 {
-                    Some(*plane)
-                } else {
-                    None
-                }
-            }
+            Surface::HalfSpace(plane) => { if face == 1 { Some(*plane) } else { None } }
             Surface::Ball { .. } => None,
         }
     }

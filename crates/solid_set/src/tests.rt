@@ -1,5 +1,5 @@
-ghost use Rattle.std.specs.Prelude.{◌≡◌, pos, All};
-ghost use Rattle.lattice_core.specs.declared.limit.TheConstants.{COORD};
+ghost use Rattle.std.specs.Prelude.{pos};
+ghost use Rattle.lattice_core.specs.declared.limit.TheConstants.{WORLD};
 ghost use Rattle.lattice_core.specs.Limits.{IsAtMost, IsWithin};
 
 use crate::*;
@@ -86,7 +86,16 @@ fn segment(ends: Ends) -> Seg {
 // Through faces, edges and vertices, along them, from inside, and past the end. Worked out from whole lists of crossings.
 #[test]
 fn rays_along_and_through_a_box(rt: HostRuntime) {
-    let Ok(solid) = arb8(&[(0, 0, 0), (0, 20, 0), (0, 20, 30), (0, 0, 30), (10, 0, 0), (10, 20, 0), (10, 20, 30), (10, 0, 30)]) else {
+    let Ok(solid) = arb8(&[
+        (0, 0, 0),
+        (0, 20, 0),
+        (0, 20, 30),
+        (0, 0, 30),
+        (10, 0, 0),
+        (10, 20, 0),
+        (10, 20, 30),
+        (10, 0, 30),
+    ]) else {
         assert!(rt; false);
         return;
     };
@@ -122,7 +131,16 @@ fn rays_along_and_through_a_box(rt: HostRuntime) {
 // Face 2 of a wedge is degenerate. Worked out from whole lists of crossings.
 #[test]
 fn rays_through_a_wedge(rt: HostRuntime) {
-    let Ok(solid) = arb8(&[(0, 0, 0), (10, 0, 0), (10, 10, 0), (0, 10, 0), (0, 0, 10), (10, 0, 10), (10, 0, 10), (0, 0, 10)]) else {
+    let Ok(solid) = arb8(&[
+        (0, 0, 0),
+        (10, 0, 0),
+        (10, 10, 0),
+        (0, 10, 0),
+        (0, 0, 10),
+        (10, 0, 10),
+        (10, 0, 10),
+        (0, 0, 10),
+    ]) else {
         assert!(rt; false);
         return;
     };
@@ -150,7 +168,16 @@ fn rays_through_a_wedge(rt: HostRuntime) {
 // Four vertices of a pyramid are one point. Worked out from whole lists of crossings.
 #[test]
 fn rays_through_a_pyramid(rt: HostRuntime) {
-    let Ok(solid) = arb8(&[(0, 0, 0), (10, 0, 0), (10, 10, 0), (0, 10, 0), (4, 5, 9), (4, 5, 9), (4, 5, 9), (4, 5, 9)]) else {
+    let Ok(solid) = arb8(&[
+        (0, 0, 0),
+        (10, 0, 0),
+        (10, 10, 0),
+        (0, 10, 0),
+        (4, 5, 9),
+        (4, 5, 9),
+        (4, 5, 9),
+        (4, 5, 9),
+    ]) else {
         assert!(rt; false);
         return;
     };
@@ -179,7 +206,16 @@ fn rays_through_a_pyramid(rt: HostRuntime) {
 // A solid of which no two turns are alike, and a ray through one point of it.
 #[test]
 fn all_turns(rt: HostRuntime) {
-    let Ok(solid) = arb8(&[(0, 0, 0), (12, 0, 0), (12, 6, 0), (0, 6, 0), (2, 1, 4), (8, 1, 4), (8, 3, 4), (2, 3, 4)]) else {
+    let Ok(solid) = arb8(&[
+        (0, 0, 0),
+        (12, 0, 0),
+        (12, 6, 0),
+        (0, 6, 0),
+        (2, 1, 4),
+        (8, 1, 4),
+        (8, 3, 4),
+        (2, 3, 4),
+    ]) else {
         assert!(rt; false);
         return;
     };
@@ -194,7 +230,14 @@ fn all_turns(rt: HostRuntime) {
         (7, 52, -5, 1, Dir::MinusX, Some(((91, 2), 6, (56, 1), 4))),
         (8, 12, -52, 4, Dir::PlusY, Some(((49, 1), 1, (53, 1), 2))),
         (9, 2, 48, 4, Dir::MinusY, Some(((47, 1), 2, (51, 1), 1))),
-        (10, 12, -4, -46, Dir::PlusZ, Some(((193, 4), 3, (213, 4), 5))),
+        (
+            10,
+            12,
+            -4,
+            -46,
+            Dir::PlusZ,
+            Some(((193, 4), 3, (213, 4), 5)),
+        ),
         (11, 2, -4, 54, Dir::MinusZ, Some(((187, 4), 5, (207, 4), 3))),
         (12, -38, -2, 0, Dir::PlusX, Some(((91, 2), 6, (56, 1), 4))),
         (13, 52, -2, 0, Dir::MinusX, Some(((91, 2), 6, (56, 1), 4))),
@@ -214,8 +257,22 @@ fn all_turns(rt: HostRuntime) {
         (27, 5, 46, 7, Dir::MinusY, Some(((49, 1), 1, (53, 1), 2))),
         (28, 9, -2, -53, Dir::PlusZ, Some(((44, 1), 4, (109, 2), 6))),
         (29, 5, -2, 47, Dir::MinusZ, Some(((91, 2), 6, (56, 1), 4))),
-        (30, -41, -4, -3, Dir::PlusX, Some(((193, 4), 3, (213, 4), 5))),
-        (31, 55, -4, -3, Dir::MinusX, Some(((193, 4), 3, (213, 4), 5))),
+        (
+            30,
+            -41,
+            -4,
+            -3,
+            Dir::PlusX,
+            Some(((193, 4), 3, (213, 4), 5)),
+        ),
+        (
+            31,
+            55,
+            -4,
+            -3,
+            Dir::MinusX,
+            Some(((193, 4), 3, (213, 4), 5)),
+        ),
         (32, 8, -48, 4, Dir::PlusY, Some(((91, 2), 6, (56, 1), 4))),
         (33, 6, 52, 4, Dir::MinusY, Some(((44, 1), 4, (109, 2), 6))),
         (34, 8, -8, -46, Dir::PlusZ, Some(((193, 4), 3, (213, 4), 5))),
@@ -372,4 +429,42 @@ fn boxes_of_placed_solids(rt: HostRuntime) {
             zhi: Side::Open,
         }
     );
+}
+
+/// The level where the ray enters, or 0 where it does not.
+fn start_level(placed: &Placed, ray: &Ray) -> u8
+    requires { IsWithin WORLD ray.now.origin }
+{
+    match placed.segment(ray) {
+        Some(seg) => placed.level(seg.start_face, ray),
+        None => 0,
+    }
+}
+
+#[test]
+fn levels(rt: HostRuntime) {
+    let Ok(half) = half(-1, -1, 0, 0) else {
+        assert!(rt; false);
+        return;
+    };
+    let Ok(ball) = ball() else {
+        assert!(rt; false);
+        return;
+    };
+    let slanted = unmoved(&Solid::Half(half));
+    let round = unmoved(&Solid::Sphere(ball));
+    let rows: [(i64, i64, i64, u8, u8); 4] = [
+        (-5, 0, 0, 155, 255),
+        (5, 0, 0, 255, 0),
+        (-10, 1, 1, 155, 239),
+        (-10, 3, 0, 155, 183),
+    ];
+    for (x, y, z, level, ball_level) in rows {
+        let ray = Ray {
+            origin: at(x, y, z),
+            dir: Dir::PlusX,
+        };
+        assert_eq!(rt; start_level(&slanted, &ray), level);
+        assert_eq!(rt; start_level(&round, &ray), ball_level);
+    }
 }

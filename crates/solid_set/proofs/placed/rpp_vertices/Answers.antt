@@ -1,4 +1,4 @@
-use Rattle.std.proofs.Common.{◌≡◌, FitsSigned, w64}
+use Rattle.std.proofs.Common.{FitsSigned, w64}
 use Rattle.std.proofs.lemmas.Int.{to_z-of_z}
 use Rattle.solid_set.proofs.Made.{all_eight}
 use Rattle.solid_set.proofs.placed.rpp_vertices.Goals as goal
@@ -24,5 +24,5 @@ returns-clause-value c =
 pub returns-clause-size : goal.returns-clause-size
 returns-clause-size c =
     all_eight c.vector.result c.vector-2.result c.vector-3.result c.vector-4.result c.vector-5.result c.vector-6.result c.vector-7.result c.vector-8.result
-      c.vector.ensures.size c.vector-2.ensures.size c.vector-3.ensures.size c.vector-4.ensures.size
-      c.vector-5.ensures.size c.vector-6.ensures.size c.vector-7.ensures.size c.vector-8.ensures.size
+    c.vector.ensures.size c.vector-2.ensures.size c.vector-3.ensures.size c.vector-4.ensures.size
+    c.vector-5.ensures.size c.vector-6.ensures.size c.vector-7.ensures.size c.vector-8.ensures.size

@@ -1,8 +1,8 @@
-use Rattle.std.proofs.Common.{◌≡◌, ◌∙◌, ap, sym, subst, FitsSigned, w64}
+use Rattle.std.proofs.Common.{◌∙◌, ap, sym, subst, FitsSigned, w64}
 use Rattle.std.proofs.lemmas.Int.{to_z-of_z}
 use Rattle.solid_set.specs.declared.span.Span.{Span}
 use Rattle.solid_set.specs.Spans.{IsSpanInRange, ball_span, finished_span}
-use Rattle.solid_set.proofs.SurfaceLaws.{ball_finished, ball_none}
+use Rattle.solid_set.proofs.SurfaceLaws.{ball_finished}
 use Rattle.solid_set.proofs.span.segment_of_ball.Goals as goal
 
 pub returns-in-Some-clause-value : goal.returns-in-Some-clause-value

@@ -1,10 +1,6 @@
-use Rattle.std.proofs.Common.{◌≡◌, ◌∙◌, ◌+◌, ◌<◌, sym, subst, take, length, None, Some, get_or, arith, rules, true, List, [], Option}
-use Rattle.std.proofs.lemmas.Int.{ints}
+use Rattle.std.proofs.Common.{◌≡◌, ◌∙◌, ◌+◌, ◌<◌, sym, subst, take, length, arith, true, List, [], Option}
 use Rattle.plane_geom.specs.declared.plane.Plane.{Plane}
-use Rattle.surd_order.specs.Range.{IsInRange}
 use Rattle.solid_set.specs.Crossings.{is_missed_by}
-use Rattle.solid_set.specs.Segments.{segment_through}
-use Rattle.solid_set.specs.Spans.{IsSpanInRange, whole_span, cut_span}
 use Rattle.solid_set.specs.declared.span.Span.{Span}
 use Rattle.solid_set.proofs.SpanLaws.{IsSpanOf, span_first, loop_next, loop_missed, at_none, at_some, finished}
 use Rattle.std.proofs.lemmas.List.{take_all}
@@ -24,8 +20,8 @@ returns-in_err-span-clause-value c =
     let lt : c.loop-i.i < length c.args.sides.now = omega arith in
     c.from_residual.ensures
     ∙ sym (loop_missed ray all i
-        (at_none (is_missed_by ray (take (i + 1) all) ≡ true) (λ next. IsSpanOf ray (take (i + 1) all) next) _
-          (sym c.cut_span.ensures.value ∙ c.in_err-span.was) (loop_next ray all i c.loop-i.span lt c.loop-i.invariant.made)))
+    (at_none (is_missed_by ray (take (i + 1) all) ≡ true) (λ next. IsSpanOf ray (take (i + 1) all) next) _
+    (sym c.cut_span.ensures.value ∙ c.in_err-span.was) (loop_next ray all i c.loop-i.span lt c.loop-i.invariant.made)))
 
 pub loop-i-preserved : goal.loop-i-preserved
 loop-i-preserved c =
@@ -45,4 +41,4 @@ returns-clause-value c =
     let all : take c.loop-i.i c.args.sides.now ≡ c.args.sides.now = take_all c.loop-i.i c.args.sides.now (omega arith) in
     c.finished_span.ensures.value
     ∙ finished c.args.ray.now c.args.sides.now c.loop-i.span c.loop-i.invariant.range
-      (subst (λ (sides : List (Option Plane)). IsSpanOf c.args.ray.now sides c.loop-i.span) all c.loop-i.invariant.made)
+    (subst (λ (sides : List (Option Plane)). IsSpanOf c.args.ray.now sides c.loop-i.span) all c.loop-i.invariant.made)

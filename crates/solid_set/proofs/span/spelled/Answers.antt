@@ -1,4 +1,4 @@
-use Rattle.std.proofs.Common.{◌≡◌, ◌∙◌, ap, sym, subst, pos, ◌<ℤ◌, ◌≤ℤ◌, arith, FitsSigned, w64}
+use Rattle.std.proofs.Common.{◌∙◌, ap, sym, subst, pos, ◌<ℤ◌, ◌≤ℤ◌, arith, FitsSigned, w64}
 use Rattle.std.proofs.lemmas.Int.{ints, to_z-of_z}
 use mir.Syntax.{w128}
 use Rattle.surd_order.specs.Range.{IsInRange}

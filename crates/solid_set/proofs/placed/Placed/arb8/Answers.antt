@@ -1,11 +1,9 @@
-use Rattle.std.proofs.Common.{◌≡◌, ap, sym, ◌∙◌, List, Option}
+use Rattle.std.proofs.Common.{ap, ◌∙◌, List, Option}
 use Rattle.plane_geom.specs.declared.plane.Plane.{Plane}
-use Rattle.prim_arb8.specs.declared.arb8.Arb8.{Arb8}
 use Rattle.lattice_core.specs.declared.vector.V3.{V3}
 use Rattle.solid_set.specs.declared.solid.Solid.TheVariants as solids
 use Rattle.solid_set.specs.declared.surface.Surface.TheVariants.{Planes}
 use Rattle.solid_set.specs.Bounds.{box_of}
-use Rattle.solid_set.specs.Surfaces.{IsMade}
 use Rattle.solid_set.proofs.Made.{no_ball_planes}
 use Rattle.solid_set.proofs.placed.Placed.arb8.Goals as goal
 

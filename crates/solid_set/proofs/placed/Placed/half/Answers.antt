@@ -1,11 +1,10 @@
 use Rattle.std.proofs.Common.{◌≡◌, ap, ◌∙◌}
-use Rattle.lattice_core.specs.declared.placement.Placement.{Placement}
 use Rattle.plane_geom.specs.declared.plane.Plane.{Plane}
 use Rattle.plane_geom.specs.Planes.{placed_plane}
 use Rattle.prim_arb8.proofs.Reach.{plane_same}
 use Rattle.solid_set.specs.declared.solid.Solid.TheVariants as solids
 use Rattle.solid_set.specs.declared.surface.Surface.TheVariants.{HalfSpace}
-use Rattle.solid_set.specs.Surfaces.{IsMade, plane_of_half}
+use Rattle.solid_set.specs.Surfaces.{plane_of_half}
 use Rattle.solid_set.proofs.Made.{one_side, no_ball_half}
 use Rattle.solid_set.proofs.placed.Placed.half.Goals as goal
 

@@ -8,7 +8,7 @@ use Rattle.plane_geom.proofs.Sizes.{fits64}
 use Rattle.prim_sphere.specs.Spheres.{box_of}
 use Rattle.solid_set.specs.declared.solid.Solid.TheVariants as solids
 use Rattle.solid_set.specs.declared.surface.Surface.TheVariants.{Ball}
-use Rattle.solid_set.specs.Surfaces.{IsMade, IsBallSize}
+use Rattle.solid_set.specs.Surfaces.{IsBallSize}
 use Rattle.solid_set.proofs.Made.{ball_sized, no_side}
 use Rattle.solid_set.proofs.placed.Placed.sphere.Goals as goal
 
@@ -34,7 +34,7 @@ pub invariant_of-result : goal.invariant_of-result
 invariant_of-result c =
     let sized : IsBallSize c.placed_point-centre.result (to_z w64 (of_z w64 c.radius-radius.result)) =
     subst (λ (z : ℤ). IsBallSize c.placed_point-centre.result z) (sym (radius_back c))
-      (record { centre_size = c.placed_point-centre.ensures.size; radius_size = c.radius-radius.ensures.size }) in
+    (record { centre_size = c.placed_point-centre.ensures.size; radius_size = c.radius-radius.ensures.size }) in
     record {
       size = no_side c.placed_point-centre.result c.radius-radius.result;
       ball_size = ball_sized c.placed_point-centre.result (to_z w64 (of_z w64 c.radius-radius.result)) sized;

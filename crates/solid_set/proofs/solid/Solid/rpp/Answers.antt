@@ -1,4 +1,4 @@
-use Rattle.std.proofs.Common.{◌≡◌, subst, List, FitsSigned, w64}
+use Rattle.std.proofs.Common.{subst, List, FitsSigned, w64}
 use Rattle.std.proofs.lemmas.Int.{to_z-of_z}
 use Rattle.lattice_core.specs.declared.vector.V3.{V3}
 use Rattle.solid_set.specs.Rpps.{IsArb8Of}

@@ -1,0 +1,61 @@
+-- Segments of simple surfaces, proved by computation.
+use Rattle.std.specs.Prelude.{◌≡◌, refl, true, false, ℤ, pos, negsuc, Some, None, [], ◌∷◌}
+use Rattle.lattice_core.specs.declared.ray.Ray.{Ray}
+use Rattle.lattice_core.specs.declared.ray.Dir.{Dir}
+use Rattle.lattice_core.specs.declared.ray.Dir.TheVariants.{PlusX, MinusX}
+use Rattle.lattice_core.specs.Vectors.{zero_vector}
+use Rattle.plane_geom.specs.declared.plane.Plane.{Plane}
+use Rattle.surd_order.specs.declared.position.Pos.TheVariants.{Frac, Surd}
+use Rattle.surd_order.specs.PlaceOrder.{place_cmp}
+use Rattle.solid_set.specs.declared.surface.Surface.TheVariants.{Planes, HalfSpace, Ball}
+use Rattle.solid_set.specs.Segments.{segment_of}
+use Rattle.solid_set.specs.Levels.{level_at}
+
+abbrev ray_from : ℤ → ℤ → ℤ → Dir → Ray
+ray_from x y z dir = record { origin = record { x = x; y = y; z = z }; dir = dir }
+
+abbrev plane : ℤ → ℤ → ℤ → ℤ → Plane
+plane x y z d = record { n = record { x = x; y = y; z = z }; d = d }
+
+-- the points with 2 x + 3 y at most 7: the ray begins inside, on no face
+out_of_a_half_space : segment_of (HalfSpace (plane (pos 2) (pos 3) (pos 0) (pos 7))) (ray_from (pos 0) (pos 0) (pos 0) PlusX)
+    ≡ Some (record { start = Frac (pos 0) (pos 1); start_face = 0; end = Frac (pos 7) (pos 2); end_face = 1 })
+unfolding place_cmp
+out_of_a_half_space = refl
+
+away_from_a_half_space : segment_of (HalfSpace (plane (negsuc 1) (pos 3) (pos 0) (negsuc 6))) (ray_from (pos 0) (pos 0) (pos 0) MinusX) ≡ None
+unfolding place_cmp
+away_from_a_half_space = refl
+
+-- a start that is also a crossing has its face
+from_the_edge : segment_of (HalfSpace (plane (negsuc 0) (pos 0) (pos 0) (pos 0))) (ray_from (pos 0) (pos 0) (pos 0) PlusX)
+    ≡ Some (record { start = Frac (pos 0) (pos 1); start_face = 1; end = Frac (pos 1048576) (pos 1); end_face = 0 })
+unfolding place_cmp
+from_the_edge = refl
+
+-- of equal crossings the first face counts, and a degenerate face counts for nothing
+first_of_two_faces : segment_of (Planes (None ∷ Some (plane (negsuc 0) (pos 0) (pos 0) (pos 0)) ∷ Some (plane (negsuc 1) (pos 0) (pos 0) (pos 0)) ∷ Some (plane (pos 1) (pos 0) (pos 0) (pos 4)) ∷ []))
+    (ray_from (negsuc 2) (pos 0) (pos 0) PlusX)
+    ≡ Some (record { start = Frac (pos 3) (pos 1); start_face = 2; end = Frac (pos 7) (pos 1); end_face = 4 })
+unfolding place_cmp
+first_of_two_faces = refl
+
+through_a_ball : segment_of (Ball zero_vector (pos 5)) (ray_from (negsuc 9) (pos 1) (pos 1) PlusX)
+    ≡ Some (record { start = Surd (pos 10) false 23; start_face = 1; end = Surd (pos 10) true 23; end_face = 1 })
+unfolding place_cmp
+through_a_ball = refl
+
+through_a_ball_at_whole_places : segment_of (Ball zero_vector (pos 5)) (ray_from (negsuc 9) (pos 3) (pos 0) PlusX)
+    ≡ Some (record { start = Frac (pos 6) (pos 1); start_face = 1; end = Frac (pos 14) (pos 1); end_face = 1 })
+unfolding place_cmp
+through_a_ball_at_whole_places = refl
+
+touching_a_ball : segment_of (Ball zero_vector (pos 5)) (ray_from (negsuc 9) (pos 5) (pos 0) PlusX) ≡ None
+unfolding place_cmp
+touching_a_ball = refl
+
+level_of_a_slanted_face : level_at (HalfSpace (plane (negsuc 0) (negsuc 0) (pos 0) (pos 0))) 1 (ray_from (negsuc 4) (pos 0) (pos 0) PlusX) ≡ 155
+level_of_a_slanted_face = refl
+
+level_of_no_face : level_at (HalfSpace (plane (negsuc 0) (negsuc 0) (pos 0) (pos 0))) 0 (ray_from (pos 5) (pos 0) (pos 0) PlusX) ≡ 255
+level_of_no_face = refl

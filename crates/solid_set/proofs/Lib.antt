@@ -4,6 +4,7 @@ pub mod Foremost
 pub mod Spellings
 pub mod Ranges
 pub mod Faces
+pub mod Bounding
 pub mod Made
 pub mod InsideLaws
 pub mod SpelledRange

@@ -1,5 +1,5 @@
 -- The surfaces of placed solids, and which points they enclose.
-use Rattle.std.specs.Prelude.{◌≡◌, ℤ, List, [], ◌∷◌, map, Option, Some, None}
+use Rattle.std.specs.Prelude.{◌≡◌, ℤ, List, [], ◌∷◌, map, Option, Some, None, pos, All}
 use Rattle.std.specs.Option.{option_map}
 use Rattle.lattice_core.specs.declared.limit.TheConstants.{SHIFT}
 use Rattle.lattice_core.specs.declared.boxes.Box3.{Box3}
@@ -13,7 +13,8 @@ use Rattle.plane_geom.specs.Planes.{PlaneHolds, placed_plane}
 use Rattle.prim_half.specs.Halves.{HalfSpace as HalfNumbers}
 use Rattle.prim_arb8.specs.Faces.{planes_of}
 use Rattle.prim_sphere.specs.declared.limit.TheConstants.{PLACED}
-use Rattle.prim_sphere.specs.Spheres.{SphereHolds, IsRadius}
+use Rattle.lattice_core.specs.Boxes.{HasPoint}
+use Rattle.prim_sphere.specs.Spheres.{SphereHolds, IsRadius, HoldsPointsOf}
 use Rattle.prim_sphere.specs.Spheres.{box_of as ball_box}
 use Rattle.solid_set.specs.declared.solid.Solid.{Solid}
 use Rattle.solid_set.specs.declared.solid.Solid.TheVariants as solids
@@ -67,3 +68,17 @@ pub record IsBallSize (centre : V3) (radius : ℤ) : Type 0 where
 -- a surface that is a ball has these sizes
 abbrev pub IsBallSized : Surface → Type 0
 IsBallSized surface = (centre : V3) (radius : ℤ) → surface ≡ Ball centre radius → IsBallSize centre radius
+
+-- the box holds the vertices where the placement takes them
+abbrev pub HoldsVertices : Box3 → Placement → List V3 → Type 0
+HoldsVertices b by vertices = All (λ p. HasPoint b (placed by p) (pos 1)) vertices
+
+-- the box holds every point
+abbrev pub HoldsAll : Box3 → Type 0
+HoldsAll b = (v : V3) (w : ℤ) → HasPoint b v w
+
+-- the box holds a placed solid: its vertices, the points of a sphere, or all points
+abbrev pub HoldsSolid : Solid → Placement → Box3 → Type 0
+HoldsSolid (solids.Arb8 solid) by b = HoldsVertices b by solid.vertices
+HoldsSolid (solids.Sphere sphere) by b = HoldsPointsOf (placed by sphere.centre) sphere.radius b
+HoldsSolid (solids.Half half) by b = HoldsAll b

@@ -35,7 +35,7 @@ impl Solid {
     ghost use Rattle.std.specs.Prelude.{◌≡◌};
     ghost use Rattle.lattice_core.specs.declared.limit.TheConstants.{SHIFT};
     ghost use Rattle.lattice_core.specs.Limits.{IsWithin};
-    ghost use Rattle.solid_set.specs.Surfaces.{surface_of, bounds_of};
+    ghost use Rattle.solid_set.specs.Surfaces.{surface_of, bounds_of, HoldsSolid};
     ghost use Rattle.lattice_core.specs.Limits.{IsAtMost};
     ghost use Rattle.lattice_core.specs.declared.limit.TheConstants.{COORD};
     ghost use Rattle.solid_set.specs.Rpps.{rpp_vertices, IsArb8Of};
@@ -66,6 +66,7 @@ impl Solid {
         requires { IsWithin SHIFT by.now.shift }
         ensures surface { result.surface ≡ surface_of self.now by.now }
         ensures bounds { result.bounds ≡ bounds_of self.now by.now }
+        ensures holds { HoldsSolid self.now by.now result.bounds }
     {
         match self {
             Solid::Arb8(arb8) => Placed::arb8(arb8, by),
@@ -165,7 +166,7 @@ impl Placed {
     ghost use Rattle.std.specs.Prelude.{◌≡◌};
     ghost use Rattle.lattice_core.specs.declared.limit.TheConstants.{SHIFT};
     ghost use Rattle.solid_set.specs.declared.solid.Solid.{Solid};
-    ghost use Rattle.solid_set.specs.Surfaces.{surface_of, bounds_of};
+    ghost use Rattle.solid_set.specs.Surfaces.{surface_of, bounds_of, HoldsSolid};
     ghost use Rattle.lattice_core.specs.declared.limit.TheConstants.{WORLD};
     ghost use Rattle.lattice_core.specs.Limits.{IsWithin};
     ghost use Rattle.std.specs.Prelude.{◌≤◌};
@@ -179,6 +180,7 @@ impl Placed {
         requires { IsWithin SHIFT by.now.shift }
         ensures surface { result.surface ≡ surface_of (Solid.Arb8 arb8.now) by.now }
         ensures bounds { result.bounds ≡ bounds_of (Solid.Arb8 arb8.now) by.now }
+        ensures holds { HoldsSolid (Solid.Arb8 arb8.now) by.now result.bounds }
     {
         Placed {
             surface: Surface::Planes(placed_sides(arb8, by)),
@@ -190,6 +192,7 @@ impl Placed {
         requires { IsWithin SHIFT by.now.shift }
         ensures surface { result.surface ≡ surface_of (Solid.Sphere sphere.now) by.now }
         ensures bounds { result.bounds ≡ bounds_of (Solid.Sphere sphere.now) by.now }
+        ensures holds { HoldsSolid (Solid.Sphere sphere.now) by.now result.bounds }
     {
         let centre = placed_point(sphere.centre(), by);
         let radius = sphere.radius();
@@ -203,6 +206,7 @@ impl Placed {
         requires { IsWithin SHIFT by.now.shift }
         ensures surface { result.surface ≡ surface_of (Solid.Half half.now) by.now }
         ensures bounds { result.bounds ≡ bounds_of (Solid.Half half.now) by.now }
+        ensures holds { HoldsSolid (Solid.Half half.now) by.now result.bounds }
     {
         Placed {
             surface: Surface::HalfSpace(half.plane().placed(by)),

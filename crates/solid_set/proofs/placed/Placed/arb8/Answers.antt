@@ -1,4 +1,7 @@
-use Rattle.std.proofs.Common.{ap, ◌∙◌, List, Option}
+use Rattle.std.proofs.Common.{ap, sym, subst, ◌∙◌, List, Option}
+use Rattle.lattice_core.specs.declared.boxes.Box3.{Box3}
+use Rattle.solid_set.specs.Surfaces.{HoldsVertices}
+use Rattle.solid_set.proofs.Bounding.{vertices_held}
 use Rattle.plane_geom.specs.declared.plane.Plane.{Plane}
 use Rattle.lattice_core.specs.declared.vector.V3.{V3}
 use Rattle.solid_set.specs.declared.solid.Solid.TheVariants as solids
@@ -19,3 +22,8 @@ invariant_of-result c = record {
     bounds_is = c.box_of.ensures ∙ ap (λ (v : List V3). box_of c.args.by.now v) c.vertices.ensures.value;
   }) ∣₁;
 }
+
+pub returns-clause-holds : goal.returns-clause-holds
+returns-clause-holds c =
+    subst (λ (b : Box3). HoldsVertices b c.args.by.now c.args.arb8.now.vertices) (sym (c.box_of.ensures ∙ ap (λ (v : List V3). box_of c.args.by.now v) c.vertices.ensures.value))
+    (vertices_held c.args.by.now c.args.arb8.now.vertices)

@@ -1,4 +1,7 @@
-use Rattle.std.proofs.Common.{◌≡◌, ap, ◌∙◌}
+use Rattle.std.proofs.Common.{◌≡◌, ap, ◌∙◌, sym, subst}
+use Rattle.lattice_core.specs.declared.boxes.Box3.{Box3}
+use Rattle.solid_set.specs.Surfaces.{HoldsAll}
+use Rattle.solid_set.proofs.Bounding.{all_held}
 use Rattle.plane_geom.specs.declared.plane.Plane.{Plane}
 use Rattle.plane_geom.specs.Planes.{placed_plane}
 use Rattle.prim_arb8.proofs.Reach.{plane_same}
@@ -22,3 +25,6 @@ invariant_of-result c =
         bounds_is = c.all_of_space.ensures;
       }) ∣₁;
     }
+
+pub returns-clause-holds : goal.returns-clause-holds
+returns-clause-holds c = subst (λ (b : Box3). HoldsAll b) (sym c.all_of_space.ensures) all_held

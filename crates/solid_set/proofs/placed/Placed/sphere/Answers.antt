@@ -5,7 +5,7 @@ use Rattle.lattice_core.specs.declared.vector.V3.{V3}
 use Rattle.lattice_core.specs.Limits.{IsAtMost}
 use Rattle.lattice_core.specs.Placements.{placed}
 use Rattle.plane_geom.proofs.Sizes.{fits64}
-use Rattle.prim_sphere.specs.Spheres.{box_of}
+use Rattle.prim_sphere.specs.Spheres.{box_of, HoldsPointsOf}
 use Rattle.solid_set.specs.declared.solid.Solid.TheVariants as solids
 use Rattle.solid_set.specs.declared.surface.Surface.TheVariants.{Ball}
 use Rattle.solid_set.specs.Surfaces.{IsBallSize}
@@ -54,3 +54,11 @@ returns-clause-bounds c =
     simp to_z-of_z at c.bounds_at.ensures.value
     ∙ ap (λ (z : ℤ). box_of c.placed_point-centre.result z) c.radius-radius.ensures.value
     ∙ ap (λ (v : V3). box_of v c.args.sphere.now.radius) (c.placed_point-centre.ensures.value ∙ ap (λ (v : V3). placed c.args.by.now v) c.centre.ensures.value)
+
+pub returns-clause-holds : goal.returns-clause-holds
+returns-clause-holds c =
+    let size : IsAtMost (pos 16384) c.radius-radius.result = (omega (arith, ints, c.radius-radius.ensures.size.some), c.radius-radius.ensures.size.size) in
+    let fr : FitsSigned w64 c.radius-radius.result = fits64 16384 c.radius-radius.result (lit< tt) size in
+    let held = simp to_z-of_z at c.bounds_at.ensures.holds in
+    subst (λ (v : V3). HoldsPointsOf v c.args.sphere.now.radius c.bounds_at.result) (c.placed_point-centre.ensures.value ∙ ap (λ (v : V3). placed c.args.by.now v) c.centre.ensures.value)
+    (subst (λ (z : ℤ). HoldsPointsOf c.placed_point-centre.result z c.bounds_at.result) c.radius-radius.ensures.value held)

@@ -40,7 +40,8 @@ impl Arb8 {
     ghost use Rattle.lattice_core.specs.Limits.{IsWithin};
     ghost use Rattle.plane_geom.specs.Planes.{IsSolidPlane};
     ghost use Rattle.plane_geom.specs.declared.fault.ShapeFault.{ShapeFault};
-    ghost use Rattle.prim_arb8.specs.Faces.{first_fault, cases_of, plane_at};
+    ghost use Rattle.prim_arb8.specs.Faces.{first_fault, cases_of, plane_at, planes_of};
+    ghost use Rattle.prim_arb8.specs.Solids.{IsArb8};
     ghost use Rattle.prim_arb8.specs.Laws.{IsFlat, IsFaceLaw};
 
     /// The solid of these vertices, or the first fault: `Flat`, then face by face `NotPlanar` and `NotConvex`.
@@ -64,6 +65,7 @@ impl Arb8 {
         ensures value { result ≡ self.now.vertices }
         ensures eight { length result ≡ 8 }
         ensures sound { first_fault (cases_of result) ≡ None }
+        ensures lawful { IsArb8 result (planes_of result) }
         ensures size { All (IsWithin COORD) result }
     {
         self.vertices

@@ -1,2 +1,4 @@
 pub mod Objects
 pub mod TextValues
+pub mod Keeping
+pub mod Renaming

@@ -1,5 +1,9 @@
+ghost use Rattle.std.specs.Prelude.{◌≡◌, IfOk};
+
 use item_list::Items;
+use memory_core::Memory;
 use name_core::Name;
+use std::alloc::Global;
 
 /// An attribute that has no effect and is written back: its key, and its value, a text of at most 1,024 bytes without
 /// line feed and carriage return that can stand between braces.
@@ -11,3 +15,33 @@ pub struct KeptAttr {
 
 /// The kept attributes of an object, in the order in which their keys came first.
 pub type KeptAttrs = Items<KeptAttr>;
+
+fn copy_of_value(alloc: Global, value: &[u8]) -> Result<Items<u8>, Memory>
+    ensures { IfOk result (λ v. v ≡ value.now) }
+{
+    Ok(Items::of_vec(Vec::from_slice(alloc, value)?))
+}
+
+impl KeptAttr {
+    /// The same attribute again.
+    pub fn copy(&self, alloc: Global) -> Result<KeptAttr, Memory>
+        ensures { IfOk result (λ k. k ≡ self.now) }
+    {
+        let value = copy_of_value(alloc, self.value.items())?;
+        Ok(KeptAttr {
+            name: self.name,
+            value,
+        })
+    }
+}
+
+/// The same attributes again.
+pub(crate) fn copy_of_kept(alloc: Global, kept: &[KeptAttr]) -> Result<KeptAttrs, Memory>
+    ensures { IfOk result (λ v. v ≡ kept.now) }
+{
+    let mut copies = Items::new(alloc);
+    for attribute in kept {
+        copies.push(attribute.copy(alloc)?)?;
+    }
+    Ok(copies)
+}

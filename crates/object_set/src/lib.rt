@@ -3,6 +3,8 @@
 
 mod kept;
 mod object;
+mod text_value;
 
 pub use kept::{KeptAttr, KeptAttrs};
 pub use object::{Body, Object};
+pub use text_value::is_text_value;

@@ -1,7 +1,15 @@
-use crate::kept::KeptAttrs;
+ghost use Rattle.std.specs.Prelude.{◌≡◌, [], map, IfOk, All};
+ghost use Rattle.object_set.specs.Objects.{Parts, IsBody, IsComb, IsKept, member_names};
+ghost use Rattle.object_set.specs.Renaming.{renamed_body, renamed_object, new_name};
+
+use crate::kept::{KeptAttr, KeptAttrs, copy_of_kept};
 use comb_tree::CombTree;
+use item_list::Items;
+use memory_core::Memory;
+use name_core::Name;
 use region_attr::Attr;
 use solid_set::Solid;
+use std::alloc::Global;
 use std::marker::Model;
 
 /// What an object is.
@@ -11,6 +19,30 @@ pub enum Body {
     Solid(Solid),
     /// A combination: a boolean tree over named members, and its attributes.
     Comb { attr: Attr, tree: CombTree },
+}
+
+impl Body {
+    /// The same body again.
+    pub fn copy(&self, alloc: Global) -> Result<Body, Memory>
+        ensures { IfOk result (λ b. b ≡ self.now) }
+    {
+        match self {
+            Body::Solid(solid) => Ok(Body::Solid(*solid)),
+            Body::Comb { attr, tree } => {
+                let tree = tree.copy(alloc)?;
+                Ok(Body::Comb { attr: *attr, tree })
+            }
+        }
+    }
+
+    /// Gives each leaf of the old name the new one.
+    fn rename_members(&mut self, old: &Name, new: &Name)
+        ensures { self.new ≡ renamed_body old.now new.now self.old }
+    {
+        if let Body::Comb { tree, .. } = self {
+            tree.rename(old, new);
+        }
+    }
 }
 
 /// An object of the directory. Contracts see its body and its kept attributes. The type keeps that the keys of the kept
@@ -23,11 +55,83 @@ pub struct Object {
 }
 
 impl Model for Object {
+    ghost use Rattle.std.specs.Coded.{codes};
+    ghost use Rattle.object_set.specs.contracts.object.Body as bodies;
     ghost use Rattle.object_set.specs.Objects.{Parts, IsObject};
 
     ghost Value = { Parts };
 
+    ghost coded = { Prim.hlevel (codes, bodies.the_row.coded) };
+
     ghost view = { λ s. record { body = s.body; kept = s.kept } };
 
     ghost invariant = { λ s. IsObject (record { body = s.body; kept = s.kept }) };
+}
+
+impl Object {
+    /// The object of a solid, without kept attributes. It takes no memory.
+    pub fn of_solid(alloc: Global, solid: Solid) -> Object
+        ensures { result ≡ record { body = Body.Solid solid; kept = [] } }
+    {
+        Object {
+            body: Body::Solid(solid),
+            kept: Items::new(alloc),
+        }
+    }
+
+    /// The combination of these attributes and this tree, without kept attributes. It takes no memory.
+    pub fn of_comb(alloc: Global, attr: Attr, tree: CombTree) -> Object
+        requires { IsComb attr tree }
+        ensures { result ≡ record { body = Body.Comb attr tree; kept = [] } }
+    {
+        Object {
+            body: Body::Comb { attr, tree },
+            kept: Items::new(alloc),
+        }
+    }
+
+    /// What the object is.
+    pub fn body(&self) -> &Body
+        ensures value { result.now ≡ self.now.body }
+        ensures lawful { IsBody result.now }
+    {
+        &self.body
+    }
+
+    /// The kept attributes, in the order in which their keys came first.
+    pub fn kept(&self) -> &[KeptAttr]
+        ensures value { result.now ≡ self.now.kept }
+        ensures lawful { IsKept result.now }
+    {
+        self.kept.items()
+    }
+
+    /// The same object again.
+    pub fn copy(&self, alloc: Global) -> Result<Object, Memory>
+        ensures { IfOk result (λ o. o ≡ self.now) }
+    {
+        let body = self.body.copy(alloc)?;
+        let kept = copy_of_kept(alloc, self.kept.items())?;
+        Ok(Object { body, kept })
+    }
+
+    /// The combination of these attributes and this tree, with the kept attributes of this object.
+    pub fn with_comb(&self, alloc: Global, attr: Attr, tree: CombTree) -> Result<Object, Memory>
+        requires { IsComb attr tree }
+        ensures { IfOk result (λ o. o ≡ record { body = Body.Comb attr tree; kept = self.now.kept }) }
+    {
+        let kept = copy_of_kept(alloc, self.kept.items())?;
+        Ok(Object {
+            body: Body::Comb { attr, tree },
+            kept,
+        })
+    }
+
+    /// Gives each member of the old name the new one. A solid stays. It takes no memory.
+    pub fn rename_members(&mut self, old: &Name, new: &Name)
+        ensures object { self.new ≡ renamed_object old.now new.now self.old }
+        ensures names { member_names self.new.body ≡ map (new_name old.now new.now) (member_names self.old.body) }
+    {
+        self.body.rename_members(old, new);
+    }
 }

@@ -7,6 +7,7 @@ use Rattle.std.proofs.lemmas.Bool.Decides.{leb_tells}
 use Rattle.name_core.specs.declared.name.Name.{Name}
 use Rattle.name_core.specs.Same.{same_name}
 use Rattle.object_set.specs.Objects.{Parts}
+use Rattle.object_set.specs.TextValues.{IsTextValue}
 use Rattle.directory.specs.declared.fault.DirFault.{DirFault}
 use Rattle.directory.specs.declared.fault.DirFault.TheVariants.{Exists, Missing, Full, Cycle, Deep, Memory}
 use Rattle.directory.specs.Walks.{Entries, object_of, HasCycleThrough, IsGreatestDepth, IsSound, most_depth, most_objects, unbounded, deepest}
@@ -191,3 +192,6 @@ follows_sound es made a v (Err f) after sound h t = subst (λ (l : Entries). IsS
 pub nothing_sound : (es : Entries) → es ≡ [] → IsDistinct same_name (keys_of es) → IsSound es
 nothing_sound [] e distinct = judged_sound [] [] refl (omega arith) distinct
 nothing_sound (x ∷ es) e distinct = cc
+
+pub no_title : IsTextValue []
+no_title = record { short = omega arith; one_line = λ i d lt. absurd (omega (arith, lt)); no_return = λ i d lt. absurd (omega (arith, lt)); group = refl }

@@ -1,2 +1,3 @@
 pub mod Renamed
 pub mod Distinct
+pub mod Noted

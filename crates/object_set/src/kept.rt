@@ -1,5 +1,8 @@
-ghost use Rattle.std.specs.Prelude.{◌≡◌, IfOk};
+ghost use Rattle.std.specs.Prelude.{◌≡◌, ◌↔◌, All, IfOk, IsTrue};
+ghost use Rattle.object_set.specs.declared.kept.KeptAttr.{KeptAttr};
+ghost use Rattle.object_set.specs.TextValues.{IsTextValue};
 
+use crate::text_value::is_text_value;
 use item_list::Items;
 use memory_core::Memory;
 use name_core::Name;
@@ -16,7 +19,7 @@ pub struct KeptAttr {
 /// The kept attributes of an object, in the order in which their keys came first.
 pub type KeptAttrs = Items<KeptAttr>;
 
-fn copy_of_value(alloc: Global, value: &[u8]) -> Result<Items<u8>, Memory>
+pub(crate) fn copy_of_value(alloc: Global, value: &[u8]) -> Result<Items<u8>, Memory>
     ensures { IfOk result (λ v. v ≡ value.now) }
 {
     Ok(Items::of_vec(Vec::from_slice(alloc, value)?))
@@ -33,6 +36,13 @@ impl KeptAttr {
             value,
         })
     }
+}
+
+/// Whether the value of each of the attributes is such a text.
+pub fn have_text_values(pairs: &[KeptAttr]) -> bool
+    ensures { IsTrue result ↔ All (λ (k : KeptAttr). IsTextValue k.value) pairs.now }
+{
+    pairs.iter().all(|pair| is_text_value(pair.value.items()))
 }
 
 /// The same attributes again.

@@ -1,7 +1,11 @@
-ghost use Rattle.std.specs.Prelude.{◌≡◌, [], map, IfOk, All};
+ghost use Rattle.std.specs.Prelude.{◌≡◌, [], map, IfOk, OnOk, OnErr, All};
 ghost use Rattle.object_set.specs.Objects.{Parts, IsBody, IsComb, IsKept, member_names};
+ghost use Rattle.object_set.specs.Keeping.{kept_after};
+ghost use Rattle.object_set.specs.TextValues.{IsTextValue};
+ghost use Rattle.object_set.specs.declared.kept.KeptAttr.{KeptAttr};
 ghost use Rattle.object_set.specs.Renaming.{renamed_body, renamed_object, new_name};
 
+use crate::keeping::kept_with;
 use crate::kept::{KeptAttr, KeptAttrs, copy_of_kept};
 use comb_tree::CombTree;
 use item_list::Items;
@@ -125,6 +129,17 @@ impl Object {
             body: Body::Comb { attr, tree },
             kept,
         })
+    }
+
+    /// Keeps each pair in turn: a key that is there keeps its place and takes the new value, and another goes to the end.
+    /// Where there is no memory all stays as it was.
+    pub fn keep(&mut self, alloc: Global, pairs: &[KeptAttr]) -> Result<(), Memory>
+        requires { All (λ (k : KeptAttr). IsTextValue k.value) pairs.now }
+        ensures ok { OnOk result (self.new ≡ record self.old { kept = kept_after self.old.kept pairs.now }) }
+        ensures err { OnErr result (self.new ≡ self.old) }
+    {
+        self.kept = kept_with(alloc, self.kept.items(), pairs)?;
+        Ok(())
     }
 
     /// Gives each member of the old name the new one. A solid stays. It takes no memory.

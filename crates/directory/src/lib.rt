@@ -9,3 +9,6 @@ mod whole;
 
 pub use directory::Directory;
 pub use fault::DirFault;
+
+#[cfg(test)]
+mod tests;

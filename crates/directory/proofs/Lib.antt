@@ -1,4 +1,5 @@
 pub mod AddLemmas
+pub mod AloneLemmas
 pub mod EditLemmas
 pub mod PlaceLemmas
 pub mod SweepLemmas

@@ -5,6 +5,7 @@ use Rattle.std.specs.Prelude.{nat_lt, slice_index}
 use Rattle.std.specs.Option.{option_map_or}
 use Rattle.std.proofs.lemmas.List.{get_or_past, length-map, map-append}
 use Rattle.std.proofs.lemmas.List.Concat.{flat_map-cons}
+use Rattle.std.proofs.Math.Seq.{take-length}
 use borrow.Author.Tests.{ltb-false}
 use Rattle.std.proofs.lemmas.Map.Keys.{IsDistinct-head, IsDistinct-tail}
 use Rattle.tree_forms.specs.declared.Op.{Op}
@@ -18,7 +19,7 @@ use Rattle.region_attr.specs.declared.attr.Attr.{Attr}
 use Rattle.object_set.specs.Objects.{Parts, member_names}
 use Rattle.object_set.specs.declared.object.Body.{Body}
 use Rattle.object_set.specs.declared.object.Body.TheVariants.{Solid, Comb}
-use Rattle.directory.specs.Walks.{Entries, members_of, object_of, greatest_of, body_depth, depth_over, depth_within, unbounded}
+use Rattle.directory.specs.Walks.{Entries, members_of, object_of, greatest_of, body_weight, body_depth, depth_over, depth_within, unbounded}
 use Rattle.directory.specs.Places.{name_of_node, node_names, depth_at, depth_of_object}
 use Rattle.directory.proofs.WalkLemmas.{name_tells, depth_at_most, missing_zero, greatest_bound}
 
@@ -156,3 +157,24 @@ pub nodes_step : (f : Name → ℕ) (ns : List CombNode) (i : ℕ) (d item : Com
 nodes_step f ns i d item most at next lt is before here step =
     let same : greatest_of (map f (name_of_node item)) ≡ greatest_of (map f (name_of_node (get_or ns i d))) = ap (λ (n : CombNode). greatest_of (map f (name_of_node n))) is in
     omega (arith, step, before, here, same, nodes_more f ns i d lt)
+
+pub names_step : (xs ys : List CombNode) (i : ℕ) (x y : CombNode) → i < length xs → i < length ys → x ≡ get_or xs i x → y ≡ get_or ys i y → name_of_node x ≡ name_of_node y
+    → node_names (take i xs) ≡ node_names (take i ys) → node_names (take (i + 1) xs) ≡ node_names (take (i + 1) ys)
+names_step xs ys i x y lx ly ex ey same before =
+    names_next xs i x lx
+    ∙ ap (λ (n : CombNode). node_names (take i xs) ++ name_of_node n) (sym ex)
+    ∙ ap (λ (l : List Name). node_names (take i xs) ++ l) same
+    ∙ ap (λ (l : List Name). l ++ name_of_node y) before
+    ∙ ap (λ (n : CombNode). node_names (take i ys) ++ name_of_node n) ey
+    ∙ sym (names_next ys i y ly)
+
+pub names_whole : (xs ys : List CombNode) (i : ℕ) → i ≡ length xs → length xs ≡ length ys → node_names (take i xs) ≡ node_names (take i ys) → node_names xs ≡ node_names ys
+names_whole xs ys i e len h =
+    ap node_names (sym (take-length xs)) ∙ ap (λ (n : ℕ). node_names (take n xs)) (sym e) ∙ h ∙ ap (λ (n : ℕ). node_names (take n ys)) (e ∙ len) ∙ ap node_names (take-length ys)
+
+pub comb_members : (o p : Body) (attr more : Attr) (t u : AnyTree) (ns ms : List CombNode) → o ≡ Comb attr t → p ≡ Comb more u → ns ≡ comb_nodes t → ms ≡ comb_nodes u
+    → node_names ns ≡ node_names ms → (member_names o ≡ member_names p) × (body_weight o ≡ body_weight p)
+comb_members o p attr more t u ns ms is_o is_p at_t at_u same = (
+  ap member_names is_o ∙ sym (tree_names t) ∙ ap node_names (sym at_t) ∙ same ∙ ap node_names at_u ∙ tree_names u ∙ sym (ap member_names is_p),
+  ap body_weight is_o ∙ sym (ap body_weight is_p),
+)

@@ -13,7 +13,7 @@ use name_core::Name;
 use object_set::{Body, Object};
 
 /// The greatest number of combinations on a walk.
-const DEPTH: u8 = 16;
+pub(crate) const DEPTH: u8 = 16;
 
 /// More than the depth of any name after one edit of a sound directory without a cycle.
 const UNBOUNDED: u8 = 34;

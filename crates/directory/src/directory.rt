@@ -1,6 +1,7 @@
 use crate::edits::{add_pair, remove_pair, rename_pairs, replace_pair};
 use crate::fault::DirFault;
-use crate::whole::{copy_of, references, remove_pairs};
+use crate::members::references;
+use crate::whole::{copy_of, remove_pairs};
 use indexmap::IndexMap;
 use memory_core::Memory;
 use name_core::Name;

@@ -1,13 +1,16 @@
-ghost use Rattle.std.specs.Prelude.{◌≡◌, ◌≢◌, ◌<◌, ◌++◌, ◌∷◌, [], IsSome, Some, None, OnOk, OnErr, IfOk, Err, take, length, ◌+◌};
+ghost use Rattle.std.specs.Prelude.{◌≡◌, ◌≢◌, ◌<◌, ◌≤◌, true, ◌++◌, ◌∷◌, [], IsSome, Some, None, OnOk, OnErr, IfOk, Err, take, length, ◌+◌};
 ghost use Rattle.name_core.specs.declared.name.Name.{Name};
 ghost use Rattle.object_set.specs.Objects.{Parts};
 ghost use Rattle.object_set.specs.Renaming.{new_name, renamed_object};
-ghost use Rattle.directory.specs.Walks.{Entries, object_of};
-ghost use Rattle.directory.specs.Places.{known_depths};
+ghost use Rattle.directory.specs.Walks.{Entries, IsSound, object_of, most_objects};
+ghost use Rattle.directory.specs.Places.{known_depths, depth_of_object};
+ghost use Rattle.indexmap.specs.IndexMap.{keys};
+ghost use Rattle.directory.specs.Alone.{IsAlone, GoesAlone};
 ghost use Rattle.directory.specs.Edits.{judged, appended, put_fault, replaced, replace_fault, removed, remove_fault, renamed_all, rename_fault, Follows};
 
-use crate::depths::{judge, resettle, settle};
+use crate::depths::{DEPTH, depth_of, judge, resettle, settle};
 use crate::fault::DirFault;
+use crate::members::{is_solid, keeps_names, leaves_named, references};
 use indexmap::IndexMap;
 use memory_core::Memory;
 use name_core::Name;
@@ -69,6 +72,47 @@ fn add_searched(
     }
 }
 
+/// Whether the object is a solid, or neither it nor the list refers to its name.
+fn is_alone(objects: &IndexMap<Name, Object>, name: &Name, object: &Object) -> bool
+    requires missing { object_of objects.now.entries name.now ≡ None }
+    requires small { length objects.now.entries ≤ most_objects }
+    ensures { result ≡ true → IsAlone objects.now.entries name.now object.now }
+{
+    if is_solid(object) {
+        return true;
+    }
+    leaves_named(object, name) == 0 && references(objects, name) == 0
+}
+
+/// Adds a pair and its depth, where the depths of the others stay.
+fn add_alone(
+    objects: &mut IndexMap<Name, Object>,
+    depths: &mut Vec<u8>,
+    name: &Name,
+    object: Object,
+    own: u8,
+) -> Result<(), DirFault>
+    requires missing { object_of objects.old.entries name.now ≡ None }
+    requires sound { IsSound objects.old.entries }
+    requires known { depths.old.items ≡ known_depths objects.old.entries }
+    requires own { own ≡ depth_of_object depths.old.items (keys objects.old) object }
+    requires alone { IsAlone objects.old.entries name.now object }
+    ensures answer { Follows objects.old.entries (judged (appended objects.old.entries name.now object) name.now) (appended objects.old.entries name.now object) result objects.new.entries }
+    ensures known { depths.new.items ≡ known_depths objects.new.entries }
+{
+    if own > DEPTH {
+        return Err(DirFault::Deep(u32::from(own)));
+    }
+    if depths.push(own).is_err() {
+        return Err(DirFault::Memory);
+    }
+    if push_new(objects, *name, object).is_err() {
+        let _own = depths.pop();
+        return Err(DirFault::Memory);
+    }
+    Ok(())
+}
+
 /// Adds a pair at the end, where the result may stand.
 pub(crate) fn add_pair(
     objects: &mut IndexMap<Name, Object>,
@@ -76,6 +120,7 @@ pub(crate) fn add_pair(
     name: &Name,
     object: Object,
 ) -> Result<(), DirFault>
+    requires sound { IsSound objects.old.entries }
     requires known { depths.old.items ≡ known_depths objects.old.entries }
     ensures answer { Follows objects.old.entries (put_fault objects.old.entries name.now object) (appended objects.old.entries name.now object) result objects.new.entries }
     ensures known { depths.new.items ≡ known_depths objects.new.entries }
@@ -86,7 +131,12 @@ pub(crate) fn add_pair(
     if objects.len() >= OBJECTS {
         return Err(DirFault::Full);
     }
-    add_searched(objects, depths, name, object)
+    if is_alone(objects, name, &object) {
+        let own = depth_of(objects, depths, &object);
+        add_alone(objects, depths, name, object, own)
+    } else {
+        add_searched(objects, depths, name, object)
+    }
 }
 
 /// Puts the object in the place of the name's, which is given back.
@@ -132,12 +182,17 @@ pub(crate) fn replace_pair(
     name: &Name,
     object: Object,
 ) -> Result<(), DirFault>
+    requires sound { IsSound objects.old.entries }
     requires known { depths.old.items ≡ known_depths objects.old.entries }
     ensures answer { Follows objects.old.entries (replace_fault objects.old.entries name.now object) (replaced objects.old.entries name.now object) result objects.new.entries }
     ensures known { depths.new.items ≡ known_depths objects.new.entries }
 {
     if !objects.contains_key(name) {
         return Err(DirFault::Missing);
+    }
+    if keeps_names(objects, name, &object) {
+        let _old = set_object(objects, name, object);
+        return Ok(());
     }
     exchange(objects, depths, name, object)
 }
@@ -150,12 +205,24 @@ fn drop_pair(objects: &mut IndexMap<Name, Object>, name: &Name)
     let _object = objects.shift_remove(name);
 }
 
+/// Whether the depths of the other objects stay where the name goes.
+fn goes_alone(objects: &IndexMap<Name, Object>, name: &Name) -> bool
+    requires { length objects.now.entries ≤ most_objects }
+    ensures { result ≡ true → GoesAlone objects.now.entries name.now }
+{
+    match objects.get(name) {
+        Some(object) => is_solid(object) || references(objects, name) == 0,
+        None => false,
+    }
+}
+
 /// Takes a name's pair out.
 pub(crate) fn remove_pair(
     objects: &mut IndexMap<Name, Object>,
     depths: &mut Vec<u8>,
     name: &Name,
 ) -> Result<(), DirFault>
+    requires small { length objects.old.entries ≤ most_objects }
     requires known { depths.old.items ≡ known_depths objects.old.entries }
     ensures answer { Follows objects.old.entries (remove_fault objects.old.entries name.now) (removed objects.old.entries name.now) result objects.new.entries }
     ensures memory { result ≢ Err DirFault.Memory }
@@ -164,8 +231,12 @@ pub(crate) fn remove_pair(
     let Some(place) = objects.get_index_of(name) else {
         return Err(DirFault::Missing);
     };
+    let alone = goes_alone(objects, name);
     drop_pair(objects, name);
     let _depth = depths.remove(place);
+    if alone {
+        return Ok(());
+    }
     resettle(objects, depths);
     Ok(())
 }

@@ -1,6 +1,6 @@
 use Rattle.std.proofs.Common.{arith}
 use Rattle.directory.proofs.WholeLemmas.{references_next}
-use Rattle.directory.proofs.whole.references.Goals as goal
+use Rattle.directory.proofs.members.references.Goals as goal
 
 pub loop-place-preserved : goal.loop-place-preserved
 loop-place-preserved c = record {

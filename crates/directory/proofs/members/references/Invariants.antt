@@ -1,6 +1,6 @@
 use Rattle.std.proofs.Common.{◌≡◌, ◌≤◌, ◌*◌, take}
 use Rattle.directory.specs.Edits.{references_of}
-use Rattle.directory.proofs.whole.references.Given as goal
+use Rattle.directory.proofs.members.references.Given as goal
 
 abbrev pub invariant-loop-place : goal.invariant-loop-place
 invariant-loop-place l = record {

@@ -1,7 +1,7 @@
 use Rattle.std.proofs.Common.{◌≡◌, rules}
 use Rattle.object_set.specs.declared.object.Body.TheVariants.{Comb}
 use Rattle.directory.proofs.WholeLemmas.{counted_in, counted_few}
-use Rattle.directory.proofs.whole.leaves_named.Goals as goal
+use Rattle.directory.proofs.members.leaves_named.Goals as goal
 
 pub returns-in-Comb-clause-count : goal.returns-in-Comb-clause-count
 returns-in-Comb-clause-count c =

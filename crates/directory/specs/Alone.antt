@@ -1,0 +1,22 @@
+-- Where the kept depths of the other objects stay as they are, in the words of the code.
+use Rattle.std.specs.Prelude.{◌≡◌, ◌⊎◌, ℕ, Some}
+use Rattle.name_core.specs.declared.name.Name.{Name}
+use Rattle.object_set.specs.Objects.{Parts, member_names}
+use Rattle.directory.specs.Walks.{Entries, object_of, Refers, body_weight, comb_weight}
+use Rattle.directory.specs.Edits.{appended}
+
+-- no object of the list refers to a, and the new one does not; or the new one is no combination
+abbrev pub IsAlone : Entries → Name → Parts → Type 0
+IsAlone dir a o = ((b : Name) → ¬ (Refers (appended dir a o) b a)) ⊎ (body_weight o.body ≡ 0)
+
+-- no object refers to a, or a is no combination
+abbrev pub GoesAlone : Entries → Name → Type 0
+GoesAlone dir a = ((b : Name) → ¬ (Refers dir b a)) ⊎ (comb_weight (object_of dir a) ≡ 0)
+
+-- two objects are of one kind and name the same names
+abbrev pub HaveSameMembers : Parts → Parts → Type 0
+HaveSameMembers o p = (member_names o.body ≡ member_names p.body) × (body_weight o.body ≡ body_weight p.body)
+
+-- a is there, and the object is of its kind and names the same names
+abbrev pub KeepsNames : Entries → Name → Parts → Type 0
+KeepsNames dir a o = (p : Parts) × (object_of dir a ≡ Some p) × HaveSameMembers o p

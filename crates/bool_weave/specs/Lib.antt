@@ -1,0 +1,5 @@
+pub mod Cuts
+pub mod Masks
+pub mod Claims
+pub mod Laws
+pub mod Examples

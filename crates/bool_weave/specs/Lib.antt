@@ -2,4 +2,5 @@ pub mod Cuts
 pub mod Masks
 pub mod Claims
 pub mod Laws
+pub mod Tables
 pub mod Examples

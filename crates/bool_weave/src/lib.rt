@@ -2,8 +2,16 @@
 //! boolean trees over them claim.
 #![tactic(auto)]
 
+mod claim;
 mod mask;
+mod place;
+mod span;
 mod woven;
 
-pub use mask::MaskNode;
-pub use woven::Woven;
+pub use claim::{ClaimRow, claims};
+pub use mask::{MaskNode, MaskTree};
+pub use place::place_in;
+pub use woven::{Weave, Woven};
+
+#[cfg(test)]
+mod tests;

@@ -92,7 +92,7 @@ ends_length (w ∷ ws) = omega (arith, ends_length ws)
 pub few_cuts : (woven : List Woven) → length (cuts_of woven) ≤ 2 * length woven + 2
 few_cuts woven = omega (arith, order_length (places_of woven), ends_length woven)
 
-ends_apart : place_cmp ray_start ray_end ≡ Less
+pub ends_apart : place_cmp ray_start ray_end ≡ Less
 unfolding place_cmp
 ends_apart = refl
 

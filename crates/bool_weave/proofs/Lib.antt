@@ -7,3 +7,4 @@ pub mod Kept
 pub mod Filling
 pub mod Middles
 pub mod Claimed
+pub mod LawProofs

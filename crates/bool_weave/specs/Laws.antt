@@ -1,5 +1,5 @@
 -- Laws of cuts and claims.
-use Rattle.std.specs.Prelude.{◌≡◌, ◌↔◌, ℕ, IsTrue, Bool, false, List, ◌++◌, ◌∷◌, []}
+use Rattle.std.specs.Prelude.{◌≡◌, ◌↔◌, ◌-◌, ℕ, IsTrue, Bool, false, List, length, slice_index_or}
 use Rattle.surd_order.specs.declared.position.Pos.{Pos}
 use Rattle.surd_order.specs.declared.position.Seg.{Seg}
 use Rattle.surd_order.specs.Order.{Precedes, IsPlace}
@@ -17,8 +17,12 @@ abbrev pub CutsAreAlone : Type 0
 CutsAreAlone = (woven : List Woven) (cuts : List Pos) → IsWoven woven → AreCuts woven cuts → cuts ≡ cuts_of woven
 
 -- the first cut is where the ray begins, and the last where it ends
+pub record HasRayEnds (cuts : List Pos) : Type 0 where
+  pub first : (d : Pos) → slice_index_or cuts 0 d ≡ ray_start
+  pub last : (d : Pos) → slice_index_or cuts (length cuts - 1) d ≡ ray_end
+
 abbrev pub CutsAreWithinTheRay : Type 0
-CutsAreWithinTheRay = (woven : List Woven) → IsWoven woven → (inner : List Pos) × (cuts_of woven ≡ ray_start ∷ (inner ++ ray_end ∷ []))
+CutsAreWithinTheRay = (woven : List Woven) → IsWoven woven → HasRayEnds (cuts_of woven)
 
 -- a segment covers an interval exactly where no place of the interval lies before its start or after its end
 abbrev pub CoversByPlaces : Type 0

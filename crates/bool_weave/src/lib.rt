@@ -3,12 +3,14 @@
 #![tactic(auto)]
 
 mod claim;
+mod laws;
 mod mask;
 mod place;
 mod span;
 mod woven;
 
 pub use claim::{ClaimRow, claims};
+pub use laws::{claim_laws, cut_laws};
 pub use mask::{MaskNode, MaskTree};
 pub use place::place_in;
 pub use woven::{Weave, Woven};

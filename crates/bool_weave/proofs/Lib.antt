@@ -1,0 +1,10 @@
+pub mod Held
+pub mod Sorted
+pub mod Cutting
+pub mod Searching
+pub mod Fronts
+pub mod Kept
+pub mod Filling
+pub mod Middles
+pub mod Claimed
+pub mod LawProofs

@@ -1,0 +1,6 @@
+pub mod Cuts
+pub mod Masks
+pub mod Claims
+pub mod Laws
+pub mod Tables
+pub mod Examples

@@ -52,29 +52,29 @@ mask_same (Join op l r) f g bound below same =
 pub no_leaf : (table : List Span) (k : ℕ) → ((i : ℕ) → i < length table → reaches (get_or table i no_span) k ≡ false) → (i : ℕ) → at_leaf table k i ≡ false
 no_leaf table k none i =
     elim (cases_lt i (length table)) [
-      inl within ↦ none i within
+      | inl within ↦ none i within
       | inr past ↦ ap (λ s. reaches s k) (get_or_past table i no_span past) ∙ reaches_none k
     ]
 
 pub not_spanned : (t : Mask) (table : List Span) (k : ℕ) → list_any (λ s. reaches s k) table ≡ false → false ≡ mask_holds t (at_leaf table k)
 not_spanned t table k none =
     sym (nothing_from_nothing t (at_leaf table k) (no_leaf table k (λ i within.
-      elim (cases_Bool (reaches (get_or table i no_span) k)) [
-        inl there ↦ absurd (true≢false (sym (list_any_at (λ s. reaches s k) table i no_span within there) ∙ none))
-        | inr away ↦ away
-      ])))
+    elim (cases_Bool (reaches (get_or table i no_span) k)) [
+      | inl there ↦ absurd (true≢false (sym (list_any_at (λ s. reaches s k) table i no_span within there) ∙ none))
+      | inr away ↦ away
+    ])))
 
 -- outside the hull of all spans no leaf is true
 pub outside : (t : Mask) (table : List Span) (from to k : ℕ) → All (λ s. (from ≤ s.from) × (s.to ≤ to)) table → (from ≤ k → k < to → ⊥) → mask_holds t (at_leaf table k) ≡ false
 outside t table from to k all away =
     nothing_from_nothing t (at_leaf table k) (no_leaf table k (λ i within.
-      elim (cases_Bool (reaches (get_or table i no_span) k)) [
-        inl there ↦
+    elim (cases_Bool (reaches (get_or table i no_span) k)) [
+      | inl there ↦
           let parts = and_parts (nat_le (get_or table i no_span).from k) (nat_lt k (get_or table i no_span).to) there in
           let h = all i no_span within in
           absurd (away (omega (arith, h.0, leb-true (get_or table i no_span).from k parts.0)) (omega (arith, h.1, ltb-true k (get_or table i no_span).to parts.1)))
-        | inr none ↦ none
-      ]))
+      | inr none ↦ none
+    ]))
 
 pub intervals_length : (cuts : List Pos) → length (intervals_between cuts) ≡ length cuts - 1
 intervals_length [] = refl
@@ -95,8 +95,8 @@ pub spans_within : (woven : List Woven) (interval : Interval) (first bound i : �
     → spans (filter (is_from_to first (first + bound)) woven) interval (first + i) ≡ spans woven interval (first + i)
 spans_within woven interval first bound i lt =
     any_filtered (λ w. eqb w.instance (first + i) && covers w.seg interval) (is_from_to first (first + bound)) woven (λ w passed.
-      let e : w.instance ≡ first + i = eqb-true w.instance (first + i) (and_parts (eqb w.instance (first + i)) (covers w.seg interval) passed).0 in
-      and_from _ _ (le-leb first w.instance (omega (arith, e))) (lt-ltb w.instance (first + bound) (omega (arith, e, lt))))
+    let e : w.instance ≡ first + i = eqb-true w.instance (first + i) (and_parts (eqb w.instance (first + i)) (covers w.seg interval) passed).0 in
+    and_from _ _ (le-leb first w.instance (omega (arith, e))) (lt-ltb w.instance (first + bound) (omega (arith, e, lt))))
 
 pub claimed_at : (woven : List Woven) (tree : Mask) (first bound k : ℕ) (table : List Span) → AreLeavesBelow bound (mask_nodes tree) → k + 1 < length (cuts_of woven)
     → ((i : ℕ) → at_leaf table k i ≡ spans (filter (is_from_to first (first + bound)) woven) (interval_at (cuts_of woven) k) (first + i))
@@ -115,21 +115,21 @@ pub row_is : (xs row : List Bool) (start to count : ℕ) → length xs ≡ count
 row_is xs row start to count len order within long same none =
     let tail = replicate {A = Bool} (count - (start + length row)) false in
     let all : length (replicate {A = Bool} start false ++ (row ++ tail)) ≡ count =
-      omega (arith, length-append (replicate {A = Bool} start false) (row ++ tail), length-append row tail, length-replicate {A = Bool} start false, length-replicate {A = Bool} (count - (start + length row)) false, long, order, within) in
+    omega (arith, length-append (replicate {A = Bool} start false) (row ++ tail), length-append row tail, length-replicate {A = Bool} start false, length-replicate {A = Bool} (count - (start + length row)) false, long, order, within) in
     ext_get_or false (replicate start false ++ (row ++ tail)) xs (omega (arith, all, len)) (λ k lt.
-      elim (cases_lt k start) [
-        inl before ↦ get_or_append_left (replicate start false) (row ++ tail) false k (omega (arith, before, length-replicate {A = Bool} start false))
+    elim (cases_lt k start) [
+      | inl before ↦ get_or_append_left (replicate start false) (row ++ tail) false k (omega (arith, before, length-replicate {A = Bool} start false))
           ∙ get_or-replicate start k false false before ∙ sym (none k (omega (arith, lt, all)) (λ a b. omega (arith, a, before)))
-        | inr behind ↦
+      | inr behind ↦
           get_or-append_right (replicate start false) (row ++ tail) start k false (length-replicate {A = Bool} start false) behind
           ∙ elim (cases_lt k to) [
-            inl inside ↦ get_or_append_left row tail false (k - start) (omega (arith, long, inside, behind)) ∙ same (k - start) (omega (arith, inside, behind))
-              ∙ (let e : start + (k - start) ≡ k = omega (arith, behind) in ap (λ n. get_or xs n false) e)
+            | inl inside ↦ get_or_append_left row tail false (k - start) (omega (arith, long, inside, behind)) ∙ same (k - start) (omega (arith, inside, behind))
+                ∙ (let e : start + (k - start) ≡ k = omega (arith, behind) in ap (λ n. get_or xs n false) e)
             | inr past ↦ get_or-append_right row tail (length row) (k - start) false refl (omega (arith, long, past, order))
-              ∙ get_or-replicate (count - (start + length row)) (k - start - length row) false false (omega (arith, lt, all, long, past, order))
-              ∙ sym (none k (omega (arith, lt, all)) (λ a b. omega (arith, b, past)))
+                ∙ get_or-replicate (count - (start + length row)) (k - start - length row) false false (omega (arith, lt, all, long, past, order))
+                ∙ sym (none k (omega (arith, lt, all)) (λ a b. omega (arith, b, past)))
           ]
-      ])
+    ])
 
 pub cut_all : (woven mine : List Woven) (q : Woven → Bool) (cuts : List Pos) → IsWoven woven → cuts ≡ cuts_of woven → mine ≡ filter q woven → All (λ w. IsCutAt cuts w.seg) mine
 cut_all woven mine q cuts s e f k d lt =
@@ -139,7 +139,7 @@ cut_all woven mine q cuts s e f k d lt =
 pub first_all : (woven mine : List Woven) (from to : ℕ) → mine ≡ filter (is_from_to from to) woven → All (λ w. from ≤ w.instance) mine
 first_all woven mine from to f =
     subst (λ l. All (λ (w : Woven). from ≤ w.instance) l) (sym f)
-      (All-weaker (λ (w : Woven). is_from_to from to w ≡ true) (λ (w : Woven). from ≤ w.instance) (λ w h. leb-true from w.instance (and_parts (nat_le from w.instance) (nat_lt w.instance to) h).0) (filter (is_from_to from to) woven) (filter_passes (is_from_to from to) woven))
+    (All-weaker (λ (w : Woven). is_from_to from to w ≡ true) (λ (w : Woven). from ≤ w.instance) (λ w h. leb-true from w.instance (and_parts (nat_le from w.instance) (nat_lt w.instance to) h).0) (filter (is_from_to from to) woven) (filter_passes (is_from_to from to) woven))
 
 -- the row between the hull's ends is all that a tree claims
 pub claims_are : (woven : List Woven) (tree : Mask) (first bound : ℕ) (table : List Span) (hull : Span) (start : ℕ) (row : List Bool) → AreLeavesBelow bound (mask_nodes tree)
@@ -149,8 +149,8 @@ pub claims_are : (woven : List Woven) (tree : Mask) (first bound : ℕ) (table :
     → replicate start false ++ (row ++ replicate ((length (cuts_of woven) - 1) - (start + length row)) false) ≡ claims_of woven tree first
 claims_are woven tree first bound table hull start row below leaves all within begin long held =
     let count : length (claims_of woven tree first) ≡ length (cuts_of woven) - 1 =
-      length-map (intervals_between (cuts_of woven)) (claims_interval woven tree first) ∙ intervals_length (cuts_of woven) in
+    length-map (intervals_between (cuts_of woven)) (claims_interval woven tree first) ∙ intervals_length (cuts_of woven) in
     row_is (claims_of woven tree first) row start hull.to (length (cuts_of woven) - 1) count (omega (arith, begin)) within long
-      (λ k lt. held k lt ∙ sym (claimed_at woven tree first bound (start + k) table below (omega (arith, lt, within)) (λ i. leaves (start + k) i (omega (arith, lt, within)))))
-      (λ k lt away. claimed_at woven tree first bound k table below (omega (arith, lt)) (λ i. leaves k i (omega (arith, lt)))
-        ∙ outside tree table hull.from hull.to k all (λ a b. away (omega (arith, a, b, begin)) b))
+    (λ k lt. held k lt ∙ sym (claimed_at woven tree first bound (start + k) table below (omega (arith, lt, within)) (λ i. leaves (start + k) i (omega (arith, lt, within)))))
+    (λ k lt away. claimed_at woven tree first bound k table below (omega (arith, lt)) (λ i. leaves k i (omega (arith, lt)))
+    ∙ outside tree table hull.from hull.to k all (λ a b. away (omega (arith, a, b, begin)) b))

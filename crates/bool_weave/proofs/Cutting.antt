@@ -106,11 +106,13 @@ beside_sorted : (r : Ordering) (x y : Pos) (ys behind : List Pos) → place_cmp 
 unfolding IsStrictlySortedBy
 beside_sorted Less x y ys behind e s t more = (
   (e, all_from (λ z. place_cmp x z ≡ Less) ys (λ z h. place_cmp_total.trans x y z e (all_has (λ z. place_cmp y z ≡ Less) ys z s.0 h))),
-  s)
+  s,
+)
 beside_sorted Equal x y ys behind e s t more = s
 beside_sorted Greater x y ys behind e s t more = (
   all_from (λ z. place_cmp y z ≡ Less) behind (λ z h. ⊎_elim (λ m. subst (λ w. place_cmp y w ≡ Less) m (turned x y Greater e)) (λ m. all_has (λ z. place_cmp y z ≡ Less) ys z s.0 m) (more z h)),
-  t)
+  t,
+)
 
 pub put_sorted : (x : Pos) (ys : List Pos) → IsStrictlySortedBy place_cmp ys → IsStrictlySortedBy place_cmp (put_in x ys)
 unfolding IsStrictlySortedBy
@@ -207,23 +209,25 @@ has_get xs k d lt = has_at xs (get_or xs k d) d k lt refl
 pub are_cuts : (woven : List Woven) → IsWoven woven → AreCuts woven (cuts_of woven)
 are_cuts woven s = record {
   rising = λ i j d lt within.
-    let here : i < length (cuts_of woven) = omega (arith, lt, within) in
-    precedes_from _ _ (cuts_good woven _ s (has_get (cuts_of woven) i d here)).spelled (cuts_good woven _ s (has_get (cuts_of woven) j d within)).spelled
+      let here : i < length (cuts_of woven) = omega (arith, lt, within) in
+      precedes_from _ _ (cuts_good woven _ s (has_get (cuts_of woven) i d here)).spelled (cuts_good woven _ s (has_get (cuts_of woven) j d within)).spelled
       (Less-from_sorted place_cmp (cuts_of woven) i j d (cuts_sorted woven) lt within);
   members = λ x. (
     λ c. contains_from_has (places_of woven) x (from_order x (places_of woven) (has_from_contains (cuts_of woven) x c)),
-    λ c. contains_from_has (cuts_of woven) x (to_cuts woven x s (has_from_contains (places_of woven) x c)));
+    λ c. contains_from_has (cuts_of woven) x (to_cuts woven x s (has_from_contains (places_of woven) x c)),
+  );
 }
 
 pub one_list_of_cuts : (woven : List Woven) (cuts : List Pos) → IsWoven woven → AreCuts woven cuts → cuts ≡ cuts_of woven
 one_list_of_cuts woven cuts s c =
     let good : (k : ℕ) (d : Pos) → k < length cuts → IsGood (get_or cuts k d) =
-      λ k d lt. places_good woven (get_or cuts k d) s (has_from_contains (places_of woven) _ ((c.members (get_or cuts k d)).0 (contains_from_has cuts _ (has_get cuts k d lt)))) in
+    λ k d lt. places_good woven (get_or cuts k d) s (has_from_contains (places_of woven) _ ((c.members (get_or cuts k d)).0 (contains_from_has cuts _ (has_get cuts k d lt)))) in
     let sorted : IsStrictlySortedBy place_cmp cuts =
-      sorted_from_pairs place_cmp place_cmp_total cuts (λ i j d lt within. less_from_precedes _ _ (good i d (omega (arith, lt, within))).spelled (good j d within).spelled (c.rising i j d lt within)) in
+    sorted_from_pairs place_cmp place_cmp_total cuts (λ i j d lt within. less_from_precedes _ _ (good i d (omega (arith, lt, within))).spelled (good j d within).spelled (c.rising i j d lt within)) in
     same_members place_cmp place_cmp_total cuts (cuts_of woven) sorted (cuts_sorted woven) (λ z. (
       λ h. to_cuts woven z s (has_from_contains (places_of woven) z ((c.members z).0 (contains_from_has cuts z h))),
-      λ h. has_from_contains cuts z ((c.members z).1 (contains_from_has (places_of woven) z (from_order z (places_of woven) h)))))
+      λ h. has_from_contains cuts z ((c.members z).1 (contains_from_has (places_of woven) z (from_order z (places_of woven) h))),
+    ))
 
 -- one more segment
 places_more : (woven : List Woven) (w : Woven) → places_of (woven ++ w ∷ []) ≡ places_of woven ++ (w.seg.start ∷ w.seg.end ∷ [])
@@ -234,21 +238,22 @@ cuts_more woven w s old =
     let more = places_more woven w in
     let in_new : (z : Pos) → Has (places_of woven ++ (w.seg.start ∷ w.seg.end ∷ [])) z → Has (places_of (woven ++ w ∷ [])) z = λ z h. subst (λ l. Has l z) (sym more) h in
     let tie : (x y : Pos) → Has (places_of woven ++ (w.seg.start ∷ w.seg.end ∷ [])) x → Has (places_of woven ++ (w.seg.start ∷ w.seg.end ∷ [])) y → place_cmp x y ≡ Equal → x ≡ y =
-      λ x y p q. ties (woven ++ w ∷ []) s x y (in_new x p) (in_new y q) in
+    λ x y p q. ties (woven ++ w ∷ []) s x y (in_new x p) (in_new y q) in
     let first : Has (places_of woven ++ (w.seg.start ∷ w.seg.end ∷ [])) w.seg.start = has_append_right (places_of woven) (w.seg.start ∷ w.seg.end ∷ []) w.seg.start (inl refl) in
     let last : Has (places_of woven ++ (w.seg.start ∷ w.seg.end ∷ [])) w.seg.end = has_append_right (places_of woven) (w.seg.start ∷ w.seg.end ∷ []) w.seg.end (inr (inl refl)) in
     let cut_in : (z : Pos) → Has (cuts_of woven) z → Has (places_of woven ++ (w.seg.start ∷ w.seg.end ∷ [])) z =
-      λ z h. has_append_left (places_of woven) (w.seg.start ∷ w.seg.end ∷ []) z (from_order z (places_of woven) h) in
+    λ z h. has_append_left (places_of woven) (w.seg.start ∷ w.seg.end ∷ []) z (from_order z (places_of woven) h) in
     let start_in : (z : Pos) → Has (put_in w.seg.start (cuts_of woven)) z → Has (places_of woven ++ (w.seg.start ∷ w.seg.end ∷ [])) z =
-      λ z h. ⊎_elim (λ e. subst (λ x. Has (places_of woven ++ (w.seg.start ∷ w.seg.end ∷ [])) x) e first) (λ m. cut_in z m) (from_put w.seg.start z (cuts_of woven) h) in
+    λ z h. ⊎_elim (λ e. subst (λ x. Has (places_of woven ++ (w.seg.start ∷ w.seg.end ∷ [])) x) e first) (λ m. cut_in z m) (from_put w.seg.start z (cuts_of woven) h) in
     let tie_start : (y : Pos) → Has (cuts_of woven) y → place_cmp w.seg.start y ≡ Equal → w.seg.start ≡ y = λ y h. tie w.seg.start y first (cut_in y h) in
     let tie_end : (y : Pos) → Has (put_in w.seg.start (cuts_of woven)) y → place_cmp w.seg.end y ≡ Equal → w.seg.end ≡ y = λ y h. tie w.seg.end y last (start_in y h) in
     let inside : (z : Pos) → Has (places_of woven ++ (w.seg.start ∷ w.seg.end ∷ [])) z → (w.seg.end ≡ z) ⊎ Has (put_in w.seg.start (cuts_of woven)) z =
-      λ z h. ⊎_elim (λ m. inr (to_put w.seg.start z (cuts_of woven) tie_start (inr (to_cuts woven z old m))))
-        (λ m. elim m [ inl e ↦ inr (to_put w.seg.start z (cuts_of woven) tie_start (inl e)) | inr n ↦ elim n [ inl e ↦ inl e | inr none ↦ absurd none ] ])
-        (has_append_cases (places_of woven) (w.seg.start ∷ w.seg.end ∷ []) z h) in
+    λ z h. ⊎_elim (λ m. inr (to_put w.seg.start z (cuts_of woven) tie_start (inr (to_cuts woven z old m))))
+    (λ m. elim m [ inl e ↦ inr (to_put w.seg.start z (cuts_of woven) tie_start (inl e)) | inr n ↦ elim n [ inl e ↦ inl e | inr none ↦ absurd none ] ])
+    (has_append_cases (places_of woven) (w.seg.start ∷ w.seg.end ∷ []) z h) in
     same_members place_cmp place_cmp_total (cuts_of (woven ++ w ∷ [])) (put_in w.seg.end (put_in w.seg.start (cuts_of woven)))
-      (cuts_sorted (woven ++ w ∷ [])) (put_sorted w.seg.end (put_in w.seg.start (cuts_of woven)) (put_sorted w.seg.start (cuts_of woven) (cuts_sorted woven)))
-      (λ z. (
-        λ h. to_put w.seg.end z (put_in w.seg.start (cuts_of woven)) tie_end (inside z (subst (λ l. Has l z) more (from_order z (places_of (woven ++ w ∷ [])) h))),
-        λ h. to_cuts (woven ++ w ∷ []) z s (in_new z (⊎_elim (λ e. subst (λ x. Has (places_of woven ++ (w.seg.start ∷ w.seg.end ∷ [])) x) e last) (λ m. start_in z m) (from_put w.seg.end z (put_in w.seg.start (cuts_of woven)) h)))))
+    (cuts_sorted (woven ++ w ∷ [])) (put_sorted w.seg.end (put_in w.seg.start (cuts_of woven)) (put_sorted w.seg.start (cuts_of woven) (cuts_sorted woven)))
+    (λ z. (
+      λ h. to_put w.seg.end z (put_in w.seg.start (cuts_of woven)) tie_end (inside z (subst (λ l. Has l z) more (from_order z (places_of (woven ++ w ∷ [])) h))),
+      λ h. to_cuts (woven ++ w ∷ []) z s (in_new z (⊎_elim (λ e. subst (λ x. Has (places_of woven ++ (w.seg.start ∷ w.seg.end ∷ [])) x) e last) (λ m. start_in z m) (from_put w.seg.end z (put_in w.seg.start (cuts_of woven)) h))),
+    ))

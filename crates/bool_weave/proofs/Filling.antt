@@ -20,17 +20,17 @@ at_replicate (suc n) (suc i) s = at_replicate n i s
 read_filled : (table : List Span) (n i : ℕ) → get_or (table ++ replicate n no_span) i no_span ≡ get_or table i no_span
 read_filled table n i =
     elim (cases_lt i (length table)) [
-      inl within ↦ get_or_append_left table (replicate n no_span) no_span i within
+      | inl within ↦ get_or_append_left table (replicate n no_span) no_span i within
       | inr past ↦ get_or-append_right table (replicate n no_span) (length table) i no_span refl past ∙ at_replicate n (i - length table) no_span ∙ sym (get_or_past table i no_span past)
     ]
 
 read_other : (table : List Span) (s : Span) (i : ℕ) → (i ≡ length table → ⊥) → get_or (table ++ s ∷ []) i no_span ≡ get_or table i no_span
 read_other table s i apart =
     elim (cases_lt i (length table)) [
-      inl within ↦ get_or_append_left table (s ∷ []) no_span i within
+      | inl within ↦ get_or_append_left table (s ∷ []) no_span i within
       | inr past ↦
-        let beyond : length (table ++ s ∷ []) ≤ i = elim (cases_lt (length table) i) [ inl lt ↦ omega (arith, lt, length_push table s) | inr le ↦ absurd (apart (omega (arith, le, past))) ] in
-        get_or_past (table ++ s ∷ []) i no_span beyond ∙ sym (get_or_past table i no_span past)
+          let beyond : length (table ++ s ∷ []) ≤ i = elim (cases_lt (length table) i) [ inl lt ↦ omega (arith, lt, length_push table s) | inr le ↦ absurd (apart (omega (arith, le, past))) ] in
+          get_or_past (table ++ s ∷ []) i no_span beyond ∙ sym (get_or_past table i no_span past)
     ]
 
 pub reaches_none : (k : ℕ) → reaches no_span k ≡ false
@@ -50,20 +50,20 @@ module _ (table mid new : List Span) (woven : List Woven) (j first leaf : ℕ) (
       let whole : mid ≡ table ++ replicate (leaf - length table) no_span = filled ∙ ap (λ l. l ++ replicate (leaf - length table) no_span) (take_all leaf table short) in
       let long : length mid ≡ leaf = omega (arith, ap length whole, length-append table (replicate (leaf - length table) no_span), length-replicate (leaf - length table) no_span, short) in
       let more : spans (take (j + 1) woven) interval (first + i) ≡ (spans (take j woven) interval (first + i) || (eqb w.instance (first + i) && covers w.seg interval)) =
-        list_any_more (λ v. eqb v.instance (first + i) && covers v.seg interval) woven j d within
-        ∙ ap (λ v. spans (take j woven) interval (first + i) || (eqb v.instance (first + i) && covers v.seg interval)) (sym is) in
+      list_any_more (λ v. eqb v.instance (first + i) && covers v.seg interval) woven j d within
+      ∙ ap (λ v. spans (take j woven) interval (first + i) || (eqb v.instance (first + i) && covers v.seg interval)) (sym is) in
       elim (cases_eq i leaf) [
-        inl here ↦
-          let old : spans (take j woven) interval (first + i) ≡ false =
+        | inl here ↦
+            let old : spans (take j woven) interval (first + i) ≡ false =
             sym (before i) ∙ ap (λ x. reaches x k) (get_or_past table i no_span (omega (arith, here, short))) ∙ reaches_none k in
-          let mine : eqb w.instance (first + i) ≡ true = eq-eqb w.instance (first + i) (omega (arith, here, number)) in
-          ap (λ l. at_leaf l k i) pushed ∙ ap (λ x. reaches x k) (get_or_at mid s [] no_span i (omega (arith, long, here))) ∙ span
-          ∙ sym (more ∙ ap (λ b. b || (eqb w.instance (first + i) && covers w.seg interval)) old ∙ ap (λ b. b && covers w.seg interval) mine)
+            let mine : eqb w.instance (first + i) ≡ true = eq-eqb w.instance (first + i) (omega (arith, here, number)) in
+            ap (λ l. at_leaf l k i) pushed ∙ ap (λ x. reaches x k) (get_or_at mid s [] no_span i (omega (arith, long, here))) ∙ span
+            ∙ sym (more ∙ ap (λ b. b || (eqb w.instance (first + i) && covers w.seg interval)) old ∙ ap (λ b. b && covers w.seg interval) mine)
         | inr apart ↦
-          let other : eqb w.instance (first + i) ≡ false = ne_eqb w.instance (first + i) (λ e. apart (omega (arith, e, number))) in
-          ap (λ l. at_leaf l k i) pushed ∙ ap (λ x. reaches x k) (read_other mid s i (λ e. apart (omega (arith, e, long))) ∙ ap (λ l. get_or l i no_span) whole ∙ read_filled table (leaf - length table) i)
-          ∙ before i
-          ∙ sym (more ∙ ap (λ b. spans (take j woven) interval (first + i) || (b && covers w.seg interval)) other ∙ or_none (spans (take j woven) interval (first + i)))
+            let other : eqb w.instance (first + i) ≡ false = ne_eqb w.instance (first + i) (λ e. apart (omega (arith, e, number))) in
+            ap (λ l. at_leaf l k i) pushed ∙ ap (λ x. reaches x k) (read_other mid s i (λ e. apart (omega (arith, e, long))) ∙ ap (λ l. get_or l i no_span) whole ∙ read_filled table (leaf - length table) i)
+            ∙ before i
+            ∙ sym (more ∙ ap (λ b. spans (take j woven) interval (first + i) || (b && covers w.seg interval)) other ∙ or_none (spans (take j woven) interval (first + i)))
       ]
 
   pub bound_more : (bound : ℕ) → length table ≤ leaf → mid ≡ take leaf table ++ replicate (leaf - length table) no_span → new ≡ mid ++ s ∷ []
@@ -71,7 +71,7 @@ module _ (table mid new : List Span) (woven : List Woven) (j first leaf : ℕ) (
   bound_more bound short filled pushed all here =
       let whole : mid ≡ table ++ replicate (leaf - length table) no_span = filled ∙ ap (λ l. l ++ replicate (leaf - length table) no_span) (take_all leaf table short) in
       let middle : All (λ (x : Span). x.to ≤ bound) mid =
-        subst (λ l. All (λ (x : Span). x.to ≤ bound) l) (sym whole) (All-append (λ (x : Span). x.to ≤ bound) table (replicate (leaf - length table) no_span) all (All-replicate (λ (x : Span). x.to ≤ bound) (leaf - length table) no_span (omega arith))) in
+      subst (λ l. All (λ (x : Span). x.to ≤ bound) l) (sym whole) (All-append (λ (x : Span). x.to ≤ bound) table (replicate (leaf - length table) no_span) all (All-replicate (λ (x : Span). x.to ≤ bound) (leaf - length table) no_span (omega arith))) in
       subst (λ l. All (λ (x : Span). x.to ≤ bound) l) (sym pushed) (All-push (λ (x : Span). x.to ≤ bound) mid s middle here)
 
   pub behind_more : (len : ℕ) → AllPairs (λ v w. v.instance < w.instance) woven → j < length woven → w ≡ get_or woven j d → leaf + first ≡ w.instance → len ≡ leaf + 1

@@ -37,13 +37,13 @@ pub put_new : (x : Pos) (xs ys zs : List Pos) (n : ℕ) → ys ≡ xs → zs ≡
     → (nat_lt n (length zs) && is_eq (place_cmp (get_or zs n ray_start) x)) ≡ false → insert xs n x ≡ put_in x xs
 put_new x xs ys zs n e f short before after away =
     let behind : (d : Pos) → n < length xs → is_before (get_or xs n d) x ≡ false =
-      λ d lt. subst (λ l. is_before (get_or l n d) x ≡ false) e (after n d (omega arith) (subst (λ l. n < length l) (sym e) lt)) in
+    λ d lt. subst (λ l. is_before (get_or l n d) x ≡ false) e (after n d (omega arith) (subst (λ l. n < length l) (sym e) lt)) in
     sym (put_at x xs n (subst (λ l. n ≤ length l) e short) (before_in xs ys x n e before) (λ d lt.
-      elim (and_cases (nat_lt n (length zs)) (is_eq (place_cmp (get_or zs n ray_start) x)) away) [
-        inl past ↦ absurd (omega (arith, lt, ap length f, ltb-false n (length zs) past))
-        | inr apart ↦ greater_from _ (behind d lt)
+    elim (and_cases (nat_lt n (length zs)) (is_eq (place_cmp (get_or zs n ray_start) x)) away) [
+      | inl past ↦ absurd (omega (arith, lt, ap length f, ltb-false n (length zs) past))
+      | inr apart ↦ greater_from _ (behind d lt)
           (ap (λ y. is_eq (place_cmp y x)) (get_or_default xs n d ray_start lt) ∙ subst (λ l. is_eq (place_cmp (get_or l n ray_start) x) ≡ false) f apart)
-      ]))
+    ]))
 
 pub searchable : (woven : List Woven) → IsWoven woven → IsSearchable (cuts_of woven)
 searchable woven s = record {
@@ -58,7 +58,7 @@ pub put_searchable : (x : Pos) (ys : List Pos) → IsSearchable ys → IsInRange
 put_searchable x ys s r = record {
   rising = put_sorted x ys s.rising;
   ranges = λ k d lt.
-    ⊎_elim (λ e. subst IsInRange e r) (λ m. let c = contains_from_has ys _ m in subst IsInRange c.2 (s.ranges c.0 _ c.1)) (from_put x (get_or (put_in x ys) k d) ys (has_at (put_in x ys) _ d k lt refl));
+      ⊎_elim (λ e. subst IsInRange e r) (λ m. let c = contains_from_has ys _ m in subst IsInRange c.2 (s.ranges c.0 _ c.1)) (from_put x (get_or (put_in x ys) k d) ys (has_at (put_in x ys) _ d k lt refl));
 }
 
 pub kept_none : IsKept [] (ray_start ∷ ray_end ∷ [])
@@ -101,10 +101,10 @@ two_cuts woven s =
     let a = contains_from_has (cuts_of woven) ray_start (to_cuts woven ray_start s (inl refl)) in
     let b = contains_from_has (cuts_of woven) ray_end (to_cuts woven ray_end s (inr (inl refl))) in
     elim (cases_lt (length (cuts_of woven)) 2) [
-      inl less ↦
-        let one : a.0 ≡ b.0 = omega (arith, a.1, b.1, less) in
-        let same : ray_start ≡ ray_end = sym a.2 ∙ get_or_default (cuts_of woven) a.0 ray_start ray_end a.1 ∙ ap (λ n. get_or (cuts_of woven) n ray_end) one ∙ b.2 in
-        absurd (true≢false (sym (ap is_lt (subst (λ p. place_cmp ray_start p ≡ Less) (sym same) ends_apart)) ∙ ap is_lt (tied_itself place_cmp_total ray_start)))
+      | inl less ↦
+          let one : a.0 ≡ b.0 = omega (arith, a.1, b.1, less) in
+          let same : ray_start ≡ ray_end = sym a.2 ∙ get_or_default (cuts_of woven) a.0 ray_start ray_end a.1 ∙ ap (λ n. get_or (cuts_of woven) n ray_end) one ∙ b.2 in
+          absurd (true≢false (sym (ap is_lt (subst (λ p. place_cmp ray_start p ≡ Less) (sym same) ends_apart)) ∙ ap is_lt (tied_itself place_cmp_total ray_start)))
       | inr enough ↦ enough
     ]
 

@@ -25,16 +25,16 @@ none_before woven z s h p =
     let first = places_good woven ray_start s (inl refl) in
     let less : place_cmp z ray_start ≡ Less = less_from_precedes z ray_start good.spelled first.spelled p in
     elim h [
-      inl e ↦ not_itself place_cmp place_cmp_total z (subst (λ x. place_cmp z x ≡ Less) e less)
+      | inl e ↦ not_itself place_cmp place_cmp_total z (subst (λ x. place_cmp z x ≡ Less) e less)
       | inr m ↦ elim m [
-        inl e ↦ not_both place_cmp place_cmp_total ray_start ray_end ends_apart (subst (λ x. place_cmp x ray_start ≡ Less) (sym e) less)
+        | inl e ↦ not_both place_cmp place_cmp_total ray_start ray_end ends_apart (subst (λ x. place_cmp x ray_start ≡ Less) (sym e) less)
         | inr n ↦
-          let w = end_of_some woven z n in
-          let seg = segment_of woven w.0 s w.1 in
-          elim w.2 [
-            inl e ↦ seg.begun (subst (λ x. Precedes x ray_start) (sym e) p)
-            | inr e ↦ seg.begun (transitive w.0.seg.start w.0.seg.end ray_start (place_from w.0.seg.end seg.end_spelled) (place_from ray_start first.spelled) seg.ordered (subst (λ x. Precedes x ray_start) (sym e) p))
-          ]
+            let w = end_of_some woven z n in
+            let seg = segment_of woven w.0 s w.1 in
+            elim w.2 [
+              | inl e ↦ seg.begun (subst (λ x. Precedes x ray_start) (sym e) p)
+              | inr e ↦ seg.begun (transitive w.0.seg.start w.0.seg.end ray_start (place_from w.0.seg.end seg.end_spelled) (place_from ray_start first.spelled) seg.ordered (subst (λ x. Precedes x ray_start) (sym e) p))
+            ]
       ]
     ]
 
@@ -45,16 +45,16 @@ none_after woven z s h p =
     let last = places_good woven ray_end s (inr (inl refl)) in
     let less : place_cmp ray_end z ≡ Less = less_from_precedes ray_end z last.spelled good.spelled p in
     elim h [
-      inl e ↦ not_both place_cmp place_cmp_total ray_start ray_end ends_apart (subst (λ x. place_cmp ray_end x ≡ Less) (sym e) less)
+      | inl e ↦ not_both place_cmp place_cmp_total ray_start ray_end ends_apart (subst (λ x. place_cmp ray_end x ≡ Less) (sym e) less)
       | inr m ↦ elim m [
-        inl e ↦ not_itself place_cmp place_cmp_total z (subst (λ x. place_cmp x z ≡ Less) e less)
+        | inl e ↦ not_itself place_cmp place_cmp_total z (subst (λ x. place_cmp x z ≡ Less) e less)
         | inr n ↦
-          let w = end_of_some woven z n in
-          let seg = segment_of woven w.0 s w.1 in
-          elim w.2 [
-            inl e ↦ seg.not_ended (transitive ray_end w.0.seg.start w.0.seg.end (place_from w.0.seg.start seg.start_spelled) (place_from w.0.seg.end seg.end_spelled) (subst (λ x. Precedes ray_end x) (sym e) p) seg.ordered)
-            | inr e ↦ seg.not_ended (subst (λ x. Precedes ray_end x) (sym e) p)
-          ]
+            let w = end_of_some woven z n in
+            let seg = segment_of woven w.0 s w.1 in
+            elim w.2 [
+              | inl e ↦ seg.not_ended (transitive ray_end w.0.seg.start w.0.seg.end (place_from w.0.seg.start seg.start_spelled) (place_from w.0.seg.end seg.end_spelled) (subst (λ x. Precedes ray_end x) (sym e) p) seg.ordered)
+              | inr e ↦ seg.not_ended (subst (λ x. Precedes ray_end x) (sym e) p)
+            ]
       ]
     ]
 
@@ -66,20 +66,20 @@ cuts_within woven s =
     let a = contains_from_has (cuts_of woven) ray_start (to_cuts woven ray_start s (inl refl)) in
     let b = contains_from_has (cuts_of woven) ray_end (to_cuts woven ray_end s (inr (inl refl))) in
     let precedes : (i j : ℕ) (d : Pos) → i < j → j < length (cuts_of woven) → Precedes (get_or (cuts_of woven) i d) (get_or (cuts_of woven) j d) =
-      λ i j d lt within. precedes_from _ _ (places_good woven _ s (cut_place woven i d (omega (arith, lt, within)))).spelled (places_good woven _ s (cut_place woven j d within)).spelled
-        (Less-from_sorted place_cmp (cuts_of woven) i j d (cuts_sorted woven) lt within) in
+    λ i j d lt within. precedes_from _ _ (places_good woven _ s (cut_place woven i d (omega (arith, lt, within)))).spelled (places_good woven _ s (cut_place woven j d within)).spelled
+    (Less-from_sorted place_cmp (cuts_of woven) i j d (cuts_sorted woven) lt within) in
     record {
       first = λ d. elim (cases_lt 0 a.0) [
-        inl behind ↦ absurd (none_before woven (get_or (cuts_of woven) 0 ray_start) s (cut_place woven 0 ray_start (omega (arith, behind, a.1)))
-          (subst (λ x. Precedes (get_or (cuts_of woven) 0 ray_start) x) a.2 (precedes 0 a.0 ray_start behind a.1)))
+        | inl behind ↦ absurd (none_before woven (get_or (cuts_of woven) 0 ray_start) s (cut_place woven 0 ray_start (omega (arith, behind, a.1)))
+            (subst (λ x. Precedes (get_or (cuts_of woven) 0 ray_start) x) a.2 (precedes 0 a.0 ray_start behind a.1)))
         | inr here ↦ let e : a.0 ≡ 0 = omega (arith, here) in
-          get_or_default (cuts_of woven) 0 d ray_start (omega (arith, a.1)) ∙ ap (λ n. get_or (cuts_of woven) n ray_start) (sym e) ∙ a.2
+            get_or_default (cuts_of woven) 0 d ray_start (omega (arith, a.1)) ∙ ap (λ n. get_or (cuts_of woven) n ray_start) (sym e) ∙ a.2
       ];
       last = λ d. elim (cases_lt b.0 (length (cuts_of woven) - 1)) [
-        inl before ↦ absurd (none_after woven (get_or (cuts_of woven) (length (cuts_of woven) - 1) ray_end) s (cut_place woven (length (cuts_of woven) - 1) ray_end (omega (arith, b.1)))
-          (subst (λ x. Precedes x (get_or (cuts_of woven) (length (cuts_of woven) - 1) ray_end)) b.2 (precedes b.0 (length (cuts_of woven) - 1) ray_end before (omega (arith, b.1)))))
+        | inl before ↦ absurd (none_after woven (get_or (cuts_of woven) (length (cuts_of woven) - 1) ray_end) s (cut_place woven (length (cuts_of woven) - 1) ray_end (omega (arith, b.1)))
+            (subst (λ x. Precedes x (get_or (cuts_of woven) (length (cuts_of woven) - 1) ray_end)) b.2 (precedes b.0 (length (cuts_of woven) - 1) ray_end before (omega (arith, b.1)))))
         | inr here ↦ let e : length (cuts_of woven) - 1 ≡ b.0 = omega (arith, here, b.1) in
-          get_or_default (cuts_of woven) (length (cuts_of woven) - 1) d ray_end (omega (arith, b.1)) ∙ ap (λ n. get_or (cuts_of woven) n ray_end) e ∙ b.2
+            get_or_default (cuts_of woven) (length (cuts_of woven) - 1) d ray_end (omega (arith, b.1)) ∙ ap (λ n. get_or (cuts_of woven) n ray_end) e ∙ b.2
       ];
     }
 
@@ -92,5 +92,6 @@ before_not x y p q h = false_from_ne_true (is_before x y) (λ is. h ((places_are
 pub covers_by_places : CoversByPlaces
 covers_by_places seg interval a b c d = (
   λ is. let parts = and_parts (not (is_before interval.start seg.start)) (not (is_before seg.end interval.end)) is in
-    (not_before interval.start seg.start c a (not-true _ parts.0), not_before seg.end interval.end b d (not-true _ parts.1)),
-  λ h. and_from _ _ (not_from_false _ (before_not interval.start seg.start c a h.0)) (not_from_false _ (before_not seg.end interval.end b d h.1)))
+      (not_before interval.start seg.start c a (not-true _ parts.0), not_before seg.end interval.end b d (not-true _ parts.1)),
+  λ h. and_from _ _ (not_from_false _ (before_not interval.start seg.start c a h.0)) (not_from_false _ (before_not seg.end interval.end b d h.1)),
+)

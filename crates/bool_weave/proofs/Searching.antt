@@ -24,7 +24,7 @@ pub before_up : (xs : List Pos) (x : Pos) (m : ℕ) (d : Pos) → IsStrictlySort
 before_up xs x m d s within h k e lt =
     let here : is_before (get_or xs m e) x ≡ true = at_default xs x m d e true within h in
     elim (cases_lt k m) [
-      inl below ↦ ap is_lt (place_cmp_total.trans _ _ x (Less-from_sorted place_cmp xs k m e s below within) (less_from _ here))
+      | inl below ↦ ap is_lt (place_cmp_total.trans _ _ x (Less-from_sorted place_cmp xs k m e s below within) (less_from _ here))
       | inr above ↦ let same : k ≡ m = omega (arith, lt, above) in ap (λ n. is_before (get_or xs n e) x) same ∙ here
     ]
 
@@ -34,8 +34,8 @@ pub after_down : (xs : List Pos) (x : Pos) (m : ℕ) (d : Pos) → IsStrictlySor
 after_down xs x m d s within h k e le lt =
     let here : is_before (get_or xs m e) x ≡ false = at_default xs x m d e false within h in
     elim (cases_lt m k) [
-      inl below ↦ elim (cases_Bool (is_before (get_or xs k e) x)) [
-        inl is ↦ absurd (true≢false (sym (ap is_lt (place_cmp_total.trans _ _ x (Less-from_sorted place_cmp xs m k e s below lt) (less_from _ is))) ∙ here))
+      | inl below ↦ elim (cases_Bool (is_before (get_or xs k e) x)) [
+        | inl is ↦ absurd (true≢false (sym (ap is_lt (place_cmp_total.trans _ _ x (Less-from_sorted place_cmp xs m k e s below lt) (less_from _ is))) ∙ here))
         | inr not_so ↦ not_so
       ]
       | inr above ↦ let same : k ≡ m = omega (arith, le, above) in ap (λ n. is_before (get_or xs n e) x) same ∙ here
@@ -48,9 +48,9 @@ pub number_is : (xs : List Pos) (x : Pos) (n : ℕ) → IsStrictlySortedBy place
     → n ≡ c.0
 number_is xs x n s c before after =
     elim (cases_order n c.0) [
-      inl same ↦ same
+      | inl same ↦ same
       | inr apart ↦ elim apart [
-        inl below ↦ absurd (true≢false (sym (ap is_lt (subst (λ y. place_cmp (get_or xs n x) y ≡ Less) c.2 (Less-from_sorted place_cmp xs n c.0 x s below c.1))) ∙ after n x (omega arith) (omega (arith, below, c.1))))
+        | inl below ↦ absurd (true≢false (sym (ap is_lt (subst (λ y. place_cmp (get_or xs n x) y ≡ Less) c.2 (Less-from_sorted place_cmp xs n c.0 x s below c.1))) ∙ after n x (omega arith) (omega (arith, below, c.1))))
         | inr above ↦ absurd (not_itself place_cmp place_cmp_total x (subst (λ y. place_cmp y x ≡ Less) c.2 (less_from _ (before c.0 x above))))
       ]
     ]
@@ -61,10 +61,10 @@ pub later_than : (xs : List Pos) (x : Pos) (k : ℕ) (d : Pos) → IsStrictlySor
 later_than xs x k d s c lt =
     let there : get_or xs c.0 d ≡ x = get_or_default xs c.0 d x c.1 ∙ c.2 in
     elim (cases_lt k c.0) [
-      inl below ↦ lt-ltb k c.0 below ∙ elim (cases_lt (k + 1) c.0) [
-        inl further ↦ sym (ap (λ r. not (is_lt r)) (turned (get_or xs (k + 1) d) x Less (subst (λ y. place_cmp (get_or xs (k + 1) d) y ≡ Less) there (Less-from_sorted place_cmp xs (k + 1) c.0 d s further c.1))))
+      | inl below ↦ lt-ltb k c.0 below ∙ elim (cases_lt (k + 1) c.0) [
+        | inl further ↦ sym (ap (λ r. not (is_lt r)) (turned (get_or xs (k + 1) d) x Less (subst (λ y. place_cmp (get_or xs (k + 1) d) y ≡ Less) there (Less-from_sorted place_cmp xs (k + 1) c.0 d s further c.1))))
         | inr here ↦ let same : k + 1 ≡ c.0 = omega (arith, below, here) in
-          sym (ap (λ y. not (is_before x y)) (ap (λ n. get_or xs n d) same ∙ there) ∙ ap (λ r. not (is_lt r)) (tied_itself place_cmp_total x))
+            sym (ap (λ y. not (is_before x y)) (ap (λ n. get_or xs n d) same ∙ there) ∙ ap (λ r. not (is_lt r)) (tied_itself place_cmp_total x))
       ]
       | inr above ↦ le-ltb k c.0 above ∙ sym (ap (λ r. not (is_lt r)) (subst (λ y. place_cmp y (get_or xs (k + 1) d) ≡ Less) there (Less-from_sorted place_cmp xs c.0 (k + 1) d s (omega (arith, above)) lt)))
     ]
@@ -76,7 +76,7 @@ pub not_before_number : (xs : List Pos) (x : Pos) (k n : ℕ) (d : Pos) → k < 
     → nat_le n k ≡ not (is_before (get_or xs k d) x)
 not_before_number xs x k n d lt before after =
     elim (cases_lt k n) [
-      inl below ↦ lt-leb n k below ∙ sym (ap not (before k d below))
+      | inl below ↦ lt-leb n k below ∙ sym (ap not (before k d below))
       | inr above ↦ le-leb n k above ∙ sym (ap not (after k d above lt))
     ]
 

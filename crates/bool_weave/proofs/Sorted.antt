@@ -63,7 +63,8 @@ module _ {X : Type 0} (R : X → X → Ordering) (o : IsTotalOrder R) where
       let above : AllByRecursion (λ z. R x z ≡ Less) ys = subst (λ w. AllByRecursion (λ z. R w z ≡ Less) ys) (sym e) t.0 in
       let rest : xs ≡ ys = same_members xs ys s.1 t.1 (λ z. (
         λ m. tail_of x xs ys z s.0 m (subst (λ w. Has (w ∷ ys) z) (sym e) ((h z).0 (inr m))),
-        λ m. tail_of x ys xs z above m ((h z).1 (inr m)))) in
+        λ m. tail_of x ys xs z above m ((h z).1 (inr m)),
+      )) in
       ap (λ w. w ∷ xs) e ∙ ap (λ l. y ∷ l) rest
 
   pub sorted_from_pairs : (xs : List X) → AllPairs (λ x y. R x y ≡ Less) xs → IsStrictlySortedBy R xs
@@ -71,7 +72,8 @@ module _ {X : Type 0} (R : X → X → Ordering) (o : IsTotalOrder R) where
   sorted_from_pairs [] p = tt
   sorted_from_pairs (x ∷ xs) p = (
     all_from (λ y. R x y ≡ Less) xs (λ y h. let c = contains_from_has xs y h in subst (λ w. R x w ≡ Less) c.2 (p zero (suc c.0) y (omega arith) (omega (arith, c.1)))),
-    sorted_from_pairs xs (λ i j d lt within. p (suc i) (suc j) d (omega (arith, lt)) (omega (arith, within))))
+    sorted_from_pairs xs (λ i j d lt within. p (suc i) (suc j) d (omega (arith, lt)) (omega (arith, within))),
+  )
 
 pub has_append_left : {X : Type 0} (xs ys : List X) (z : X) → Has xs z → Has (xs ++ ys) z
 has_append_left [] ys z h = absurd h

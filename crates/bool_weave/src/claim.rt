@@ -107,12 +107,7 @@ fn row_of(
 }
 
 /// Which intervals a region claims, whose tree has the instance `first + i` as its leaf `i`.
-pub fn claims(
-    alloc: Global,
-    weave: &Weave,
-    tree: &MaskTree,
-    first: u32,
-) -> Result<ClaimRow, Memory>
+pub fn claims(alloc: Global, weave: &Weave, tree: &MaskTree, first: u32) -> Result<ClaimRow, Memory>
     ensures { IfOk result (λ row. row ≡ claims_of weave.now tree.now first) }
 {
     let cuts = weave.cuts();

@@ -116,10 +116,7 @@ fn cuts_in_order(rt: HostRuntime) -> Result<(), Fail> {
         (&[], &[0, 1_048_576]),
         (&[(0, 5, 15)], &[0, 5, 15, 1_048_576]),
         (&[(0, 5, 15), (1, 15, 25)], &[0, 5, 15, 25, 1_048_576]),
-        (
-            &[(2, 5, 15), (7, 10, 20)],
-            &[0, 5, 10, 15, 20, 1_048_576],
-        ),
+        (&[(2, 5, 15), (7, 10, 20)], &[0, 5, 10, 15, 20, 1_048_576]),
         (
             &[(0, 30, 40), (1, 10, 20), (3, 20, 30)],
             &[0, 10, 20, 30, 40, 1_048_576],
@@ -214,7 +211,14 @@ fn nodes_are_kept(rt: HostRuntime) -> Result<(), Fail> {
 #[test]
 fn claims_of_two_leaves(rt: HostRuntime) -> Result<(), Fail> {
     let (first, second) = (Some(0), Some(1));
-    let cases: [(&[(u32, u32, u32)], Op, Option<u32>, Option<u32>, u32, &[bool]); 10] = [
+    let cases: [(
+        &[(u32, u32, u32)],
+        Op,
+        Option<u32>,
+        Option<u32>,
+        u32,
+        &[bool],
+    ); 10] = [
         // Two boxes that touch, as one union.
         (
             &[(0, 5, 15), (1, 15, 25)],
@@ -267,22 +271,8 @@ fn claims_of_two_leaves(rt: HostRuntime) -> Result<(), Fail> {
             &[false, false, false, true, false, false, false],
         ),
         // A leaf that is never true.
-        (
-            &[(0, 5, 15)],
-            Op::U,
-            None,
-            first,
-            0,
-            &[false, true, false],
-        ),
-        (
-            &[(0, 5, 15)],
-            Op::N,
-            None,
-            first,
-            0,
-            &[false, false, false],
-        ),
+        (&[(0, 5, 15)], Op::U, None, first, 0, &[false, true, false]),
+        (&[(0, 5, 15)], Op::N, None, first, 0, &[false, false, false]),
         // A ray that begins inside, and one that ends there.
         (
             &[(0, 0, 15), (1, 10, 1_048_576)],

@@ -231,7 +231,6 @@ next_absent ((j, p) ∷ ys) k o rest a b h absent =
     let away = renamed_apart a b k j apart (absent_later b ys k o rest head.1) head.0 in
     rw (other (new_name a b k) (new_name a b j) away) (next_absent ys k o rest a b (IsDistinct-tail same_name j (keys_of (ys ++ (k, o) ∷ rest)) h) head.1)
 
-
 -- ---- lengths of the lists that edits make
 pub length_kept : (es new : Entries) (a : Name) (o : Parts) (depths : List ℕ) → length depths ≡ length es → new ≡ replaced es a o → length depths ≡ length new
 length_kept es new a o depths len is = let e : length new ≡ length (replaced es a o) = ap (length {A = Name × Parts}) is in omega (arith, e, length-replaced es a o, len)

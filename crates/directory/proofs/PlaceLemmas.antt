@@ -135,7 +135,6 @@ over_members f g (Some o) h = body_members f g o.body h
 pub over_same : (f g : Name → ℕ) → ((x : Name) → f x ≡ g x) → (o : Option Parts) → depth_over o f ≡ depth_over o g
 over_same f g h o = over_members f g o (λ m _. h m)
 
-
 pub below_small : (es : Entries) (below : List ℕ) → below ≡ map (depth_within unbounded es) (keys_of es) → (a : Name) → depth_at below (keys_of es) a < 100
 below_small es below e a =
     let is : depth_at below (keys_of es) a ≡ depth_within unbounded es a = ap (λ (b : List ℕ). depth_at b (keys_of es) a) e ∙ depth_at_known (depth_within unbounded es) es a (missing_zero unbounded es a) in

@@ -56,7 +56,7 @@ references_next es a i before here lt is at =
     let p = some_at es i lt in
     let f : Name × Parts → ℕ = λ e. count_by (λ n. same_name n a) (members_of (Some e.1)) in
     let more : references_of (take (suc i) es) a ≡ references_of (take i es) a + sum_by f ((p.0, p.1) ∷ []) =
-      ap (sum_by f) (take_one_more es i (p.0, p.1) p.2) ∙ sum_by-append f (take i es) ((p.0, p.1) ∷ []) in
+    ap (sum_by f) (take_one_more es i (p.0, p.1) p.2) ∙ sum_by-append f (take i es) ((p.0, p.1) ∷ []) in
     let one : sum_by f ((p.0, p.1) ∷ []) ≡ f (p.0, p.1) + sum_by f [] = sum_by-cons f (p.0, p.1) [] in
     let none : sum_by f [] ≡ 0 = refl in
     rw add-one (omega (arith, is, more, one, none, at p.0 p.1 p.2))

@@ -80,7 +80,8 @@ fn same_node(one: &CombNode, other: &CombNode) -> bool
     ensures { result ≡ true → name_of_node one.now ≡ name_of_node other.now }
 {
     match (one, other) {
-        (CombNode::Leaf { name: first, .. }, CombNode::Leaf { name: second, .. }) => *first == *second,
+        (CombNode::Leaf { name: first, .. }, CombNode::Leaf { name: second, .. }) => *first
+            == *second,
         (CombNode::Leaf { .. }, _) => false,
         (_, CombNode::Leaf { .. }) => false,
         _ => true,
@@ -108,7 +109,10 @@ fn same_members(one: &Object, other: &Object) -> bool
 {
     match (one.body(), other.body()) {
         (Body::Solid(_), Body::Solid(_)) => true,
-        (Body::Comb { tree: first, .. }, Body::Comb { tree: second, .. }) => same_names(first.nodes(), second.nodes()),
+        (Body::Comb { tree: first, .. }, Body::Comb { tree: second, .. }) => same_names(
+            first.nodes(),
+            second.nodes(),
+        ),
         _ => false,
     }
 }

@@ -59,7 +59,13 @@ fn add_chain(alloc: Global, directory: &mut Directory, byte: u8, last: u8) -> Re
     requires { byte + 16 < 256 }
 {
     for step in 0..15u8 {
-        add(alloc, directory, byte + step, byte + step + 1, byte + step + 1)??;
+        add(
+            alloc,
+            directory,
+            byte + step,
+            byte + step + 1,
+            byte + step + 1,
+        )??;
     }
     add(alloc, directory, byte + 15, last, last)??;
     Ok(())

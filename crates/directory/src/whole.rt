@@ -68,7 +68,7 @@ fn drop_all(objects: &mut IndexMap<Name, Object>, gone: &HashSet<Name>)
     objects.retain(
         |name: &Name, object: &mut Object| -> bool
             ensures { (result ≡ not (contains same_name gone.entry.now name.now)) × (object.new ≡ object.old) }
-            { !has(gone, name) },
+        { !has(gone, name) },
     );
 }
 

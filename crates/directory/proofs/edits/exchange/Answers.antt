@@ -26,7 +26,7 @@ returns-in-Some-clause-answer c =
     let depths : c.resettle.new.depths.items ≡ known_depths (replaced c.args.objects.now.entries c.args.name.now c.args.object) = c.resettle.ensures ∙ ap known_depths c.set_object-old.ensures.new in
     let is : judged_by (greatest_of c.resettle.new.depths.items) c.args.name.now ≡ Some c.in-Some.fault = search rules in
     let back : c.set_object-refused.new.objects.entries ≡ c.args.objects.now.entries =
-      c.set_object-refused.ensures.new
-      ∙ ap (λ (es : Entries). replaced es c.args.name.now c.set_object-old.result) c.set_object-old.ensures.new
-      ∙ replace_back c.args.objects.now.entries c.args.name.now c.args.object c.set_object-old.result c.set_object-old.ensures.old in
+    c.set_object-refused.ensures.new
+    ∙ ap (λ (es : Entries). replaced es c.args.name.now c.set_object-old.result) c.set_object-old.ensures.new
+    ∙ replace_back c.args.objects.now.entries c.args.name.now c.args.object c.set_object-old.result c.set_object-old.ensures.old in
     (cause_of (judged (replaced c.args.objects.now.entries c.args.name.now c.args.object) c.args.name.now) c.in-Some.fault (sym (ap (λ ds. judged_by (greatest_of ds) c.args.name.now) depths) ∙ is), back)

@@ -6,9 +6,11 @@ use Rattle.directory.proofs.edits.replace_pair.Goals as goal
 
 pub returns-then-keeps_names-clause-answer : goal.returns-then-keeps_names-clause-answer
 returns-then-keeps_names-clause-answer c =
-    let keeps : KeepsNames c.args.objects.now.entries c.args.name.now c.args.object = c.keeps_names.ensures c.if-keeps_names.true in
-    (sym (replace_rest c.args.objects.now.entries c.args.name.now c.args.object (sym c.contains_key.ensures ∙ c.if-not-contains_key.false))
-     ∙ same_judged c.args.objects.now.entries c.args.name.now c.args.object keeps c.requires.sound, c.set_object-old.ensures.new)
+    let keeps : KeepsNames c.args.objects.now.entries c.args.name.now c.args.object = c.keeps_names.ensures c.if-keeps_names.true in (
+      sym (replace_rest c.args.objects.now.entries c.args.name.now c.args.object (sym c.contains_key.ensures ∙ c.if-not-contains_key.false))
+          ∙ same_judged c.args.objects.now.entries c.args.name.now c.args.object keeps c.requires.sound,
+      c.set_object-old.ensures.new,
+    )
 
 pub returns-then-keeps_names-clause-known : goal.returns-then-keeps_names-clause-known
 returns-then-keeps_names-clause-known c =

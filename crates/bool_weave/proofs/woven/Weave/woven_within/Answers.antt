@@ -14,11 +14,11 @@ pub returns-then-start-end-clause-woven : goal.returns-then-start-end-clause-wov
 returns-then-start-end-clause-woven c =
     ap (λ l. take (c.count_below-end.result - c.count_below-start.result) (drop c.count_below-start.result l)) c.deref-then-start-end.ensures.value
     ∙ within_part c.self.inside.woven.items c.args.from c.args.to c.count_below-start.result c.count_below-end.result c.if-start-end.true
-      (subst (λ l. IsEndOf c.args.from l c.count_below-start.result) c.deref.ensures.value c.count_below-start.ensures.parted) (subst (λ l. IsEndOf c.args.to l c.count_below-end.result) c.deref-2.ensures.value c.count_below-end.ensures.parted)
+    (subst (λ l. IsEndOf c.args.from l c.count_below-start.result) c.deref.ensures.value c.count_below-start.ensures.parted) (subst (λ l. IsEndOf c.args.to l c.count_below-end.result) c.deref-2.ensures.value c.count_below-end.ensures.parted)
     ∙ ap (filter (is_from_to c.args.from c.args.to)) c.self.view_is
 
 pub returns-else-start-end-clause-woven : goal.returns-else-start-end-clause-woven
 returns-else-start-end-clause-woven c =
     within_none c.self.inside.woven.items c.args.from c.args.to c.count_below-start.result c.count_below-end.result c.if-start-end.false
-      (subst (λ l. IsEndOf c.args.from l c.count_below-start.result) c.deref.ensures.value c.count_below-start.ensures.parted) (subst (λ l. IsEndOf c.args.to l c.count_below-end.result) c.deref-2.ensures.value c.count_below-end.ensures.parted)
+    (subst (λ l. IsEndOf c.args.from l c.count_below-start.result) c.deref.ensures.value c.count_below-start.ensures.parted) (subst (λ l. IsEndOf c.args.to l c.count_below-end.result) c.deref-2.ensures.value c.count_below-end.ensures.parted)
     ∙ ap (filter (is_from_to c.args.from c.args.to)) c.self.view_is

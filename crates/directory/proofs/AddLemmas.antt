@@ -1,14 +1,13 @@
-use Rattle.std.proofs.Common.{◌≡◌, ◌≢◌, ◌⊎◌, inl, inr, ◌<◌, ◌≤◌, ◌+◌, ◌-◌, ◌∙◌, ℕ, zero, suc, List, [], ◌∷◌, ◌++◌, map, take, length, refl, ap, sym, subst, arith, Option, None, Some, length-append}
+use Rattle.std.proofs.Common.{◌≡◌, inl, inr, ◌≤◌, ◌-◌, ℕ, zero, suc, List, [], ◌∷◌, ◌++◌, map, take, length, ap, sym, subst, arith, Option, None, Some, length-append}
 use Rattle.std.specs.Prelude.{slice_get, slice_index}
 use Rattle.std.specs.Map.{keys_of}
 use Rattle.std.proofs.lemmas.List.{length-take-le}
 use Rattle.name_core.specs.declared.name.Name.{Name}
-use Rattle.name_core.specs.Same.{same_name}
 use Rattle.object_set.specs.Objects.{Parts}
 use Rattle.directory.specs.Walks.{Entries, object_of, depth_over, depth_within, unbounded}
 use Rattle.directory.specs.Edits.{appended}
 use Rattle.directory.specs.Places.{AreBelow, known_depths}
-use Rattle.directory.proofs.WalkLemmas.{name_tells, same_or_apart, missing_zero}
+use Rattle.directory.proofs.WalkLemmas.{same_or_apart, missing_zero}
 use Rattle.directory.proofs.EditLemmas.{push_other}
 use Rattle.directory.proofs.SweepLemmas.{over_grows, known_length}
 

@@ -1,6 +1,6 @@
 use Rattle.std.proofs.Common.{◌≡◌, ◌≢◌, ◌⊎◌, inl, inr, ◌<◌, ◌≤◌, ◌+◌, ◌∙◌, ℕ, zero, suc, max, Bool, true, false, cond, List, [], ◌∷◌, ◌++◌, map, length, refl, ap, sym, subst, arith, Option, None, Some, IsSome}
 use Rattle.std.specs.Prelude.{nat_eq, nat_le, nat_lt, position, remove, is_some}
-use Rattle.std.specs.List.{Contains, IsDistinct, count_by, sum_by, position_or_len}
+use Rattle.std.specs.List.{Contains, IsDistinct, count_by, position_or_len}
 use Rattle.std.specs.Map.{keys_of}
 use Rattle.std.proofs.lemmas.List.Sums.{sum_by-cons}
 use Rattle.std.proofs.lemmas.Bool.{lt-leb, le-leb}
@@ -11,14 +11,13 @@ use Rattle.name_core.specs.Same.{same_name}
 use Rattle.object_set.specs.Objects.{Parts, member_names}
 use Rattle.object_set.specs.declared.object.Body.{Body}
 use Rattle.object_set.specs.declared.object.Body.TheVariants.{Solid, Comb}
-use Rattle.directory.specs.declared.fault.DirFault.{DirFault}
 use Rattle.directory.specs.declared.fault.DirFault.TheVariants.{Cycle, Deep}
 use Rattle.directory.specs.Walks.{Entries, members_of, object_of, Refers, body_weight, comb_weight, IsSound, greatest_of, body_depth, depth_over, depth_within, most_depth, unbounded, deepest}
 use Rattle.directory.specs.Edits.{appended, replaced, removed, judged_by, judged, references_of}
-use Rattle.directory.specs.Alone.{IsAlone, GoesAlone, HaveSameMembers, KeepsNames}
+use Rattle.directory.specs.Alone.{IsAlone, GoesAlone, KeepsNames}
 use Rattle.directory.specs.Places.{depth_at, depth_of_object, known_depths}
 use Rattle.directory.proofs.WalkLemmas.{name_tells, same_or_apart, depth_bounds, depth_met, missing_zero, greatest_bound}
-use Rattle.directory.proofs.PlaceLemmas.{map_same, over_members, over_same, depth_at_known, look_here, below_small, past_head}
+use Rattle.directory.proofs.PlaceLemmas.{map_same, over_members, over_same, depth_at_known, look_here, past_head}
 use Rattle.directory.proofs.EditLemmas.{push_other, replace_there, replace_other, none_left}
 use Rattle.directory.proofs.TellLemmas.{first_holds, first_past}
 

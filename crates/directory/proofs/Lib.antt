@@ -2,6 +2,7 @@ pub mod AddLemmas
 pub mod AloneLemmas
 pub mod EditLemmas
 pub mod PlaceLemmas
+pub mod SmallTrees
 pub mod SweepLemmas
 pub mod TellLemmas
 pub mod WalkLemmas

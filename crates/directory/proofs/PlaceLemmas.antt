@@ -1,13 +1,12 @@
-use Rattle.std.proofs.Common.{◌≡◌, ◌≢◌, ◌<◌, ◌≤◌, ◌+◌, ◌∙◌, ℕ, zero, suc, max, List, [], ◌∷◌, ◌++◌, map, take, length, get_or, refl, ap, sym, subst, arith, append_assoc, Option, None, Some, true, false, cond, Bool, inl, inr, add-one, true≢false}
-use Rattle.std.specs.List.{Contains, position_or_len, AllByRecursion, IsDistinct, flat_map}
-use Rattle.std.specs.Map.{keys_of, values_of}
+use Rattle.std.proofs.Common.{◌≡◌, ◌≢◌, ◌<◌, ◌+◌, ◌∙◌, ℕ, zero, suc, max, List, [], ◌∷◌, ◌++◌, map, take, length, get_or, refl, ap, sym, arith, append_assoc, Option, None, Some, true, false, cond, Bool, inl, inr, add-one, true≢false}
+use Rattle.std.specs.List.{Contains, position_or_len, AllByRecursion}
+use Rattle.std.specs.Map.{keys_of}
 use Rattle.std.specs.Prelude.{nat_lt, slice_index}
 use Rattle.std.specs.Option.{option_map_or}
 use Rattle.std.proofs.lemmas.List.{get_or_past, length-map, map-append}
 use Rattle.std.proofs.lemmas.List.Concat.{flat_map-cons}
 use Rattle.std.proofs.Math.Seq.{take-length}
 use borrow.Author.Tests.{ltb-false}
-use Rattle.std.proofs.lemmas.Map.Keys.{IsDistinct-head, IsDistinct-tail}
 use Rattle.tree_forms.specs.declared.Op.{Op}
 use Rattle.tree_forms.specs.declared.Op.TheVariants as op
 use Rattle.tree_forms.specs.Trees.{Tree, Leaf, Join, leaves, postfix}
@@ -20,7 +19,7 @@ use Rattle.object_set.specs.Objects.{Parts, member_names}
 use Rattle.object_set.specs.declared.object.Body.{Body}
 use Rattle.object_set.specs.declared.object.Body.TheVariants.{Solid, Comb}
 use Rattle.directory.specs.Walks.{Entries, members_of, object_of, greatest_of, body_weight, body_depth, depth_over, depth_within, unbounded}
-use Rattle.directory.specs.Places.{name_of_node, node_names, depth_at, depth_of_object}
+use Rattle.directory.specs.Places.{name_of_node, node_names, depth_at}
 use Rattle.directory.proofs.WalkLemmas.{name_tells, depth_at_most, missing_zero, greatest_bound}
 
 -- ---- the nodes of a tree name its members

@@ -1,4 +1,4 @@
-use Rattle.std.proofs.Common.{◌≡◌, ◌≢◌, ◌⊎◌, inl, inr, ◌<◌, ◌≤◌, ◌+◌, ◌∙◌, ℕ, zero, suc, min, Bool, true, false, List, [], ◌∷◌, ◌++◌, map, length, refl, ap, sym, subst, arith, append_assoc, Option, None, Some}
+use Rattle.std.proofs.Common.{◌≡◌, ◌≢◌, ◌⊎◌, inl, inr, ◌<◌, ◌≤◌, ◌+◌, ◌∙◌, ℕ, zero, suc, min, Bool, true, false, List, [], ◌∷◌, ◌++◌, map, refl, ap, sym, subst, arith, append_assoc, Option, None, Some}
 use Rattle.std.specs.List.{Contains}
 use Rattle.std.specs.Map.{keys_of}
 use Rattle.std.proofs.lemmas.Bool.{cases_lt}
@@ -7,7 +7,7 @@ use Rattle.name_core.specs.Same.{same_name, same_name_decides}
 use Rattle.object_set.specs.Objects.{Parts, member_names}
 use Rattle.object_set.specs.declared.object.Body.{Body}
 use Rattle.object_set.specs.declared.object.Body.TheVariants.{Solid, Comb}
-use Rattle.directory.specs.Walks.{Entries, members_of, body_weight, comb_weight, object_of, Refers, IsWalk, combinations, HasCycleThrough, IsDepth, IsGreatestDepth, IsSound, greatest_of, body_depth, depth_over, depth_within, most_depth, most_objects, unbounded}
+use Rattle.directory.specs.Walks.{Entries, members_of, body_weight, comb_weight, object_of, Refers, IsWalk, combinations, HasCycleThrough, IsDepth, IsGreatestDepth, IsSound, greatest_of, body_depth, depth_over, depth_within, most_depth, unbounded}
 
 -- ---- names
 tells_by : (b : Bool) (x y : Name) → ((b ≡ true → x ≡ y) × (x ≡ y → b ≡ true)) → ((b ≡ true) × (x ≡ y)) ⊎ ((b ≡ false) × (x ≢ y))

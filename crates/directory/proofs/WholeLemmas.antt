@@ -1,6 +1,6 @@
-use Rattle.std.proofs.Common.{◌≡◌, ◌≢◌, ◌⊎◌, inl, inr, ◌<◌, ◌≤◌, ◌+◌, ◌*◌, ◌∙◌, ℕ, zero, suc, Bool, true, false, cond, List, [], ◌∷◌, ◌++◌, map, take, drop, filter, length, refl, ap, sym, subst, arith, add-one, Option, None, Some, Result, Ok, Err, OnOk, OnErr}
+use Rattle.std.proofs.Common.{◌≡◌, ◌≢◌, ◌⊎◌, inl, inr, ◌<◌, ◌≤◌, ◌+◌, ◌∙◌, ℕ, zero, suc, Bool, true, false, cond, List, [], ◌∷◌, ◌++◌, map, take, drop, filter, length, refl, ap, sym, subst, arith, add-one, None, Some, Result, Ok, Err, OnOk, OnErr}
 use Rattle.std.specs.Prelude.{slice_get, not}
-use Rattle.std.specs.List.{count_by, sum_by, list_any, Contains, IsDistinct}
+use Rattle.std.specs.List.{count_by, sum_by, list_any, IsDistinct}
 use Rattle.std.specs.Map.{keys_of}
 use Rattle.std.proofs.lemmas.List.Sums.{sum_by-append, sum_by-cons, length-filter}
 use Rattle.std.proofs.lemmas.Map.Keys.{IsDistinct-head, IsDistinct-tail}
@@ -13,8 +13,8 @@ use Rattle.comb_tree.specs.declared.node.CombNode.{CombNode}
 use Rattle.region_attr.specs.declared.attr.Attr.{Attr}
 use Rattle.object_set.specs.Objects.{Parts, member_names}
 use Rattle.object_set.specs.declared.object.Body.{Body}
-use Rattle.object_set.specs.declared.object.Body.TheVariants.{Solid, Comb}
-use Rattle.directory.specs.Walks.{Entries, object_of, members_of, comb_weight, IsSound}
+use Rattle.object_set.specs.declared.object.Body.TheVariants.{Comb}
+use Rattle.directory.specs.Walks.{Entries, object_of, members_of, IsSound}
 use Rattle.directory.specs.Edits.{references_of, without_all}
 use Rattle.directory.proofs.WalkLemmas.{name_tells}
 use mathlib.Core.Path.{fun_ext}

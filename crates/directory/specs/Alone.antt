@@ -1,5 +1,5 @@
 -- Where the kept depths of the other objects stay as they are, in the words of the code.
-use Rattle.std.specs.Prelude.{◌≡◌, ◌⊎◌, ℕ, Some}
+use Rattle.std.specs.Prelude.{◌≡◌, ◌⊎◌, Some}
 use Rattle.name_core.specs.declared.name.Name.{Name}
 use Rattle.object_set.specs.Objects.{Parts, member_names}
 use Rattle.directory.specs.Walks.{Entries, object_of, Refers, body_weight, comb_weight}

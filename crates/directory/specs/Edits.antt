@@ -1,5 +1,5 @@
 -- What each edit makes of the list, and the first fault for which it is refused.
-use Rattle.std.specs.Prelude.{◌≡◌, ◌<◌, ℕ, nat_le, nat_lt, List, [], ◌∷◌, ◌++◌, length, map, filter, not, Bool, true, false, cond, Option, None, Some, is_some, Result, Ok, Err}
+use Rattle.std.specs.Prelude.{◌≡◌, ◌<◌, ℕ, nat_le, nat_lt, List, [], ◌∷◌, ◌++◌, length, map, filter, not, Bool, cond, Option, None, Some, is_some, Result, Ok, Err}
 use Rattle.std.specs.List.{list_any, count_by, sum_by}
 use Rattle.std.specs.Map.{set_value, remove_entry}
 use Rattle.name_core.specs.declared.name.Name.{Name}

@@ -1,5 +1,5 @@
 -- Small directories, and what the definitions say of them. A name is one byte.
-use Rattle.std.specs.Prelude.{◌≡◌, ℕ, List, [], ◌∷◌, Some, None, refl}
+use Rattle.std.specs.Prelude.{◌≡◌, ℕ, [], ◌∷◌, Some, None, refl}
 use Rattle.std.proofs.Common.{lit<}
 use Rattle.tree_forms.specs.declared.Op.TheVariants.{U}
 use Rattle.tree_forms.specs.Trees.{Tree, Leaf, Join}

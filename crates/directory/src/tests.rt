@@ -1,4 +1,6 @@
 ghost use Rattle.std.specs.Prelude.{◌<◌, ◌+◌, IfOk};
+ghost use Rattle.lattice_core.specs.declared.limit.TheConstants.{COORD};
+ghost use Rattle.lattice_core.specs.Limits.{IsWithin};
 ghost use Rattle.region_attr.specs.Attrs.{group_attr};
 ghost use Rattle.object_set.specs.Objects.{IsComb};
 
@@ -23,7 +25,9 @@ fn ball(alloc: Global) -> Result<Object, Fail> {
     Ok(Object::of_solid(alloc, Solid::Sphere(sphere)))
 }
 
-fn leaf(name: Name) -> ListEntry {
+fn leaf(name: Name) -> ListEntry
+    ensures { IsWithin COORD result.placement.shift }
+{
     ListEntry {
         op: Op::U,
         name,
@@ -32,167 +36,224 @@ fn leaf(name: Name) -> ListEntry {
 }
 
 /// The union of two leaves.
-fn tree_of(alloc: Global, first: Name, second: Name) -> Result<CombTree, TreeFault>
+fn tree_of(alloc: Global, first: ListEntry, second: ListEntry) -> Result<CombTree, TreeFault>
+    requires first { IsWithin COORD first.placement.shift }
+    requires second { IsWithin COORD second.placement.shift }
     ensures { IfOk result (λ t. IsComb group_attr t) }
 {
-    CombTree::of_list(alloc, &[leaf(first), leaf(second)])
+    CombTree::of_list(alloc, &[first, second])
 }
 
 fn group(alloc: Global, first: u8, second: u8) -> Result<Object, Fail> {
-    let tree = tree_of(alloc, name(first)?, name(second)?)?;
+    let tree = tree_of(alloc, leaf(name(first)?), leaf(name(second)?))?;
     Ok(Object::of_comb(alloc, Attr::of_group(), tree))
 }
 
-/// Adds a combination of two members.
-fn add(
+fn first_byte(name: &Name) -> u32 {
+    u32::from(name.bytes()[0])
+}
+
+/// A fault: a letter, and its number or the first byte of its name.
+fn told_fault(fault: &DirFault) -> (u8, u32) {
+    match fault {
+        DirFault::Exists => (b'e', 0),
+        DirFault::Missing => (b'm', 0),
+        DirFault::Full => (b'f', 0),
+        DirFault::Cycle(name) => (b'c', first_byte(name)),
+        DirFault::Deep(depth) => (b'd', *depth),
+        DirFault::Memory => (b'w', 0),
+    }
+}
+
+/// What an edit answered: a fault, or `o`.
+fn told(answer: &Result<(), DirFault>) -> (u8, u32) {
+    match answer {
+        Ok(()) => (b'o', 0),
+        Err(fault) => told_fault(fault),
+    }
+}
+
+fn put(
     alloc: Global,
     directory: &mut Directory,
     byte: u8,
     first: u8,
     second: u8,
-) -> Result<Result<(), DirFault>, Fail> {
-    Ok(directory.put(&name(byte)?, group(alloc, first, second)?))
+) -> Result<(u8, u32), Fail> {
+    let answer = directory.put(&name(byte)?, group(alloc, first, second)?);
+    Ok(told(&answer))
+}
+
+fn replace(
+    alloc: Global,
+    directory: &mut Directory,
+    byte: u8,
+    first: u8,
+    second: u8,
+) -> Result<(u8, u32), Fail> {
+    let answer = directory.replace(&name(byte)?, group(alloc, first, second)?);
+    Ok(told(&answer))
+}
+
+fn put_ball(alloc: Global, directory: &mut Directory, byte: u8) -> Result<(u8, u32), Fail> {
+    let answer = directory.put(&name(byte)?, ball(alloc)?);
+    Ok(told(&answer))
+}
+
+fn remove(directory: &mut Directory, byte: u8) -> Result<(u8, u32), Fail> {
+    Ok(told(&directory.remove(&name(byte)?)))
+}
+
+fn rename(
+    alloc: Global,
+    directory: &mut Directory,
+    old: u8,
+    new: u8,
+) -> Result<(u8, u32), Fail> {
+    Ok(told(&directory.rename_all(alloc, &name(old)?, &name(new)?)))
+}
+
+/// An edit: `g` and `s` put a combination of two members and a solid, `r` replaces, `k` removes, `m` renames.
+fn step(alloc: Global, directory: &mut Directory, edit: [u8; 4]) -> Result<(u8, u32), Fail> {
+    let [kind, byte, first, second] = edit;
+    match kind {
+        b'g' => put(alloc, directory, byte, first, second),
+        b's' => put_ball(alloc, directory, byte),
+        b'r' => replace(alloc, directory, byte, first, second),
+        b'k' => remove(directory, byte),
+        _ => rename(alloc, directory, byte, first),
+    }
+}
+
+/// The first of the edits that does not answer what stands beside it.
+fn first_wrong(
+    alloc: Global,
+    directory: &mut Directory,
+    edits: &[([u8; 4], (u8, u32))],
+) -> Result<Option<[u8; 4]>, Fail> {
+    for (edit, wanted) in edits {
+        let answer = step(alloc, directory, *edit)?;
+        if answer != *wanted {
+            return Ok(Some(*edit));
+        }
+    }
+    Ok(None)
 }
 
 /// Adds a chain of sixteen combinations, of which each but the last has the next as its member.
 fn add_chain(alloc: Global, directory: &mut Directory, byte: u8, last: u8) -> Result<(), Fail>
     requires { byte + 16 < 256 }
 {
-    for step in 0..15u8 {
-        add(
-            alloc,
-            directory,
-            byte + step,
-            byte + step + 1,
-            byte + step + 1,
-        )??;
+    for below in 0..15u8 {
+        let member = byte + below + 1;
+        put(alloc, directory, byte + below, member, member)?;
     }
-    add(alloc, directory, byte + 15, last, last)??;
+    put(alloc, directory, byte + 15, last, last)?;
     Ok(())
 }
 
-/// The names of the leaves of the object at the place, of which there are two.
-fn members_at(directory: &Directory, place: u32) -> Option<(Name, Name)> {
-    match directory.at(place) {
-        Some((_name, object)) => match object.body() {
-            Body::Solid(_) => None,
-            Body::Comb { tree, .. } => match tree.nodes() {
-                [
-                    CombNode::Leaf { name: first, .. },
-                    CombNode::Leaf { name: second, .. },
-                    _,
-                ] => Some((*first, *second)),
-                _ => None,
-            },
-        },
-        None => None,
+fn list_node(text: &mut Vec<u8>, node: &CombNode) -> Result<(), Fail> {
+    if let CombNode::Leaf { name, .. } = node {
+        text.push(name.bytes()[0])?;
     }
+    Ok(())
 }
 
-fn name_at(directory: &Directory, place: u32) -> Option<Name> {
-    match directory.at(place) {
-        Some((name, _object)) => Some(*name),
-        None => None,
+fn list_members(text: &mut Vec<u8>, object: &Object) -> Result<(), Fail> {
+    if let Body::Comb { tree, .. } = object.body() {
+        for node in tree.nodes() {
+            list_node(text, node)?;
+        }
     }
+    text.push(b' ')?;
+    Ok(())
+}
+
+/// Each name with those of its leaves.
+fn listing(alloc: Global, directory: &Directory) -> Result<Vec<u8>, Fail> {
+    let mut text = Vec::new(alloc);
+    for place in 0..directory.len() {
+        if let Some((name, object)) = directory.at(place) {
+            text.push(name.bytes()[0])?;
+            list_members(&mut text, object)?;
+        }
+    }
+    Ok(text)
 }
 
 #[test]
 fn sixteen_combinations_lie_one_in_the_other_and_no_more(rt: HostRuntime) -> Result<(), Fail> {
     let mut directory = Directory::new(rt.alloc());
     add_chain(rt.alloc(), &mut directory, b'A', b'z')?;
-    let over = add(rt.alloc(), &mut directory, b'0', b'A', b'1')?;
-    assert!(rt; over == Err(DirFault::Deep(17)));
-    let below = add(rt.alloc(), &mut directory, b'z', b'y', b'y')?;
-    assert!(rt; below == Err(DirFault::Deep(17)));
     add_chain(rt.alloc(), &mut directory, b'a', b'1')?;
-    let between = add(rt.alloc(), &mut directory, b'z', b'1', b'a')?;
-    assert!(rt; between == Err(DirFault::Deep(33)));
+    let edits = [
+        (*b"g0A1", (b'd', 17)),
+        (*b"gzyy", (b'd', 17)),
+        (*b"gz1a", (b'd', 33)),
+        (*b"sz..", (b'o', 0)),
+        (*b"rz11", (b'd', 17)),
+        (*b"rp11", (b'o', 0)),
+        (*b"maz.", (b'e', 0)),
+        (*b"kz..", (b'o', 0)),
+        (*b"maz.", (b'd', 32)),
+    ];
+    let wrong = first_wrong(rt.alloc(), &mut directory, &edits)?;
+    assert!(rt; wrong.is_none(), "{wrong:?}");
     assert!(rt; directory.len() == 32);
-    directory.put(&name(b'z')?, ball(rt.alloc())?)?;
-    let deep = directory.replace(&name(b'z')?, group(rt.alloc(), b'1', b'1')?);
-    assert!(rt; deep == Err(DirFault::Deep(17)));
-    let deep = directory.rename_all(rt.alloc(), &name(b'a')?, &name(b'z')?);
-    assert!(rt; deep == Err(DirFault::Exists));
-    directory.remove(&name(b'z')?)?;
-    let deep = directory.rename_all(rt.alloc(), &name(b'a')?, &name(b'z')?);
-    assert!(rt; deep == Err(DirFault::Deep(32)));
     Ok(())
 }
 
 #[test]
 fn a_cycle_is_named_by_the_edited_object(rt: HostRuntime) -> Result<(), Fail> {
     let mut directory = Directory::new(rt.alloc());
-    let itself = add(rt.alloc(), &mut directory, b's', b'x', b's')?;
-    assert!(rt; itself == Err(DirFault::Cycle(name(b's')?)));
-    add(rt.alloc(), &mut directory, b'a', b'x', b'b')??;
-    add(rt.alloc(), &mut directory, b'b', b'c', b'x')??;
-    add(rt.alloc(), &mut directory, b'c', b'd', b'e')??;
-    let above = add(rt.alloc(), &mut directory, b'e', b'x', b'a')?;
-    assert!(rt; above == Err(DirFault::Cycle(name(b'e')?)));
-    let there = add(rt.alloc(), &mut directory, b'a', b'a', b'a')?;
-    assert!(rt; there == Err(DirFault::Exists));
-    let back = directory.replace(&name(b'b')?, group(rt.alloc(), b'x', b'a')?);
-    assert!(rt; back == Err(DirFault::Cycle(name(b'b')?)));
-    let missing = directory.replace(&name(b'e')?, group(rt.alloc(), b'e', b'e')?);
-    assert!(rt; missing == Err(DirFault::Missing));
-    let dangling = directory.rename_all(rt.alloc(), &name(b'a')?, &name(b'd')?);
-    assert!(rt; dangling == Err(DirFault::Cycle(name(b'd')?)));
-    assert!(rt; members_at(&directory, 1) == Some((name(b'c')?, name(b'x')?)));
-    directory.replace(&name(b'b')?, group(rt.alloc(), b'y', b'y')?)?;
-    directory.rename_all(rt.alloc(), &name(b'a')?, &name(b'd')?)?;
-    assert!(rt; name_at(&directory, 0) == Some(name(b'd')?));
-    assert!(rt; members_at(&directory, 2) == Some((name(b'd')?, name(b'e')?)));
+    let edits = [
+        (*b"gsxs", (b'c', u32::from(b's'))),
+        (*b"gaxb", (b'o', 0)),
+        (*b"gbcx", (b'o', 0)),
+        (*b"gcde", (b'o', 0)),
+        (*b"gexa", (b'c', u32::from(b'e'))),
+        (*b"gaaa", (b'e', 0)),
+        (*b"rbxa", (b'c', u32::from(b'b'))),
+        (*b"reee", (b'm', 0)),
+        (*b"mad.", (b'c', u32::from(b'd'))),
+        (*b"myy.", (b'm', 0)),
+        (*b"myb.", (b'e', 0)),
+        (*b"rbyy", (b'o', 0)),
+        (*b"mad.", (b'o', 0)),
+        (*b"ka..", (b'm', 0)),
+    ];
+    let wrong = first_wrong(rt.alloc(), &mut directory, &edits)?;
+    assert!(rt; wrong.is_none(), "{wrong:?}");
+    assert_eq!(rt; listing(rt.alloc(), &directory)?.as_slice(), b"dxb byy cde ".as_slice());
     Ok(())
 }
 
 #[test]
-fn names_of_objects_and_of_leaves_change_together(rt: HostRuntime) -> Result<(), Fail> {
-    let mut directory = Directory::new(rt.alloc());
-    let (a, b, n) = (name(b'a')?, name(b'b')?, name(b'n')?);
-    directory.put(&a, ball(rt.alloc())?)?;
-    add(rt.alloc(), &mut directory, b'b', b'a', b'c')??;
-    add(rt.alloc(), &mut directory, b'd', b'a', b'a')??;
-    assert!(rt; directory.references(&a) == 3 && directory.references(&b) == 0);
-    let missing = directory.rename_all(rt.alloc(), &n, &n);
-    assert!(rt; missing == Err(DirFault::Missing));
-    let exists = directory.rename_all(rt.alloc(), &n, &b);
-    assert!(rt; exists == Err(DirFault::Exists));
-    let copied = directory.copy(rt.alloc())?;
-    directory.rename_all(rt.alloc(), &a, &n)?;
-    assert!(rt; directory.references(&a) == 0 && directory.references(&n) == 3);
-    assert!(rt; name_at(&directory, 0) == Some(n));
-    assert!(rt; members_at(&directory, 1) == Some((n, name(b'c')?)));
-    assert!(rt; members_at(&copied, 1) == Some((a, name(b'c')?)));
-    assert!(rt; copied.get(&a).is_some() && directory.get(&a).is_none());
-    Ok(())
-}
-
-#[test]
-fn objects_are_taken_out_one_or_many(rt: HostRuntime) -> Result<(), Fail> {
+fn a_copy_changes_alone(rt: HostRuntime) -> Result<(), Fail> {
     let mut directory = Directory::new(rt.alloc());
     if !is_text_value(b"Two cups") {
         return Err("no text")?;
     }
     directory.set_title(rt.alloc(), b"Two cups")?;
-    for byte in *b"cabed" {
-        directory.put(&name(byte)?, ball(rt.alloc())?)?;
-    }
-    add(rt.alloc(), &mut directory, b'f', b'a', b'b')??;
-    assert!(rt; directory.remove(&name(b'x')?) == Err(DirFault::Missing));
-    directory.remove(&name(b'a')?)?;
-    assert!(rt; name_at(&directory, 1) == Some(name(b'b')?));
-    let gone = [name(b'd')?, name(b'x')?, name(b'c')?, name(b'd')?];
-    directory.remove_all(rt.alloc(), &gone)?;
-    assert!(rt; directory.len() == 3 && directory.title() == b"Two cups".as_slice());
-    assert!(rt; name_at(&directory, 0) == Some(name(b'b')?));
-    assert!(rt; name_at(&directory, 2) == Some(name(b'f')?) && directory.at(3).is_none());
+    let edits = [
+        (*b"sa..", (b'o', 0)),
+        (*b"gbac", (b'o', 0)),
+        (*b"se..", (b'o', 0)),
+        (*b"gdaa", (b'o', 0)),
+    ];
+    first_wrong(rt.alloc(), &mut directory, &edits)?;
+    let mut copied = directory.copy(rt.alloc())?;
+    rename(rt.alloc(), &mut copied, b'a', b'n')?;
+    copied.remove_all(rt.alloc(), &[name(b'e')?, name(b'x')?, name(b'b')?, name(b'e')?])?;
+    assert_eq!(rt; listing(rt.alloc(), &copied)?.as_slice(), b"n dnn ".as_slice());
+    assert_eq!(rt; listing(rt.alloc(), &directory)?.as_slice(), b"a bac e daa ".as_slice());
+    assert!(rt; directory.references(&name(b'a')?) == 3 && copied.references(&name(b'n')?) == 2);
+    assert!(rt; copied.title() == b"Two cups".as_slice() && copied.get(&name(b'a')?).is_none());
     Ok(())
 }
 
 /// The name of a number's five digits.
-fn numbered(number: u32) -> Result<Name, Fail>
-    requires { number < 100000 }
-{
+fn numbered(number: u32) -> Result<Name, Fail> {
     let mut digits = [b'0'; 5];
     let mut rest = number;
     for digit in &mut digits {
@@ -202,18 +263,19 @@ fn numbered(number: u32) -> Result<Name, Fail>
     Ok(Name::read(&digits)?)
 }
 
+fn put_numbered(alloc: Global, directory: &mut Directory, number: u32) -> Result<(u8, u32), Fail> {
+    let answer = directory.put(&numbered(number)?, ball(alloc)?);
+    Ok(told(&answer))
+}
+
 #[test]
 fn it_is_full_at_65_535_objects(rt: HostRuntime) -> Result<(), Fail> {
     let mut directory = Directory::new(rt.alloc());
     for number in 0..65_535u32 {
-        directory.put(&numbered(number)?, ball(rt.alloc())?)?;
+        put_numbered(rt.alloc(), &mut directory, number)?;
     }
-    let over = directory.put(&numbered(65_535)?, ball(rt.alloc())?);
-    assert!(rt; over == Err(DirFault::Full) && directory.len() == 65_535);
-    let there = directory.put(&numbered(7)?, ball(rt.alloc())?);
-    assert!(rt; there == Err(DirFault::Exists));
-    directory.remove(&numbered(7)?)?;
-    directory.put(&numbered(65_535)?, ball(rt.alloc())?)?;
     assert!(rt; directory.len() == 65_535);
+    assert!(rt; put_numbered(rt.alloc(), &mut directory, 65_535)? == (b'f', 0));
+    assert!(rt; put_numbered(rt.alloc(), &mut directory, 65_534)? == (b'e', 0));
     Ok(())
 }

@@ -1,4 +1,4 @@
-use Rattle.std.proofs.Common.{◌≡◌, ◌<◌, arith, rules, sym, ◌∙◌}
+use Rattle.std.proofs.Common.{◌≡◌, ◌<◌, arith, rules}
 use Rattle.indexmap.specs.IndexMap.{keys}
 use Rattle.object_set.specs.declared.object.Body.TheVariants.{Comb}
 use Rattle.directory.specs.Places.{depth_at}

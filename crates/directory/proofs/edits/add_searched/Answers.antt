@@ -1,4 +1,4 @@
-use Rattle.std.proofs.Common.{◌≡◌, ◌++◌, ◌∷◌, [], rules, refl}
+use Rattle.std.proofs.Common.{◌≡◌, ◌++◌, ◌∷◌, [], rules}
 use Rattle.std.specs.Prelude.{vec_len, length}
 use Rattle.directory.specs.Edits.{appended}
 use Rattle.directory.proofs.AddLemmas.{below_pushed, length_popped}

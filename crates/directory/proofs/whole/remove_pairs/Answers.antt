@@ -1,4 +1,4 @@
-use Rattle.std.proofs.Common.{◌≡◌, rules, length, take}
+use Rattle.std.proofs.Common.{◌≡◌, rules, length}
 use Rattle.std.specs.HashSet.{contains}
 use Rattle.name_core.specs.Same.{same_name}
 use Rattle.directory.proofs.WholeLemmas.{without_is, length_without}

@@ -1,0 +1,4 @@
+pub mod ListForms
+pub mod Edits
+pub mod Refused
+pub mod Outcomes

@@ -1,0 +1,19 @@
+-- What commands hold.
+use Rattle.std.specs.Prelude.{ℕ, List, All}
+use Rattle.lattice_core.specs.declared.limit.TheConstants.{COORD}
+use Rattle.lattice_core.specs.Limits.{IsWithin}
+use Rattle.name_core.specs.declared.name.Name.{Name}
+use Rattle.comb_tree.specs.declared.node.ListEntry.{ListEntry}
+use Rattle.object_set.specs.declared.kept.KeptAttr.{KeptAttr}
+use Rattle.object_set.specs.TextValues.{IsTextValue}
+
+-- the key of an attribute, and a value
+pub record KeyAndValue : Type 0 where
+  pub key : Name
+  pub value : List ℕ
+
+abbrev pub AreNear : List ListEntry → Type 0
+AreNear list = All (λ (e : ListEntry). IsWithin COORD e.placement.shift) list
+
+abbrev pub AreTexts : List KeptAttr → Type 0
+AreTexts pairs = All (λ (k : KeptAttr). IsTextValue k.value) pairs

@@ -1,0 +1,88 @@
+use crate::kept_pairs::KeptPairs;
+use crate::member_list::MemberList;
+use crate::name_list::NameList;
+use crate::near_placement::NearPlacement;
+use crate::refusal::Refusal;
+use crate::setting::Setting;
+use crate::title_text::TitleText;
+use crate::world_ray::WorldRay;
+use name_core::Name;
+use object_set::Object;
+
+/// A command that changes the directory.
+#[derive(Debug, Drop)]
+pub enum Edit {
+    /// Appends a new object.
+    Make {
+        name: Name,
+        object: Object,
+    },
+    /// Makes a region of a list of members, or appends the list to a combination, which becomes a region.
+    Region {
+        name: Name,
+        list: MemberList,
+    },
+    /// Makes a combination of a list of members, or appends the list to one.
+    Group {
+        name: Name,
+        list: MemberList,
+    },
+    /// Removes all entries of these names from a combination.
+    Remove {
+        comb: Name,
+        members: NameList,
+    },
+    /// Removes objects, and leaves the references to them.
+    Kill {
+        names: NameList,
+    },
+    /// Gives an object, and each member of its name, a new name.
+    RenameAll {
+        old: Name,
+        new: Name,
+    },
+    /// Sets the placement of each leaf of a name.
+    Place {
+        comb: Name,
+        member: Name,
+        placement: NearPlacement,
+    },
+    /// Sets the title of the directory.
+    Title {
+        text: TitleText,
+    },
+    /// Keeps attributes of an object, which have no effect.
+    Keep {
+        name: Name,
+        pairs: KeptPairs,
+    },
+    /// Sets one of the attributes of a combination.
+    Set {
+        name: Name,
+        setting: Setting,
+    },
+}
+
+/// A command that looks at the directory.
+#[derive(Debug, Drop)]
+pub enum Query {
+    /// The written lines of objects.
+    List { names: NameList },
+    /// The names of all objects.
+    Names,
+    /// The listings of trees.
+    Tree { names: NameList },
+    /// Puts the whole directory as a text into a file.
+    Save { file: Name },
+    /// Shoots one ray at objects.
+    Shot { ray: WorldRay, names: NameList },
+}
+
+/// What a line of a script asks for.
+#[derive(Debug, Drop)]
+pub enum Command {
+    /// A line that is refused as it stands.
+    Bad(Refusal),
+    Edit(Edit),
+    Query(Query),
+}

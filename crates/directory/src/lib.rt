@@ -1,0 +1,10 @@
+//! The directory: a title and a list of named objects, without cycles and at most sixteen combinations deep.
+#![tactic(auto)]
+
+mod depths;
+mod directory;
+mod edits;
+mod fault;
+
+pub use directory::Directory;
+pub use fault::DirFault;

@@ -109,11 +109,11 @@ remove_look ((k, o) ∷ es) a x h =
       ]
     ]
 
-weight_of : (o p : Option Parts) → (o ≡ p) ⊎ (o ≡ None) → comb_weight o ≤ comb_weight p
+pub weight_of : (o p : Option Parts) → (o ≡ p) ⊎ (o ≡ None) → comb_weight o ≤ comb_weight p
 weight_of o p (inl e) = let same : comb_weight o ≡ comb_weight p = ap comb_weight e in omega arith
 weight_of o p (inr e) = let same : comb_weight o ≡ 0 = ap comb_weight e in omega arith
 
-refers_of : (o p : Option Parts) (y : Name) → (o ≡ p) ⊎ (o ≡ None) → Contains (members_of o) y → Contains (members_of p) y
+pub refers_of : (o p : Option Parts) (y : Name) → (o ≡ p) ⊎ (o ≡ None) → Contains (members_of o) y → Contains (members_of p) y
 refers_of o p y (inl e) c = subst (λ (q : Option Parts). Contains (members_of q) y) e c
 refers_of o p y (inr e) c = let none : Contains [] y = subst (λ (q : Option Parts). Contains (members_of q) y) e c in absurd (omega (arith, none.1))
 
@@ -217,7 +217,7 @@ absent_later : (b : Name) (ys : Entries) (k : Name) (o : Parts) (rest : Entries)
 absent_later b [] k o rest h = (absent_head b k o rest h).0
 absent_later b ((j, p) ∷ ys) k o rest h = absent_later b ys k o rest (absent_head b j p (ys ++ (k, o) ∷ rest) h).1
 
-later_key : (ys : Entries) (k : Name) (o : Parts) (rest : Entries) → Contains (keys_of (ys ++ (k, o) ∷ rest)) k
+pub later_key : (ys : Entries) (k : Name) (o : Parts) (rest : Entries) → Contains (keys_of (ys ++ (k, o) ∷ rest)) k
 later_key [] k o rest = (0, omega arith, refl)
 later_key ((j, p) ∷ ys) k o rest = let r = later_key ys k o rest in (suc r.0, omega (arith, r.1), r.2)
 

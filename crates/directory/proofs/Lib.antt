@@ -4,3 +4,4 @@ pub mod PlaceLemmas
 pub mod SweepLemmas
 pub mod TellLemmas
 pub mod WalkLemmas
+pub mod WholeLemmas

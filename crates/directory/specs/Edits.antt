@@ -84,4 +84,4 @@ Tells made a (Err Memory) = Unit {0}
 
 -- how many leaves name a
 abbrev pub references_of : Entries → Name → ℕ
-references_of dir a = sum_by (λ e. count_by (same_name a) (members_of (Some e.1))) dir
+references_of dir a = sum_by (λ e. count_by (λ n. same_name n a) (members_of (Some e.1))) dir

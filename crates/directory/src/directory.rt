@@ -1,6 +1,6 @@
-use crate::depths::resettle;
 use crate::edits::{add_pair, remove_pair, rename_pairs, replace_pair};
 use crate::fault::DirFault;
+use crate::whole::{copy_of, references, remove_pairs};
 use indexmap::IndexMap;
 use memory_core::Memory;
 use name_core::Name;
@@ -41,7 +41,7 @@ impl Directory {
     ghost use Rattle.std.specs.Map.Iter.{deref_pair};
     ghost use Rattle.object_set.specs.TextValues.{IsTextValue};
     ghost use Rattle.directory.specs.Walks.{IsSound, object_of};
-    ghost use Rattle.directory.specs.Edits.{appended, put_fault, replaced, replace_fault, removed, remove_fault, renamed_all, rename_fault, Follows, Tells};
+    ghost use Rattle.directory.specs.Edits.{appended, put_fault, replaced, replace_fault, removed, remove_fault, renamed_all, rename_fault, without_all, references_of, Follows, Tells};
 
     /// An empty directory with an empty title. It takes no memory.
     pub fn new(alloc: Global) -> Directory
@@ -143,5 +143,36 @@ impl Directory {
         let title = Vec::from_slice(alloc, text)?;
         self.title = title;
         Ok(())
+    }
+
+    /// Takes out every pair whose name is among the names, of which some may be missing or repeated. After an `Err` the
+    /// directory is as before.
+    pub fn remove_all(&mut self, alloc: Global, names: &[Name]) -> Result<(), Memory>
+        ensures ok { OnOk result (self.new.objects ≡ without_all self.old.objects names.now) }
+        ensures err { OnErr result (self.new.objects ≡ self.old.objects) }
+        ensures title { self.new.title ≡ self.old.title }
+    {
+        remove_pairs(alloc, &mut self.objects, &mut self.depths, names)
+    }
+
+    /// The same directory again.
+    pub fn copy(&self, alloc: Global) -> Result<Directory, Memory>
+        ensures { IfOk result (λ d. d ≡ self.now) }
+    {
+        let title = Vec::from_slice(alloc, &self.title)?;
+        let objects = copy_of(alloc, &self.objects)?;
+        let depths = Vec::from_slice(alloc, &self.depths)?;
+        Ok(Directory {
+            title,
+            objects,
+            depths,
+        })
+    }
+
+    /// The number of leaves of all combinations that name it. It takes no memory.
+    pub fn references(&self, name: &Name) -> u64
+        ensures { result ≡ references_of self.now.objects name.now }
+    {
+        references(&self.objects, name)
     }
 }

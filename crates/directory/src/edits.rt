@@ -18,7 +18,7 @@ use std::alloc::Global;
 const OBJECTS: usize = 65_535;
 
 /// Adds a pair at the end.
-fn push_new(
+pub(crate) fn push_new(
     objects: &mut IndexMap<Name, Object>,
     name: Name,
     object: Object,

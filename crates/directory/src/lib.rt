@@ -5,6 +5,7 @@ mod depths;
 mod directory;
 mod edits;
 mod fault;
+mod whole;
 
 pub use directory::Directory;
 pub use fault::DirFault;

@@ -2,3 +2,4 @@ pub mod ListForms
 pub mod Edits
 pub mod Refused
 pub mod Outcomes
+pub mod Steps

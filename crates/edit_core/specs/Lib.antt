@@ -3,3 +3,4 @@ pub mod Edits
 pub mod Refused
 pub mod Outcomes
 pub mod Steps
+pub mod Examples

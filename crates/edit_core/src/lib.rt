@@ -10,3 +10,4 @@ mod trees;
 
 pub use applying::apply;
 pub use law::list_laws;
+

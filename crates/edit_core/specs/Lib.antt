@@ -1,0 +1,6 @@
+pub mod ListForms
+pub mod Edits
+pub mod Refused
+pub mod Outcomes
+pub mod Steps
+pub mod Examples

@@ -11,3 +11,4 @@ pub mod Outcomes
 pub mod Readable
 pub mod Statuses
 pub mod Calls
+pub mod Examples

@@ -5,6 +5,7 @@ use Rattle.lattice_core.specs.declared.vector.V3.{V3}
 use Rattle.plane_geom.specs.declared.fault.ShapeFault.{ShapeFault}
 use Rattle.plane_geom.specs.declared.fault.ShapeFault.TheVariants.{Radius, ZeroNormal}
 use Rattle.prim_arb8.specs.Faces.{first_fault, cases_of}
+use Rattle.solid_set.specs.Rpps.{vector, rpp_vertices}
 use Rattle.solid_set.specs.declared.solid.Solid.{Solid}
 use Rattle.solid_set.specs.declared.solid.Solid.TheVariants as solids
 use Rattle.mged_top.specs.declared.solid.SolidKind.{SolidKind}
@@ -27,9 +28,6 @@ number_count Sphere = 4
 
 abbrev pub nth_number : List (Option ℤ) → ℕ → ℤ
 nth_number numbers i = unwrap_or (slice_index_or numbers i None) (pos 0)
-
-abbrev pub vector : ℤ → ℤ → ℤ → V3
-vector x y z = record { x = x; y = y; z = z }
 
 -- the three numbers from a place on, as a vector
 abbrev pub vector_at : List (Option ℤ) → ℕ → V3
@@ -54,17 +52,6 @@ unless_faulty (Some fault) vertices = Err fault
 abbrev pub arb8_made : List V3 → Result Solid ShapeFault
 arb8_made vertices = unless_faulty (first_fault (cases_of vertices)) vertices
 
--- the vertex of three of the numbers
-abbrev pub vertex_of : List (Option ℤ) → ℕ → ℕ → ℕ → V3
-vertex_of numbers x y z = vector (nth_number numbers x) (nth_number numbers y) (nth_number numbers z)
-
--- the vertices of the box of the ranges of x, y and z: four at the first x around the ranges of y and z, and the
--- same at the second x
-abbrev pub box_vertices : List (Option ℤ) → List V3
-box_vertices numbers =
-    vertex_of numbers 0 2 4 ∷ vertex_of numbers 0 3 4 ∷ vertex_of numbers 0 3 5 ∷ vertex_of numbers 0 2 5
-    ∷ vertex_of numbers 1 2 4 ∷ vertex_of numbers 1 3 4 ∷ vertex_of numbers 1 3 5 ∷ vertex_of numbers 1 2 5 ∷ []
-
 -- eight vertices, three numbers each
 abbrev pub vertices_in : List (Option ℤ) → List V3
 vertices_in numbers =
@@ -74,6 +61,7 @@ vertices_in numbers =
 -- the solid of a kind by its numbers, or its first fault
 abbrev pub solid_made : SolidKind → List (Option ℤ) → Result Solid ShapeFault
 solid_made Half numbers = half_made (vector_at numbers 0) (nth_number numbers 3)
-solid_made Rpp numbers = arb8_made (box_vertices numbers)
+solid_made Rpp numbers =
+    arb8_made (rpp_vertices (nth_number numbers 0) (nth_number numbers 1) (nth_number numbers 2) (nth_number numbers 3) (nth_number numbers 4) (nth_number numbers 5))
 solid_made Arb8 numbers = arb8_made (vertices_in numbers)
 solid_made Sphere numbers = sphere_made (vector_at numbers 0) (nth_number numbers 3)

@@ -59,7 +59,7 @@ impl SolidKind {
     {
         match self {
             SolidKind::Half => half(vector_at(numbers, 0), number_at(numbers, 3)),
-            SolidKind::Rpp => arb8(box_vertices(numbers)),
+            SolidKind::Rpp => box_of(numbers),
             SolidKind::Arb8 => arb8(vertices(numbers)),
             SolidKind::Sphere => sphere(vector_at(numbers, 0), number_at(numbers, 3)),
         }
@@ -110,38 +110,20 @@ fn arb8(vertices: [V3; 8]) -> Result<Solid, ShapeFault>
     Ok(Solid::Arb8(Arb8::new(vertices)?))
 }
 
-/// The vertex of three of the numbers.
-fn vertex_of(numbers: &[i64], x: usize, y: usize, z: usize) -> V3
-    requires x { x < length numbers.now }
-    requires y { y < length numbers.now }
-    requires z { z < length numbers.now }
-    ensures value { result ≡ solids.vertex_of (map (λ n. Some n) numbers.now) x y z }
-    ensures size { All (IsAtMost COORD) numbers.now → IsWithin COORD result }
-{
-    V3 {
-        x: number_at(numbers, x),
-        y: number_at(numbers, y),
-        z: number_at(numbers, z),
-    }
-}
-
-/// The vertices of the box of the ranges of x, y and z.
-fn box_vertices(numbers: &[i64]) -> [V3; 8]
+/// The box of the ranges of x, y and z.
+fn box_of(numbers: &[i64]) -> Result<Solid, ShapeFault>
     requires count { length numbers.now ≡ 6 }
     requires size { All (IsAtMost COORD) numbers.now }
-    ensures value { result ≡ solids.box_vertices (map (λ n. Some n) numbers.now) }
-    ensures size { All (IsWithin COORD) result }
+    ensures { result ≡ solids.solid_made SolidKind.Rpp (map (λ n. Some n) numbers.now) }
 {
-    [
-        vertex_of(numbers, 0, 2, 4),
-        vertex_of(numbers, 0, 3, 4),
-        vertex_of(numbers, 0, 3, 5),
-        vertex_of(numbers, 0, 2, 5),
-        vertex_of(numbers, 1, 2, 4),
-        vertex_of(numbers, 1, 3, 4),
-        vertex_of(numbers, 1, 3, 5),
-        vertex_of(numbers, 1, 2, 5),
-    ]
+    Solid::rpp(
+        number_at(numbers, 0),
+        number_at(numbers, 1),
+        number_at(numbers, 2),
+        number_at(numbers, 3),
+        number_at(numbers, 4),
+        number_at(numbers, 5),
+    )
 }
 
 /// Eight vertices by 24 numbers.

@@ -1,3 +1,5 @@
 pub mod Points
 pub mod Faces
 pub mod Solids
+pub mod Laws
+pub mod Examples

@@ -1,5 +1,5 @@
 -- Solids of eight vertices.
-use Rattle.std.specs.Prelude.{◌≡◌, List, Option, None, All}
+use Rattle.std.specs.Prelude.{◌≡◌, List, Option, None, All, length}
 use Rattle.std.specs.Option.{ForSome}
 use Rattle.lattice_core.specs.declared.limit.TheConstants.{COORD}
 use Rattle.lattice_core.specs.declared.vector.V3.{V3}
@@ -12,8 +12,9 @@ use Rattle.prim_arb8.specs.Faces.{planes_of, first_fault, cases_of}
 pub record EightVertices : Type 0 where
   pub vertices : List V3
 
--- the solid has no fault, its coordinates are at most COORD in size, and the planes kept are those of its faces
+-- the solid has eight vertices and no fault, its coordinates are at most COORD in size, and the planes kept are those of its faces
 pub record IsArb8 (vertices : List V3) (planes : List (Option Plane)) : Type 0 where
+  pub eight : length vertices ≡ 8
   pub size : All (IsWithin COORD) vertices
   pub sides : planes ≡ planes_of vertices
   pub sides_size : All (λ side. ForSome side IsSolidPlane) planes

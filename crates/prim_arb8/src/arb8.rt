@@ -34,16 +34,20 @@ impl Model for Arb8 {
 }
 
 impl Arb8 {
-    ghost use Rattle.std.specs.Prelude.{◌≡◌, ◌≤◌, All, MatchResult, Some, None};
+    ghost use Rattle.std.specs.Prelude.{◌≡◌, ◌↔◌, ◌≤◌, All, MatchResult, Result, Err, Some, None, length};
     ghost use Rattle.std.specs.Option.{ForSome};
     ghost use Rattle.lattice_core.specs.declared.limit.TheConstants.{COORD};
     ghost use Rattle.lattice_core.specs.Limits.{IsWithin};
     ghost use Rattle.plane_geom.specs.Planes.{IsSolidPlane};
-    ghost use Rattle.prim_arb8.specs.Faces.{first_fault, cases_of, plane_at};
+    ghost use Rattle.plane_geom.specs.declared.fault.ShapeFault.{ShapeFault};
+    ghost use Rattle.prim_arb8.specs.Faces.{first_fault, cases_of, plane_at, planes_of};
+    ghost use Rattle.prim_arb8.specs.Solids.{IsArb8};
+    ghost use Rattle.prim_arb8.specs.Laws.{IsFlat, IsFaceLaw};
 
     /// The solid of these vertices, or the first fault: `Flat`, then face by face `NotPlanar` and `NotConvex`.
     pub fn new(v: [V3; 8]) -> Result<Arb8, ShapeFault>
         requires { All (IsWithin COORD) v }
+        ensures flat { (result ≡ Err ShapeFault.Flat) ↔ IsFlat v }
         ensures fault { MatchResult result (λ arb8. first_fault (cases_of v) ≡ None) (λ e. first_fault (cases_of v) ≡ Some e) }
         ensures vertices { MatchResult result (λ arb8. arb8.vertices ≡ v) (λ e. Unit {0}) }
     {
@@ -59,6 +63,9 @@ impl Arb8 {
     /// The vertices 1 to 8.
     pub fn vertices(&self) -> [V3; 8]
         ensures value { result ≡ self.now.vertices }
+        ensures eight { length result ≡ 8 }
+        ensures sound { first_fault (cases_of result) ≡ None }
+        ensures lawful { IsArb8 result (planes_of result) }
         ensures size { All (IsWithin COORD) result }
     {
         self.vertices
@@ -68,6 +75,7 @@ impl Arb8 {
     pub fn plane(&self, face: u8) -> Option<Plane>
         requires { (1 ≤ face) × (face ≤ 12) }
         ensures value { result ≡ plane_at self.now.vertices face }
+        ensures law { IsFaceLaw self.now.vertices face result }
         ensures size { ForSome result IsSolidPlane }
     {
         self.planes[usize::from(face - 1)]

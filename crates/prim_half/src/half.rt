@@ -30,12 +30,13 @@ impl Model for Half {
 }
 
 impl Half {
-    ghost use Rattle.std.specs.Prelude.{◌≡◌, ◌↔◌, Result, Err, MatchResult};
+    ghost use Rattle.std.specs.Prelude.{◌≡◌, ◌≢◌, ◌↔◌, Result, Err, MatchResult};
     ghost use Rattle.lattice_core.specs.declared.limit.TheConstants.{COORD};
     ghost use Rattle.lattice_core.specs.Limits.{IsAtMost, IsWithin};
     ghost use Rattle.lattice_core.specs.Vectors.{zero_vector};
     ghost use Rattle.plane_geom.specs.Planes.{IsSolidPlane};
     ghost use Rattle.plane_geom.specs.declared.fault.ShapeFault.{ShapeFault};
+    ghost use Rattle.prim_half.specs.Halves.{IsHalf};
 
     /// The half-space of a normal and a distance, or `ZeroNormal` where the normal is zero.
     pub fn new(n: V3, d: i64) -> Result<Half, ShapeFault>
@@ -57,6 +58,7 @@ impl Half {
     pub fn normal(&self) -> V3
         ensures value { result ≡ self.now.normal }
         ensures size { IsWithin COORD result }
+        ensures direction { result ≢ zero_vector }
     {
         self.normal
     }
@@ -74,6 +76,7 @@ impl Half {
         ensures normal { result.n ≡ self.now.normal }
         ensures offset { result.d ≡ self.now.distance }
         ensures size { IsSolidPlane result }
+        ensures lawful { IsHalf result.n result.d }
     {
         Plane {
             n: self.normal,

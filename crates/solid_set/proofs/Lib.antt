@@ -11,3 +11,5 @@ pub mod SpelledRange
 pub mod SpanLaws
 pub mod BallLaws
 pub mod SurfaceLaws
+pub mod Landing
+pub mod Enclosed

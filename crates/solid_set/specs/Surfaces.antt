@@ -1,5 +1,5 @@
 -- The surfaces of placed solids, and which points they enclose.
-use Rattle.std.specs.Prelude.{◌≡◌, ℤ, List, [], ◌∷◌, map, Option, Some, None, pos, All}
+use Rattle.std.specs.Prelude.{◌≡◌, ℤ, List, [], ◌∷◌, map, Option, Some, None, pos, ◌<ℤ◌, All}
 use Rattle.std.specs.Option.{option_map}
 use Rattle.lattice_core.specs.declared.limit.TheConstants.{SHIFT}
 use Rattle.lattice_core.specs.declared.boxes.Box3.{Box3}
@@ -10,11 +10,13 @@ use Rattle.lattice_core.specs.declared.placement.Placement.{Placement}
 use Rattle.lattice_core.specs.Limits.{IsWithin}
 use Rattle.plane_geom.specs.declared.plane.Plane.{Plane}
 use Rattle.plane_geom.specs.Planes.{PlaneHolds, placed_plane}
-use Rattle.prim_half.specs.Halves.{HalfSpace as HalfNumbers}
+use Rattle.prim_half.specs.Halves.{HalfSpace as HalfNumbers, IsHalf}
+use Rattle.prim_arb8.specs.Solids.{IsArb8}
 use Rattle.prim_arb8.specs.Faces.{planes_of}
 use Rattle.prim_sphere.specs.declared.limit.TheConstants.{PLACED}
 use Rattle.lattice_core.specs.Boxes.{HasPoint}
-use Rattle.prim_sphere.specs.Spheres.{SphereHolds, IsRadius, HoldsPointsOf}
+use Rattle.lattice_core.specs.Rays.{scaled_point}
+use Rattle.prim_sphere.specs.Spheres.{SphereHolds, IsBall, IsRadius, HoldsPointsOf}
 use Rattle.prim_sphere.specs.Spheres.{box_of as ball_box}
 use Rattle.solid_set.specs.declared.solid.Solid.{Solid}
 use Rattle.solid_set.specs.declared.solid.Solid.TheVariants as solids
@@ -40,10 +42,17 @@ bounds_of (solids.Arb8 solid) by = box_of by solid.vertices
 bounds_of (solids.Sphere sphere) by = ball_box (placed by sphere.centre) sphere.radius
 bounds_of (solids.Half half) by = all_of_space
 
--- some solid, placed within the limits, has this surface and these bounds
+-- the numbers of a solid are those of one that was made
+abbrev pub IsLawful : Solid → Type 0
+IsLawful (solids.Arb8 solid) = IsArb8 solid.vertices (planes_of solid.vertices)
+IsLawful (solids.Sphere sphere) = IsBall sphere.centre sphere.radius
+IsLawful (solids.Half half) = IsHalf half.normal half.distance
+
+-- some lawful solid, placed within the limits, has this surface and these bounds
 pub record IsMade (surface : Surface) (bounds : Box3) : Type 0 where
   pub solid : Solid
   pub by : Placement
+  pub lawful : IsLawful solid
   pub near : IsWithin SHIFT by.shift
   pub surface_is : surface ≡ surface_of solid by
   pub bounds_is : bounds ≡ bounds_of solid by
@@ -82,3 +91,7 @@ abbrev pub HoldsSolid : Solid → Placement → Box3 → Type 0
 HoldsSolid (solids.Arb8 solid) by b = HoldsVertices b by solid.vertices
 HoldsSolid (solids.Sphere sphere) by b = HoldsPointsOf (placed by sphere.centre) sphere.radius b
 HoldsSolid (solids.Half half) by b = HoldsAll b
+
+-- the box holds every point of a ray that is inside
+abbrev pub HoldsInside : Surface → Box3 → Type 0
+HoldsInside surface b = (ray : Ray) (p q : ℤ) → pos 0 <ℤ q → IsInside surface ray p q → HasPoint b (scaled_point ray p q) q

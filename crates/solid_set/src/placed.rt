@@ -166,7 +166,7 @@ impl Placed {
     ghost use Rattle.std.specs.Prelude.{◌≡◌};
     ghost use Rattle.lattice_core.specs.declared.limit.TheConstants.{SHIFT};
     ghost use Rattle.solid_set.specs.declared.solid.Solid.{Solid};
-    ghost use Rattle.solid_set.specs.Surfaces.{surface_of, bounds_of, HoldsSolid};
+    ghost use Rattle.solid_set.specs.Surfaces.{surface_of, bounds_of, HoldsSolid, HoldsInside};
     ghost use Rattle.lattice_core.specs.declared.limit.TheConstants.{WORLD};
     ghost use Rattle.lattice_core.specs.Limits.{IsWithin};
     ghost use Rattle.std.specs.Prelude.{◌≤◌};
@@ -239,7 +239,8 @@ impl Placed {
     /// A closed box that holds the solid: of a solid of eight vertices the box of the vertices, of a sphere from the centre
     /// by the radius, of a half-space all of space.
     pub fn bounds(&self) -> Box3
-        ensures { result ≡ self.now.bounds }
+        ensures value { result ≡ self.now.bounds }
+        ensures holds { HoldsInside self.now.surface result }
     {
         self.bounds
     }

@@ -1,5 +1,5 @@
 -- A text and its lines.
-use Rattle.std.specs.Prelude.{◌≡◌, ◌≢◌, ℕ, ◌==◌, cond, List, [], ◌∷◌, ◌++◌, flat_map, length}
+use Rattle.std.specs.Prelude.{◌≡◌, ◌≢◌, ℕ, ◌==◌, cond, List, [], ◌∷◌, ◌++◌, flat_map, length, take}
 use Rattle.std.specs.List.{AllByRecursion}
 
 abbrev pub onto_line : ℕ → List (List ℕ) → List (List ℕ)
@@ -27,3 +27,7 @@ Lacks byte bytes = AllByRecursion (λ b. b ≢ byte) bytes
 pub record HasWholeLines (text : List ℕ) (count : ℕ) : Type 0 where
   pub whole : text ≡ text_of (lines_in text)
   pub counted : count ≡ length (lines_in text)
+
+-- the new text begins with the old one
+abbrev pub Extends : List ℕ → List ℕ → Type 0
+Extends old new = take (length old) new ≡ old

@@ -4,13 +4,13 @@ use std::test::Fail;
 
 /// What a run leaves.
 #[derive(Drop)]
-pub struct Ran {
+pub(crate) struct Ran {
     pub status: Status,
     pub text: String,
 }
 
 /// Runs a script with room for its whole transcript.
-pub fn run_script(rt: &impl AllocGlobal, script: &[u8]) -> Result<Ran, Fail> {
+pub(crate) fn run_script(rt: &impl AllocGlobal, script: &[u8]) -> Result<Ran, Fail> {
     let alloc = rt.alloc();
     let words = Vec::new(alloc);
     let mut source = VecSource::new(Vec::from_slice(alloc, script)?, Vec::new(alloc));

@@ -1,9 +1,11 @@
-use Rattle.std.proofs.Common.{◌≡◌, ◌∙◌, sym, ap, subst, ◌+◌, ◌<◌, length, ℤ, pos, FitsSigned, w64, rules, arith, lit<, take, fold}
+use Rattle.std.proofs.Common.{◌≡◌, ◌∙◌, sym, ap, subst, ◌+◌, ◌<◌, length, ℤ, FitsSigned, w64, rules, arith, lit<, take, fold}
 use Rattle.std.specs.Int.{int_max}
+use Rattle.std.specs.Int.RustNames.{unsigned_abs}
 use Rattle.std.proofs.lemmas.Int.{to_z-of_z}
 use Rattle.std.proofs.lemmas.List.Sums.{fold_more}
 use Rattle.lattice_core.specs.declared.vector.V3.{V3}
 use Rattle.lattice_core.specs.Limits.{IsAtMost}
+use Rattle.lattice_core.specs.declared.limit.TheConstants.{COORD}
 use Rattle.prim_arb8.proofs.Reach.{max_size}
 use Rattle.lattice_core.specs.Units.{unit_of}
 use Rattle.lattice_core.specs.Vectors.{dot_product, zero_vector}
@@ -19,7 +21,7 @@ loop-p-preserved c =
     let r = c.reach.result in
     let start : ℤ = dot_product u (vertex_at v 1) in
     let f : ℤ → V3 → ℤ = λ m p. int_max m (dot_product u p) in
-    let fr : FitsSigned w64 c.reach.result = fits64 16384 r (lit< tt) c.reach.ensures.size in
+    let fr : FitsSigned w64 c.reach.result = fits64 (unsigned_abs COORD) r (lit< tt) c.reach.ensures.size in
     let fx : FitsSigned w64 c.max-most.result = search rules in
     let e = simp to_z-of_z at c.max-most.ensures.value in
     let within : c.loop-p.p-index < length c.args.v.now = omega arith in
@@ -30,5 +32,5 @@ loop-p-preserved c =
     ∙ sym (fold_more f start v i zero_vector within) in
     record {
       value = simp to_z-of_z chain;
-      size = simp to_z-of_z (subst (IsAtMost (pos 16384)) (sym e) (max_size (pos 16384) _ r c.loop-p.invariant.size c.reach.ensures.size));
+      size = simp to_z-of_z (subst (IsAtMost COORD) (sym e) (max_size COORD _ r c.loop-p.invariant.size c.reach.ensures.size));
     }

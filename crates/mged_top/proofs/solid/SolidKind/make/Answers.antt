@@ -4,8 +4,8 @@ use Rattle.mged_top.proofs.solid.SolidKind.make.Goals as goal
 
 pub returns-in-Arb8 : goal.returns-in-Arb8
 returns-in-Arb8 c =
-    c.arb8-in-Arb8.ensures ∙ ap arb8_made c.vertices.ensures.value ∙ sym (ap (λ kind. solid_made kind (map (λ (n : ℤ). Some n) c.args.numbers.now)) c.in-Arb8.is)
+    c.arb8.ensures ∙ ap arb8_made c.vertices.ensures.value ∙ sym (ap (λ kind. solid_made kind (map (λ (n : ℤ). Some n) c.args.numbers.now)) c.in-Arb8.is)
 
 pub returns-in-Rpp : goal.returns-in-Rpp
 returns-in-Rpp c =
-    c.arb8.ensures ∙ ap arb8_made c.box_vertices.ensures.value ∙ sym (ap (λ kind. solid_made kind (map (λ (n : ℤ). Some n) c.args.numbers.now)) c.in-Rpp.is)
+    c.box_of.ensures ∙ sym (ap (λ kind. solid_made kind (map (λ (n : ℤ). Some n) c.args.numbers.now)) c.in-Rpp.is)

@@ -6,6 +6,8 @@ use Rattle.plane_geom.specs.declared.plane.Plane.{Plane}
 use Rattle.lattice_core.specs.declared.vector.V3.{V3}
 use Rattle.solid_set.specs.declared.solid.Solid.TheVariants as solids
 use Rattle.solid_set.specs.declared.surface.Surface.TheVariants.{Planes}
+use Rattle.prim_arb8.specs.Faces.{planes_of}
+use Rattle.prim_arb8.specs.Solids.{IsArb8}
 use Rattle.solid_set.specs.Bounds.{box_of}
 use Rattle.solid_set.proofs.Made.{no_ball_planes}
 use Rattle.solid_set.proofs.placed.Placed.arb8.Goals as goal
@@ -17,6 +19,7 @@ invariant_of-result c = record {
   made = ∣ (record {
     solid = solids.Arb8 c.args.arb8.now;
     by = c.args.by.now;
+    lawful = subst (λ (v : List V3). IsArb8 v (planes_of v)) c.vertices.ensures.value c.vertices.ensures.lawful;
     near = c.requires;
     surface_is = ap (λ (sides : List (Option Plane)). Planes sides) c.placed_sides.ensures.value;
     bounds_is = c.box_of.ensures ∙ ap (λ (v : List V3). box_of c.args.by.now v) c.vertices.ensures.value;

@@ -5,6 +5,7 @@ use Rattle.solid_set.proofs.Bounding.{all_held}
 use Rattle.plane_geom.specs.declared.plane.Plane.{Plane}
 use Rattle.plane_geom.specs.Planes.{placed_plane}
 use Rattle.prim_arb8.proofs.Reach.{plane_same}
+use Rattle.prim_half.specs.Halves.{IsHalf}
 use Rattle.solid_set.specs.declared.solid.Solid.TheVariants as solids
 use Rattle.solid_set.specs.declared.surface.Surface.TheVariants.{HalfSpace}
 use Rattle.solid_set.specs.Surfaces.{plane_of_half}
@@ -20,6 +21,7 @@ invariant_of-result c =
       made = ∣ (record {
         solid = solids.Half c.args.half.now;
         by = c.args.by.now;
+        lawful = subst (λ (p : Plane). IsHalf p.n p.d) plane c.plane.ensures.lawful;
         near = c.requires;
         surface_is = ap (λ (p : Plane). HalfSpace p) (c.placed.ensures.value ∙ ap (λ (p : Plane). placed_plane c.args.by.now p) plane);
         bounds_is = c.all_of_space.ensures;

@@ -2,10 +2,11 @@ use Rattle.std.proofs.Common.{◌≡◌, ◌∙◌, ap, ℤ, sym, subst, refl, F
 use Rattle.std.proofs.lemmas.Int.{to_z-of_z, ints}
 use mir.Val.{to_z, of_z}
 use Rattle.lattice_core.specs.declared.vector.V3.{V3}
-use Rattle.lattice_core.specs.Limits.{IsAtMost}
+use Rattle.lattice_core.specs.Limits.{IsAtMost, IsWithin}
 use Rattle.lattice_core.specs.Placements.{placed}
+use Rattle.lattice_core.specs.declared.limit.TheConstants.{COORD}
 use Rattle.plane_geom.proofs.Sizes.{fits64}
-use Rattle.prim_sphere.specs.Spheres.{box_of, HoldsPointsOf}
+use Rattle.prim_sphere.specs.Spheres.{box_of, HoldsPointsOf, IsBall, IsRadius}
 use Rattle.solid_set.specs.declared.solid.Solid.TheVariants as solids
 use Rattle.solid_set.specs.declared.surface.Surface.TheVariants.{Ball}
 use Rattle.solid_set.specs.Surfaces.{IsBallSize}
@@ -30,6 +31,12 @@ box_is c =
     ∙ ap (λ (z : ℤ). box_of c.placed_point-centre.result z) (radius_is c)
     ∙ ap (λ (v : V3). box_of v c.args.sphere.now.radius) (centre_is c)
 
+lawful_is : (c : goal.After-bounds_at) → IsBall c.args.sphere.now.centre c.args.sphere.now.radius
+lawful_is c = record {
+  centre_size = subst (IsWithin COORD) c.centre.ensures.value c.centre.ensures.size;
+  radius_size = subst IsRadius c.radius-radius.ensures.value c.radius-radius.ensures.size;
+}
+
 pub invariant_of-result : goal.invariant_of-result
 invariant_of-result c =
     let sized : IsBallSize c.placed_point-centre.result (to_z w64 (of_z w64 c.radius-radius.result)) =
@@ -41,6 +48,7 @@ invariant_of-result c =
       made = ∣ (record {
         solid = solids.Sphere c.args.sphere.now;
         by = c.args.by.now;
+        lawful = lawful_is c;
         near = c.requires;
         surface_is = ap (λ (z : ℤ). Ball c.placed_point-centre.result z) (radius_is c) ∙ ap (λ (v : V3). Ball v c.args.sphere.now.radius) (centre_is c);
         bounds_is = box_is c;

@@ -104,12 +104,7 @@ fn remove(directory: &mut Directory, byte: u8) -> Result<(u8, u32), Fail> {
     Ok(told(&directory.remove(&name(byte)?)))
 }
 
-fn rename(
-    alloc: Global,
-    directory: &mut Directory,
-    old: u8,
-    new: u8,
-) -> Result<(u8, u32), Fail> {
+fn rename(alloc: Global, directory: &mut Directory, old: u8, new: u8) -> Result<(u8, u32), Fail> {
     Ok(told(&directory.rename_all(alloc, &name(old)?, &name(new)?)))
 }
 
@@ -224,7 +219,10 @@ fn a_cycle_is_named_by_the_edited_object(rt: HostRuntime) -> Result<(), Fail> {
     ];
     let wrong = first_wrong(rt.alloc(), &mut directory, &edits)?;
     assert!(rt; wrong.is_none(), "{wrong:?}");
-    assert_eq!(rt; listing(rt.alloc(), &directory)?.as_slice(), b"dxb byy cde ".as_slice());
+    assert_eq!(rt;
+        listing(rt.alloc(), &directory)?.as_slice(),
+        b"dxb byy cde ".as_slice()
+    );
     Ok(())
 }
 
@@ -244,9 +242,18 @@ fn a_copy_changes_alone(rt: HostRuntime) -> Result<(), Fail> {
     first_wrong(rt.alloc(), &mut directory, &edits)?;
     let mut copied = directory.copy(rt.alloc())?;
     rename(rt.alloc(), &mut copied, b'a', b'n')?;
-    copied.remove_all(rt.alloc(), &[name(b'e')?, name(b'x')?, name(b'b')?, name(b'e')?])?;
-    assert_eq!(rt; listing(rt.alloc(), &copied)?.as_slice(), b"n dnn ".as_slice());
-    assert_eq!(rt; listing(rt.alloc(), &directory)?.as_slice(), b"a bac e daa ".as_slice());
+    copied.remove_all(
+        rt.alloc(),
+        &[name(b'e')?, name(b'x')?, name(b'b')?, name(b'e')?],
+    )?;
+    assert_eq!(rt;
+        listing(rt.alloc(), &copied)?.as_slice(),
+        b"n dnn ".as_slice()
+    );
+    assert_eq!(rt;
+        listing(rt.alloc(), &directory)?.as_slice(),
+        b"a bac e daa ".as_slice()
+    );
     assert!(rt; directory.references(&name(b'a')?) == 3 && copied.references(&name(b'n')?) == 2);
     assert!(rt; copied.title() == b"Two cups".as_slice() && copied.get(&name(b'a')?).is_none());
     Ok(())

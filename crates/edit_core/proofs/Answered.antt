@@ -58,11 +58,11 @@ none_judged : (dir : Entries) (a : Name) (v : Option DirFault) → IsSound dir �
 none_judged dir a None sound e = refl
 none_judged dir a (Some f) sound e =
     absurd (elim (others (nat_le unbounded (deepest dir)) (nat_lt most_depth (deepest dir)) a (deepest dir) f e) [
-      inl c ↦ sound.acyclic a (judged_cycle dir dir a a (same_away a dir dir (λ x apart. refl)) sound (e ∙ ap (λ (x : DirFault). Some x) c)).1
+      | inl c ↦ sound.acyclic a (judged_cycle dir dir a a (same_away a dir dir (λ x apart. refl)) sound (e ∙ ap (λ (x : DirFault). Some x) c)).1
       | inr c ↦
-        let deep = judged_deep dir a (deepest dir) (e ∙ ap (λ (x : DirFault). Some x) c) in
-        let own = deep.2.attained in
-        omega (arith, deep.1, own.attained, sound.shallow (deep.2.deepest ∷ own.after) own.walk)
+          let deep = judged_deep dir a (deepest dir) (e ∙ ap (λ (x : DirFault). Some x) c) in
+          let own = deep.2.attained in
+          omega (arith, deep.1, own.attained, sound.shallow (deep.2.deepest ∷ own.after) own.walk)
     ])
 
 pub sound_judged : (dir : Entries) (a : Name) → IsSound dir → judged dir a ≡ None
@@ -73,11 +73,11 @@ within : (dir : Entries) (a : Name) (o : Parts) → IsSome (object_of dir a) →
     → ((x : Name) → Contains (members_of (Some o)) x → Contains (members_of (object_of dir a)) x) → IsWithin dir (replaced dir a o)
 within dir a o there weight names = record {
   weight = λ x. elim (same_or_apart x a) [
-    inl e ↦ subst (λ (y : Name). comb_weight (object_of (replaced dir a o) y) ≤ comb_weight (object_of dir y)) (sym e) (subst (λ (p : Option Parts). comb_weight p ≤ comb_weight (object_of dir a)) (sym (replace_there dir a o there)) weight)
+    | inl e ↦ subst (λ (y : Name). comb_weight (object_of (replaced dir a o) y) ≤ comb_weight (object_of dir y)) (sym e) (subst (λ (p : Option Parts). comb_weight p ≤ comb_weight (object_of dir a)) (sym (replace_there dir a o there)) weight)
     | inr apart ↦ subst (λ (p : Option Parts). comb_weight p ≤ comb_weight (object_of dir x)) (sym (replace_other dir a o x apart)) (omega arith)
   ];
   refers = λ x y c. elim (same_or_apart x a) [
-    inl e ↦ subst (λ (z : Name). Contains (members_of (object_of (replaced dir a o) z)) y → Contains (members_of (object_of dir z)) y) (sym e) (λ k. names y (subst (λ (p : Option Parts). Contains (members_of p) y) (replace_there dir a o there) k)) c
+    | inl e ↦ subst (λ (z : Name). Contains (members_of (object_of (replaced dir a o) z)) y → Contains (members_of (object_of dir z)) y) (sym e) (λ k. names y (subst (λ (p : Option Parts). Contains (members_of p) y) (replace_there dir a o there) k)) c
     | inr apart ↦ subst (λ (p : Option Parts). Contains (members_of p) y) (replace_other dir a o x apart) c
   ];
 }
@@ -266,13 +266,15 @@ comb_changes d edit name object attr changed tree left (Ok new) there body none 
     let P : Body → Type 0 = λ b. (comb_weight (Some new) ≤ comb_weight (Some (record { body = b; kept = object.kept }))) × ((x : Name) → Contains (members_of (Some new)) x → Contains (members_of (Some (record { body = b; kept = object.kept }))) x) in
     let Q : Parts → Type 0 = λ o. (comb_weight (Some o) ≤ 1) × ((x : Name) → Contains (members_of (Some o)) x → Contains (names_in tree) x) in
     let less : Q new = subst Q (sym h.1) (omega arith, names) in
-    let both : P object.body = subst P (sym body) less in
-    (none, record {
-      made = made_is ∙ ap (with_object d name) (sym h.1);
-      there = subst (λ (o : Option Parts). IsSome o) (sym there) refl;
-      weight = subst (λ (o : Option Parts). comb_weight (Some new) ≤ comb_weight o) (sym there) both.0;
-      names = subst (λ (o : Option Parts). (x : Name) → Contains (members_of (Some new)) x → Contains (members_of o) x) (sym there) both.1;
-    })
+    let both : P object.body = subst P (sym body) less in (
+      none,
+      record {
+        made = made_is ∙ ap (with_object d name) (sym h.1);
+        there = subst (λ (o : Option Parts). IsSome o) (sym there) refl;
+        weight = subst (λ (o : Option Parts). comb_weight (Some new) ≤ comb_weight o) (sym there) both.0;
+        names = subst (λ (o : Option Parts). (x : Name) → Contains (members_of (Some new)) x → Contains (members_of o) x) (sym there) both.1;
+      },
+    )
 comb_changes d edit name object attr changed tree left (Err r) there body none made_is names h =
     (h.0, elim h.1 [ inl e ↦ inl e | inr e ↦ let wrong : None ≡ Some r = e in cc ])
 

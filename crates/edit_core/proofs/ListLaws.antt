@@ -39,9 +39,9 @@ one_more op t m l p not_u = record {
   is = ap (λ (x : List ListEntry). x ++ entry_of op m ∷ []) p.is;
   begins = p.begins;
   goes_on = λ before more.
-    ap (tree_from before (Leaf (member p.head))) (append_assoc p.rest (entry_of op m ∷ []) more)
-    ∙ p.goes_on before (entry_of op m ∷ more)
-    ∙ ap (λ b. cond b (tree_from (united before (Some t)) (Leaf m) more) (tree_from before (Join op t (Leaf m)) more)) not_u;
+      ap (tree_from before (Leaf (member p.head))) (append_assoc p.rest (entry_of op m ∷ []) more)
+      ∙ p.goes_on before (entry_of op m ∷ more)
+      ∙ ap (λ b. cond b (tree_from (united before (Some t)) (Leaf m) more) (tree_from before (Join op t (Leaf m)) more)) not_u;
 }
 
 last_leaf : (op : Op) (r : Tree Member) (s : List ListEntry) → one_entry op r ≡ Some s → (m : Member) × (r ≡ Leaf m) × (s ≡ entry_of op m ∷ [])
@@ -91,16 +91,16 @@ union_step a b whole l s same one two = record {
   is = same ∙ ap (λ (x : List ListEntry). x ++ s) one.is;
   begins = one.begins;
   alone =
-    ap (λ (x : List ListEntry). tree_from None (Leaf (member one.head)) (one.rest ++ x)) two.is
-    ∙ one.before two.head two.rest two.begins
-    ∙ ap (tree_from (Some a) (Leaf (member two.head))) (sym (append-nil two.rest))
-    ∙ two.goes_on (Some a) [];
+      ap (λ (x : List ListEntry). tree_from None (Leaf (member one.head)) (one.rest ++ x)) two.is
+      ∙ one.before two.head two.rest two.begins
+      ∙ ap (tree_from (Some a) (Leaf (member two.head))) (sym (append-nil two.rest))
+      ∙ two.goes_on (Some a) [];
   before = λ next more u.
-    ap (tree_from None (Leaf (member one.head))) (append_assoc one.rest s (next ∷ more))
-    ∙ ap (λ (x : List ListEntry). tree_from None (Leaf (member one.head)) (one.rest ++ (x ++ next ∷ more))) two.is
-    ∙ one.before two.head (two.rest ++ next ∷ more) two.begins
-    ∙ two.goes_on (Some a) (next ∷ more)
-    ∙ cut (Some a) b next more u;
+      ap (tree_from None (Leaf (member one.head))) (append_assoc one.rest s (next ∷ more))
+      ∙ ap (λ (x : List ListEntry). tree_from None (Leaf (member one.head)) (one.rest ++ (x ++ next ∷ more))) two.is
+      ∙ one.before two.head (two.rest ++ next ∷ more) two.begins
+      ∙ two.goes_on (Some a) (next ∷ more)
+      ∙ cut (Some a) b next more u;
 }
 
 union_is : (t : Tree Member) (l : List ListEntry) → union_list t ≡ Some l → IsUnion t l

@@ -152,12 +152,14 @@ remove_answers name names old new (Ok u) lawful h =
     let gone = is_among names in
     let found = list_found old own h.1 in
     let short : length (without gone own) ≤ 4096 = omega (arith, without_short gone own, few_list old own h.1 lawful) in
-    let near : AreNear (without gone own) = All-filter (stays gone) (λ (e : ListEntry). IsWithin COORD e.placement.shift) own (near_list old own h.1 lawful) in
-    (remove_listed name names own old found ∙ two_is _ _ None None h.2 h.3, record {
-      is = h.4 ∙ ap (λ (o : Option (List ListEntry)). tree_of_list (without gone (unwrap_or o []))) (sym found);
-      lawful = subst (λ (x : Comb). IsLawful x) (sym h.4) (lawful_list (without gone own) short near);
-      names = λ a c. subst (λ (ns : List Name). Contains ns a) (sym (names_listed old own (sym h.1.tree))) (fewer gone own a (subst (λ (ns : List Name). Contains ns a) (names_listed new (without gone own) h.4) c));
-    })
+    let near : AreNear (without gone own) = All-filter (stays gone) (λ (e : ListEntry). IsWithin COORD e.placement.shift) own (near_list old own h.1 lawful) in (
+      remove_listed name names own old found ∙ two_is _ _ None None h.2 h.3,
+      record {
+        is = h.4 ∙ ap (λ (o : Option (List ListEntry)). tree_of_list (without gone (unwrap_or o []))) (sym found);
+        lawful = subst (λ (x : Comb). IsLawful x) (sym h.4) (lawful_list (without gone own) short near);
+        names = λ a c. subst (λ (ns : List Name). Contains ns a) (sym (names_listed old own (sym h.1.tree))) (fewer gone own a (subst (λ (ns : List Name). Contains ns a) (names_listed new (without gone own) h.4) c));
+      },
+    )
 remove_answers name names old new (Err fault.NotList) lawful h = (tt, inr (unlisted name _ old (no_list old h.0)))
 remove_answers name names old new (Err (fault.Absent n)) lawful h =
     (tt, inr (remove_listed name names h.0 old (list_found old h.0 h.1) ∙ ap (λ (x : Option Name). two x (first_lost_head (is_among names) h.0)) h.2))

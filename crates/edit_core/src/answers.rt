@@ -1,8 +1,8 @@
 ghost use Rattle.std.specs.Prelude.{◌≡◌};
 ghost use Rattle.edit_core.specs.Steps.{tree_refusal, tree_answer, directory_refusal, directory_answer};
 
-use command_set::Refusal;
 use comb_tree::{CombTree, TreeFault};
+use command_set::Refusal;
 use directory::DirFault;
 use name_core::Name;
 

@@ -9,5 +9,4 @@ ghost use Rattle.edit_core.specs.ListForms.{list_of};
 pub fn list_laws()
     ensures list { (t : Comb) (l : List ListEntry) → list_of t ≡ Some l → HasList t l }
     ensures found { (l : List ListEntry) → list_of (tree_of_list l) ≡ Some (from_u l) }
-{
-}
+{}

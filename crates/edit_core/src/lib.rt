@@ -10,4 +10,3 @@ mod trees;
 
 pub use applying::apply;
 pub use law::list_laws;
-

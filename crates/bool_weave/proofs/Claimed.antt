@@ -1,5 +1,5 @@
 -- What a tree claims, from the spans of its leaves.
-use Rattle.std.proofs.Common.{◌≡◌, ◌<◌, ◌≤◌, ◌+◌, ◌-◌, ◌^◌, ℕ, zero, suc, List, [], ◌∷◌, ◌++◌, length, get_or, map, filter, replicate, Bool, true, false, ◌&&◌, ◌||◌, eqb, nat_le, nat_lt, All, AllPairs, Some, None, min, ap, sym, ◌∙◌, subst, refl, inl, inr, arith}
+use Rattle.std.proofs.Common.{◌≡◌, ◌<◌, ◌≤◌, ◌+◌, ◌-◌, ℕ, zero, suc, List, [], ◌∷◌, ◌++◌, length, get_or, filter, replicate, Bool, true, false, ◌&&◌, eqb, nat_le, nat_lt, All, Some, None, min, ap, sym, ◌∙◌, subst, refl, inl, inr, arith}
 use Rattle.std.specs.List.{list_any}
 use Rattle.std.proofs.lemmas.Bool.{cases_lt, cases_Bool, and_parts, and_from, leb-true, ltb-true, eqb-true, le-leb, lt-ltb, true≢false}
 use Rattle.std.proofs.lemmas.List.{get_or_append_left, get_or-append-add, get_or-append_right, get_or_past, get_or-map, get_or-replicate, length-append, length-map, length-replicate, ext_get_or}
@@ -9,11 +9,10 @@ use Rattle.tree_forms.specs.declared.Op.{Op}
 use Rattle.tree_forms.specs.declared.Op.TheVariants.{U, N, Minus}
 use Rattle.tree_forms.specs.Trees.{Leaf, Join, joined}
 use Rattle.surd_order.specs.declared.position.Pos.{Pos}
-use Rattle.bool_weave.specs.declared.mask.MaskNode.{MaskNode}
 use Rattle.bool_weave.specs.declared.span.Span.{Span}
 use Rattle.bool_weave.specs.declared.woven.Woven.{Woven}
 use Rattle.bool_weave.specs.Cuts.{ray_start, IsWoven, cuts_of}
-use Rattle.bool_weave.specs.Masks.{Mask, leaf_value, mask_holds, mask_nodes, leaf, apply}
+use Rattle.bool_weave.specs.Masks.{Mask, mask_holds, mask_nodes, leaf, apply}
 use Rattle.bool_weave.specs.Claims.{Interval, intervals_between, covers, spans, claims_interval, claims_of}
 use Rattle.bool_weave.specs.Laws.{NothingFromNothing}
 use Rattle.bool_weave.specs.Tables.{interval_at, reaches, no_span, at_leaf, leaf_end, AreLeavesBelow, is_from_to, IsCutAt}

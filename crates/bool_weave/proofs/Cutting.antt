@@ -1,6 +1,5 @@
 -- Places put among rising places, and the cuts that come of it.
-use Rattle.std.proofs.Common.{◌≡◌, ◌<◌, ◌≤◌, ◌+◌, ◌*◌, ◌-◌, ◌⊎◌, ◌↔◌, ℕ, zero, suc, pos, List, [], ◌∷◌, ◌++◌, length, get_or, take, drop, insert, Bool, true, false, flat_map, All, AllPairs, Contains, ap, sym, ◌∙◌, subst, refl, inl, inr, ⊎_elim, arith, rules}
-use Rattle.std.specs.List.{AllByRecursion}
+use Rattle.std.proofs.Common.{◌≡◌, ◌<◌, ◌≤◌, ◌+◌, ◌⊎◌, ℕ, zero, suc, List, [], ◌∷◌, ◌++◌, length, get_or, insert, true, false, flat_map, ap, sym, ◌∙◌, subst, refl, inl, inr, ⊎_elim, arith}
 use Rattle.std.specs.List.Sorted.{IsStrictlySortedBy}
 use Rattle.std.specs.declared.cmp.Ordering.{Ordering}
 use Rattle.std.specs.declared.cmp.Ordering.TheVariants.{Less, Equal, Greater}
@@ -10,12 +9,11 @@ use Rattle.std.proofs.lemmas.List.Concat.{flat_map-append}
 use Rattle.std.proofs.lemmas.Map.Keys.{Less-from_sorted}
 use Rattle.surd_order.specs.declared.position.Pos.{Pos}
 use Rattle.surd_order.specs.declared.position.Pos.TheVariants.{Frac, Surd}
-use Rattle.surd_order.specs.Order.{Precedes, SamePlace, IsPlace, IsOrderOf}
+use Rattle.surd_order.specs.Order.{Precedes, IsPlace}
 use Rattle.surd_order.specs.PlaceOrder.{place_cmp}
 use Rattle.surd_order.specs.Range.{IsInRange}
 use Rattle.surd_order.specs.Spelling.{IsSpelled}
 use Rattle.surd_order.proofs.LawProofs.{places_have_one_spelling}
-use Rattle.surd_order.proofs.OrderLaws.{asymmetric, transitive}
 use Rattle.surd_order.proofs.PlaceOrderLaws.{place_cmp_total, places_are_compared}
 use Rattle.surd_order.proofs.SquareLaws.{gcd_one}
 use Rattle.bool_weave.specs.declared.woven.Woven.{Woven}

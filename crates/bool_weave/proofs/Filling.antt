@@ -1,15 +1,13 @@
 -- A table of spans by leaf, filled from what was woven.
-use Rattle.std.proofs.Common.{◌≡◌, ◌<◌, ◌≤◌, ◌+◌, ◌-◌, ◌^◌, ℕ, zero, suc, List, [], ◌∷◌, ◌++◌, length, get_or, take, drop, replicate, Bool, true, false, ◌&&◌, ◌||◌, eqb, nat_le, nat_lt, All, AllPairs, filter, cond, ap, sym, ◌∙◌, subst, refl, inl, inr, arith}
-use Rattle.std.specs.List.{list_any}
-use Rattle.std.proofs.lemmas.Bool.{cases_lt, cases_eq, cases_Bool, and_parts, and_right, le-ltb, eq-eqb, ne_eqb, cond-true, cond-false, leb-true, ltb-true, eqb-true, lt-leb, le-leb, lt-ltb}
+use Rattle.std.proofs.Common.{◌≡◌, ◌<◌, ◌≤◌, ◌+◌, ◌-◌, ◌^◌, ℕ, zero, suc, List, [], ◌∷◌, ◌++◌, length, get_or, take, drop, replicate, Bool, true, false, ◌&&◌, ◌||◌, eqb, nat_le, nat_lt, All, AllPairs, ap, sym, ◌∙◌, subst, refl, inl, inr, arith}
+use Rattle.std.proofs.lemmas.Bool.{cases_lt, cases_eq, and_right, le-ltb, eq-eqb, ne_eqb}
 use Rattle.std.proofs.lemmas.List.{take_all, get_or_append_left, get_or-append_right, get_or_past, get_or_default, get_or_at, get_or-drop, length-append, length-replicate, length-drop, length_push}
 use Rattle.std.proofs.lemmas.List.Elements.{All-push, All-append, All-replicate}
 use Rattle.std.proofs.lemmas.List.Folds.{list_any_more}
-use Rattle.surd_order.specs.declared.position.Pos.{Pos}
 use Rattle.bool_weave.specs.declared.span.Span.{Span}
 use Rattle.bool_weave.specs.declared.woven.Woven.{Woven}
 use Rattle.bool_weave.specs.Claims.{Interval, covers, spans}
-use Rattle.bool_weave.specs.Tables.{interval_at, reaches, no_span, at_leaf, is_from_to}
+use Rattle.bool_weave.specs.Tables.{reaches, no_span, at_leaf}
 
 at_replicate : (n i : ℕ) (s : Span) → get_or (replicate n s) i s ≡ s
 at_replicate zero i s = refl

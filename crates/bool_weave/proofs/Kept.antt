@@ -1,23 +1,21 @@
 -- What a weave keeps: its cuts are those of what was woven.
-use Rattle.std.proofs.Common.{◌≡◌, ◌<◌, ◌≤◌, ◌+◌, ◌*◌, ◌^◌, ◌⊎◌, ℕ, zero, suc, List, [], ◌∷◌, ◌++◌, length, get_or, insert, Bool, true, false, ◌&&◌, nat_lt, flat_map, All, AllPairs, Contains, ap, sym, ◌∙◌, subst, refl, inl, inr, ⊎_elim, arith, rules}
+use Rattle.std.proofs.Common.{◌≡◌, ◌<◌, ◌≤◌, ◌+◌, ◌*◌, ◌^◌, ℕ, List, [], ◌∷◌, ◌++◌, length, get_or, insert, true, false, ◌&&◌, nat_lt, flat_map, All, ap, sym, ◌∙◌, subst, refl, inl, inr, ⊎_elim, arith}
 use Rattle.std.specs.Ordering.{is_eq, is_lt}
-use Rattle.std.specs.List.Sorted.{IsStrictlySortedBy}
-use Rattle.std.specs.declared.cmp.Ordering.TheVariants.{Less, Equal, Greater}
-use Rattle.std.proofs.lemmas.Bool.{and_parts, and_cases, ltb-true, ltb-false, cases_lt, true≢false, cases_eq}
+use Rattle.std.specs.declared.cmp.Ordering.TheVariants.{Less}
+use Rattle.std.proofs.lemmas.Bool.{and_parts, and_cases, ltb-true, ltb-false, cases_lt, true≢false}
 use Rattle.std.proofs.lemmas.Cmp.{tied_itself}
 use Rattle.std.proofs.lemmas.List.{get_or_default, length_push}
 use Rattle.std.proofs.lemmas.List.Elements.{All-push}
 use Rattle.std.proofs.lemmas.List.Quantifiers.{all_pairs_push}
 use Rattle.surd_order.specs.declared.position.Pos.{Pos}
-use Rattle.surd_order.specs.declared.position.Pos.TheVariants.{Frac}
 use Rattle.surd_order.specs.PlaceOrder.{place_cmp}
 use Rattle.surd_order.specs.Range.{IsInRange}
 use Rattle.surd_order.proofs.PlaceOrderLaws.{place_cmp_total}
 use Rattle.bool_weave.specs.declared.woven.Woven.{Woven}
-use Rattle.bool_weave.specs.Cuts.{ray_start, ray_end, IsSegment, IsWoven, places_of, AreCuts, put_in, in_order, cuts_of}
+use Rattle.bool_weave.specs.Cuts.{ray_start, ray_end, IsSegment, IsWoven, places_of, put_in, cuts_of}
 use Rattle.bool_weave.specs.Claims.{is_before}
 use Rattle.bool_weave.specs.Tables.{IsKept, IsSearchable, IsCutAt}
-use Rattle.bool_weave.proofs.Sorted.{Has, has_at, has_from_contains, contains_from_has}
+use Rattle.bool_weave.proofs.Sorted.{Has, has_at, contains_from_has}
 use Rattle.bool_weave.proofs.Cutting.{put_at, put_there, greater_from, equal_from, put_sorted, from_put, cuts_sorted, cuts_good, to_cuts, cuts_more, order_length, start_is_place, end_is_place, segment_of}
 
 before_in : (xs ys : List Pos) (x : Pos) (n : ℕ) → ys ≡ xs → ((k : ℕ) (d : Pos) → k < n → is_before (get_or ys k d) x ≡ true)

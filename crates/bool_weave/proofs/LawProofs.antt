@@ -1,8 +1,8 @@
 -- The laws of cuts and claims.
-use Rattle.std.proofs.Common.{◌≡◌, ◌<◌, ◌≤◌, ◌-◌, ◌⊎◌, ◌↔◌, ℕ, List, length, get_or, Bool, true, false, not, ◌&&◌, ap, sym, ◌∙◌, subst, refl, inl, inr, ⊎_elim, arith}
+use Rattle.std.proofs.Common.{◌≡◌, ◌<◌, ◌-◌, ℕ, List, length, get_or, false, not, ap, sym, ◌∙◌, subst, refl, inl, inr, arith}
 use Rattle.std.specs.Ordering.{is_lt}
 use Rattle.std.specs.declared.cmp.Ordering.TheVariants.{Less}
-use Rattle.std.proofs.lemmas.Bool.{cases_lt, cases_Bool, and_parts, and_from, not-true, not_from_false, true≢false, false_from_ne_true}
+use Rattle.std.proofs.lemmas.Bool.{cases_lt, and_parts, and_from, not-true, not_from_false, true≢false, false_from_ne_true}
 use Rattle.std.proofs.lemmas.List.{get_or_default}
 use Rattle.std.proofs.lemmas.Map.Keys.{Less-from_sorted}
 use Rattle.surd_order.specs.declared.position.Pos.{Pos}
@@ -12,8 +12,8 @@ use Rattle.surd_order.proofs.OrderLaws.{transitive}
 use Rattle.surd_order.proofs.PlaceOrderLaws.{place_cmp_total, places_are_compared}
 use Rattle.bool_weave.specs.declared.woven.Woven.{Woven}
 use Rattle.bool_weave.specs.Cuts.{ray_start, ray_end, IsWoven, places_of, cuts_of}
-use Rattle.bool_weave.specs.Claims.{is_before, covers}
-use Rattle.bool_weave.specs.Laws.{HasRayEnds, CutsAreWithinTheRay, CoversByPlaces}
+use Rattle.bool_weave.specs.Claims.{is_before}
+use Rattle.bool_weave.specs.Laws.{CutsAreWithinTheRay, CoversByPlaces}
 use Rattle.bool_weave.proofs.Sorted.{Has, has_at, contains_from_has, not_itself, not_both}
 use Rattle.bool_weave.proofs.Cutting.{less_from, place_from, end_of_some, segment_of, from_order, to_cuts, cuts_sorted, places_good, less_from_precedes, precedes_from}
 use Rattle.bool_weave.proofs.Kept.{ends_apart}

@@ -1,12 +1,11 @@
 -- The woven instances of a range of numbers.
-use Rattle.std.proofs.Common.{◌≡◌, ◌<◌, ◌≤◌, ◌+◌, ◌-◌, ℕ, zero, suc, List, [], ◌∷◌, length, get_or, take, drop, filter, Bool, true, false, ◌&&◌, ◌||◌, nat_le, nat_lt, cond, All, AllPairs, ap, sym, ◌∙◌, subst, refl, inl, inr, arith}
+use Rattle.std.proofs.Common.{◌≡◌, ◌<◌, ◌≤◌, ◌-◌, ℕ, List, [], ◌∷◌, get_or, take, drop, filter, Bool, true, false, ◌||◌, nat_lt, AllPairs, ap, sym, ◌∙◌, subst, refl, inl, inr, arith}
 use Rattle.std.specs.List.{list_any}
 use Rattle.std.specs.List.Sorted.{IsNonDecreasingBy, IsPartitionPoint}
-use Rattle.std.proofs.lemmas.Bool.{cases_lt, cases_Bool, and_from, and_left, and_right, and_parts, ltb-true, ltb-false, leb-true, le-leb, lt-leb, le-ltb, lt-ltb, cond-true, cond-false, true≢false}
-use Rattle.std.proofs.lemmas.List.Elements.{All-cons}
+use Rattle.std.proofs.lemmas.Bool.{cases_lt, cases_Bool, and_from, and_left, and_right, ltb-true, ltb-false, le-leb, lt-leb, cond-true, cond-false, true≢false}
 use Rattle.bool_weave.specs.declared.woven.Woven.{Woven}
 use Rattle.bool_weave.specs.Tables.{is_from_to}
-use Rattle.bool_weave.proofs.Sorted.{Has, has_at, contains_from_has}
+use Rattle.bool_weave.proofs.Sorted.{Has}
 use Rattle.bool_weave.proofs.Searching.{filter_middle}
 
 pub rising_numbers : (woven : List Woven) → AllPairs (λ v w. v.instance < w.instance) woven → IsNonDecreasingBy (λ (w : Woven). w.instance) woven

@@ -1,10 +1,9 @@
 -- Searches in rising places, and the intervals that a segment covers.
-use Rattle.std.proofs.Common.{◌≡◌, ◌<◌, ◌≤◌, ◌+◌, ◌-◌, ◌⊎◌, ℕ, zero, suc, List, [], ◌∷◌, ◌++◌, length, get_or, take, drop, filter, Bool, true, false, not, cond, ◌&&◌, nat_le, nat_lt, Contains, ap, sym, ◌∙◌, subst, refl, inl, inr, ⊎_elim, arith, rules}
+use Rattle.std.proofs.Common.{◌≡◌, ◌<◌, ◌≤◌, ◌+◌, ℕ, zero, suc, List, [], ◌∷◌, length, get_or, take, drop, filter, Bool, true, false, not, nat_le, nat_lt, Contains, ap, sym, ◌∙◌, subst, inl, inr, arith}
 use Rattle.std.specs.List.Sorted.{IsStrictlySortedBy}
-use Rattle.std.specs.declared.cmp.Ordering.{Ordering}
-use Rattle.std.specs.declared.cmp.Ordering.TheVariants.{Less, Equal, Greater}
-use Rattle.std.specs.Ordering.{is_lt, is_eq, ordering_reverse}
-use Rattle.std.proofs.lemmas.Bool.{true≢false, false≢true, cases_lt, cases_order, cases_Bool, lt-leb, le-leb, lt-ltb, le-ltb, cond-true, cond-false}
+use Rattle.std.specs.declared.cmp.Ordering.TheVariants.{Less}
+use Rattle.std.specs.Ordering.{is_lt}
+use Rattle.std.proofs.lemmas.Bool.{true≢false, cases_lt, cases_order, cases_Bool, lt-leb, le-leb, lt-ltb, le-ltb, cond-true, cond-false}
 use Rattle.std.proofs.lemmas.Cmp.{tied_itself}
 use Rattle.std.proofs.lemmas.List.{get_or_default, drop_all, take_all}
 use Rattle.std.proofs.lemmas.Map.Keys.{Less-from_sorted}

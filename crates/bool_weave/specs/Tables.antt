@@ -1,5 +1,5 @@
 -- Words of the code: the intervals that instances span, by their numbers.
-use Rattle.std.specs.Prelude.{◌≡◌, ◌<◌, ◌≤◌, ◌+◌, ◌*◌, ◌-◌, ◌^◌, ◌↔◌, ℕ, List, length, All, Contains, Bool, true, ◌&&◌, nat_le, nat_lt, slice_index_or}
+use Rattle.std.specs.Prelude.{◌≡◌, ◌<◌, ◌≤◌, ◌+◌, ◌-◌, ◌^◌, ℕ, List, length, All, Contains, Bool, ◌&&◌, nat_le, nat_lt, slice_index_or}
 use Rattle.std.specs.List.Sorted.{IsStrictlySortedBy}
 use Rattle.surd_order.specs.declared.position.Pos.{Pos}
 use Rattle.surd_order.specs.declared.position.Seg.{Seg}

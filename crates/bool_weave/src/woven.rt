@@ -106,6 +106,7 @@ impl Weave {
         ensures searchable { IsSearchable result.now }
         ensures some { 2 ≤ length result.now }
         ensures few { length result.now ≤ 2 * length self.now + 2 }
+        ensures short { length result.now ≤ 2 ^ 32 }
     {
         &self.cuts
     }

@@ -1,11 +1,11 @@
-use Rattle.std.proofs.Common.{rules, ◌≡◌, ◌≤◌, ◌<◌, ◌+◌, ◌-◌, ◌*◌, ◌∙◌, ◌++◌, ℕ, List, Bool, false, length, replicate, filter, All, AllPairs, min, vec_len, ap, sym, subst, arith}
+use Rattle.std.proofs.Common.{rules, ◌≡◌, ◌≤◌, ◌<◌, ◌+◌, ◌-◌, ◌∙◌, ◌++◌, ℕ, List, false, length, replicate, filter, All, AllPairs, vec_len, ap, sym, subst, arith}
 use Rattle.std.proofs.lemmas.List.Kept.{AllPairs-filter}
 use Rattle.surd_order.specs.declared.position.Pos.{Pos}
 use Rattle.bool_weave.specs.declared.span.Span.{Span}
 use Rattle.bool_weave.specs.declared.woven.Woven.{Woven}
 use Rattle.bool_weave.specs.Cuts.{cuts_of}
 use Rattle.bool_weave.specs.Masks.{mask_holds}
-use Rattle.bool_weave.specs.Claims.{spans, claims_of}
+use Rattle.bool_weave.specs.Claims.{spans}
 use Rattle.bool_weave.specs.Tables.{is_from_to, at_leaf, interval_at}
 use Rattle.bool_weave.proofs.Claimed.{cut_all, first_all, claims_are}
 use Rattle.bool_weave.proofs.claim.claims.Goals as goal

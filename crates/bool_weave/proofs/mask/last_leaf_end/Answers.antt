@@ -1,4 +1,4 @@
-use Rattle.std.proofs.Common.{◌≤◌, All, arith, take, subst, sym, ap}
+use Rattle.std.proofs.Common.{◌≤◌, All, arith, take, subst, ap}
 use Rattle.std.proofs.lemmas.List.{take_all, get_or_default}
 use Rattle.std.proofs.lemmas.List.Elements.{All-more, All-weaker}
 use Rattle.bool_weave.specs.declared.mask.MaskNode.TheVariants.{Never, Leaf}

@@ -1,6 +1,5 @@
-use Rattle.std.proofs.Common.{◌≡◌, ◌+◌, ◌-◌, ◌/◌, ◌∙◌, sym, ap, arith, true, false, slice_index_or}
+use Rattle.std.proofs.Common.{◌+◌, ◌-◌, ◌/◌, ◌∙◌, sym, ap, arith}
 use Rattle.std.specs.Ordering.{is_lt}
-use Rattle.surd_order.specs.PlaceOrder.{place_cmp}
 use Rattle.bool_weave.proofs.Searching.{before_up, after_down}
 use Rattle.bool_weave.proofs.place.place_in.Goals as goal
 

@@ -1,8 +1,7 @@
-use Rattle.std.proofs.Common.{◌≤◌, ℕ, All, arith, rules, take, length, get_or, subst, sym, ap}
+use Rattle.std.proofs.Common.{◌≤◌, All, arith, take, subst}
 use Rattle.std.proofs.lemmas.List.{take_all}
-use Rattle.std.proofs.lemmas.List.Elements.{All-more, All-weaker, All-same}
+use Rattle.std.proofs.lemmas.List.Elements.{All-more, All-weaker}
 use Rattle.bool_weave.specs.declared.span.Span.{Span}
-use Rattle.bool_weave.specs.Tables.{no_span}
 use Rattle.bool_weave.proofs.Fronts.{all_before, all_last}
 use Rattle.bool_weave.proofs.span.hull_of.Goals as goal
 

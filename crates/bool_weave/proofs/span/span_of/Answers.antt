@@ -1,4 +1,4 @@
-use Rattle.std.proofs.Common.{◌≡◌, ◌+◌, ◌<◌, ◌∙◌, ap, sym, arith, not, ◌&&◌, nat_le, nat_lt, get_or}
+use Rattle.std.proofs.Common.{◌∙◌, ap, arith, not, ◌&&◌, nat_lt, get_or}
 use Rattle.bool_weave.specs.Cuts.{ray_start}
 use Rattle.bool_weave.specs.Claims.{is_before}
 use Rattle.bool_weave.proofs.Searching.{number_is, later_than, not_before_number}

@@ -1,4 +1,4 @@
-use Rattle.std.proofs.Common.{◌≡◌, ◌≤◌, ◌<◌, ◌+◌, ◌-◌, ◌++◌, ◌∙◌, ◌∷◌, [], All, length, get_or, take, drop, replicate, vec_len, pos, arith, refl, sym, ap, subst, rules}
+use Rattle.std.proofs.Common.{◌≡◌, ◌≤◌, ◌+◌, ◌-◌, ◌++◌, ◌∙◌, ◌∷◌, [], length, get_or, take, replicate, vec_len, pos, arith, refl, ap, rules}
 use Rattle.bool_weave.specs.declared.woven.Woven.{Woven}
 use Rattle.surd_order.specs.declared.position.Pos.TheVariants.{Frac}
 use Rattle.bool_weave.specs.Tables.{interval_at, no_span}

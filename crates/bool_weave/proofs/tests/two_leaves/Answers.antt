@@ -1,6 +1,6 @@
 use Rattle.std.proofs.Common.{◌≡◌, ◌∙◌, ◌++◌, ◌∷◌, [], ap, sym}
 use Rattle.tree_forms.specs.Trees.{Leaf, Join}
-use Rattle.bool_weave.specs.Masks.{leaf, apply}
+use Rattle.bool_weave.specs.Masks.{leaf}
 use Rattle.bool_weave.proofs.tests.two_leaves.Goals as goal
 
 pub of_nodes-requires : goal.of_nodes-requires

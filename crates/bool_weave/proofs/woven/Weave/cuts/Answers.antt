@@ -22,3 +22,7 @@ returns-clause-some c = subst (λ l. 2 ≤ length l) (sym (kept c)) (two_cuts c.
 
 pub returns-clause-few : goal.returns-clause-few
 returns-clause-few c = subst (λ l. length l ≤ 2 * length c.args.self.now + 2) (sym (kept c)) (few_cuts c.args.self.now)
+
+pub returns-clause-short : goal.returns-clause-short
+returns-clause-short c =
+    omega (arith, subst (λ l. length l ≤ 2 * length c.args.self.now + 2) (sym (kept c)) (few_cuts c.args.self.now), c.self.invariant.few, ap length c.self.view_is)

@@ -1,5 +1,4 @@
-use Rattle.std.proofs.Common.{◌≡◌, ◌∙◌, ◌∷◌, ◌++◌, [], ap, sym, subst, rules}
-use Rattle.surd_order.specs.declared.position.Pos.{Pos}
+use Rattle.std.proofs.Common.{◌≡◌, ◌∙◌, ◌∷◌, ◌++◌, [], ap, sym, subst}
 use Rattle.bool_weave.specs.Cuts.{ray_start, ray_end}
 use Rattle.bool_weave.specs.Tables.{IsKept}
 use Rattle.bool_weave.proofs.Kept.{kept_none}

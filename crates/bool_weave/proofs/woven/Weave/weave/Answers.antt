@@ -1,6 +1,6 @@
 use Rattle.std.proofs.Common.{◌≡◌, ◌<◌, ◌+◌, ◌∙◌, ◌++◌, ◌∷◌, [], All, length, ap, sym, subst, arith, rules}
 use Rattle.bool_weave.specs.declared.woven.Woven.{Woven}
-use Rattle.bool_weave.specs.Cuts.{put_in, ray_start}
+use Rattle.bool_weave.specs.Cuts.{put_in}
 use Rattle.bool_weave.specs.Tables.{IsSearchable}
 use Rattle.bool_weave.proofs.Kept.{searchable_kept, put_searchable, kept_more}
 use Rattle.bool_weave.proofs.woven.Weave.weave.Goals as goal

@@ -1,4 +1,4 @@
-use Rattle.std.proofs.Common.{◌≡◌, ◌∙◌, ◌<◌, ◌-◌, AllPairs, ap, sym, subst, take, drop, filter}
+use Rattle.std.proofs.Common.{◌∙◌, ◌<◌, ◌-◌, AllPairs, ap, sym, subst, take, drop, filter}
 use Rattle.bool_weave.specs.declared.woven.Woven.{Woven}
 use Rattle.bool_weave.specs.Tables.{is_from_to}
 use Rattle.bool_weave.proofs.Middles.{IsEndOf, within_part, within_none}

@@ -1,0 +1,5 @@
+pub mod Running
+pub mod Winning
+pub mod Settling
+pub mod Overlapping
+pub mod LawProofs

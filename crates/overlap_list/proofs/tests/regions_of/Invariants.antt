@@ -1,0 +1,6 @@
+use Rattle.std.proofs.Common.{◌≡◌, All, length}
+use Rattle.bool_weave.specs.Claims.{intervals_of}
+use Rattle.overlap_list.proofs.tests.regions_of.Given as goal
+
+abbrev pub invariant-loop-row : goal.invariant-loop-row
+invariant-loop-row l = All (λ r. length r.claims ≡ length (intervals_of l.weave)) l.regions.items

@@ -1,0 +1,98 @@
+-- Partitions and overlaps of small rays, proved by computation.
+use Rattle.std.specs.Prelude.{◌≡◌, refl, ℕ, pos, Bool, true, false, List, [], ◌∷◌}
+use Rattle.surd_order.specs.declared.position.Pos.{Pos}
+use Rattle.surd_order.specs.declared.position.Pos.TheVariants.{Frac}
+use Rattle.surd_order.specs.PlaceOrder.{place_cmp}
+use Rattle.bool_weave.specs.declared.woven.Woven.{Woven}
+use Rattle.overlap_list.specs.declared.region.RegionClaims.{RegionClaims}
+use Rattle.overlap_list.specs.declared.partition.Partition.{Partition}
+use Rattle.overlap_list.specs.declared.overlap.OverlapRun.{OverlapRun}
+use Rattle.overlap_list.specs.Partitions.{partitions_of}
+use Rattle.overlap_list.specs.Overlaps.{overlaps_of}
+
+abbrev whole : ℕ → Pos
+whole n = Frac (pos n) (pos 1)
+
+-- an instance with a segment from one whole place to another, its faces being 1 and 2
+abbrev from_to : ℕ → ℕ → ℕ → Woven
+from_to instance a b = record { instance = instance; seg = record { start = whole a; start_face = 1; end = whole b; end_face = 2 } }
+
+-- a region of `count` instances from `first` on, with the intervals that it claims
+abbrev region : Bool → ℕ → ℕ → List Bool → RegionClaims
+region air first count claims = record { air = air; first = first; count = count; claims = claims }
+
+abbrev part : ℕ → ℕ → ℕ → ℕ → ℕ → Partition
+part r a b instance face = record { region = r; start = whole a; end = whole b; hit = record { instance = instance; face = face } }
+
+abbrev run : ℕ → ℕ → ℕ → ℕ → OverlapRun
+run one two a b = record { one = one; two = two; start = whole a; end = whole b }
+
+one_box : partitions_of (from_to 0 5 15 ∷ []) (region false 0 1 (false ∷ true ∷ false ∷ []) ∷ []) ≡ part 0 5 15 0 1 ∷ []
+unfolding place_cmp
+one_box = refl
+
+no_region : partitions_of (from_to 0 5 15 ∷ []) [] ≡ []
+unfolding place_cmp
+no_region = refl
+
+-- a cut inside a partition does not split it
+touching_boxes_united : partitions_of (from_to 0 5 15 ∷ from_to 1 15 25 ∷ []) (region false 0 2 (false ∷ true ∷ true ∷ false ∷ []) ∷ []) ≡ part 0 5 25 0 1 ∷ []
+unfolding place_cmp
+touching_boxes_united = refl
+
+touching_regions : partitions_of (from_to 0 5 15 ∷ from_to 1 15 25 ∷ []) (region false 0 1 (false ∷ true ∷ false ∷ false ∷ []) ∷ region false 1 1 (false ∷ false ∷ true ∷ false ∷ []) ∷ [])
+    ≡ part 0 5 15 0 1 ∷ part 1 15 25 0 2 ∷ []
+unfolding place_cmp
+touching_regions = refl
+
+-- where what is taken away ends, its end is hit
+subtracted : partitions_of (from_to 0 5 25 ∷ from_to 1 10 20 ∷ []) (region false 0 2 (false ∷ true ∷ false ∷ true ∷ false ∷ []) ∷ []) ≡ part 0 5 10 0 1 ∷ part 0 20 25 1 2 ∷ []
+unfolding place_cmp
+subtracted = refl
+
+-- the first region ends inside the second, and the first place wins
+overlapping : partitions_of (from_to 0 5 15 ∷ from_to 1 10 20 ∷ []) (region false 0 1 (false ∷ true ∷ true ∷ false ∷ false ∷ []) ∷ region false 1 1 (false ∷ false ∷ true ∷ true ∷ false ∷ []) ∷ [])
+    ≡ part 0 5 15 0 1 ∷ part 1 15 20 0 2 ∷ []
+unfolding place_cmp
+overlapping = refl
+
+their_overlap : overlaps_of (from_to 0 5 15 ∷ from_to 1 10 20 ∷ []) (region false 0 1 (false ∷ true ∷ true ∷ false ∷ false ∷ []) ∷ region false 1 1 (false ∷ false ∷ true ∷ true ∷ false ∷ []) ∷ [])
+    ≡ run 0 1 10 15 ∷ []
+unfolding place_cmp
+their_overlap = refl
+
+-- a region without air wins against one with air of a lower place, and their overlap is not told
+beside_air : partitions_of (from_to 0 5 15 ∷ from_to 1 10 20 ∷ []) (region true 0 1 (false ∷ true ∷ true ∷ false ∷ false ∷ []) ∷ region false 1 1 (false ∷ false ∷ true ∷ true ∷ false ∷ []) ∷ [])
+    ≡ part 0 5 10 0 1 ∷ part 1 10 20 1 1 ∷ []
+unfolding place_cmp
+beside_air = refl
+
+no_overlap_with_air : overlaps_of (from_to 0 5 15 ∷ from_to 1 10 20 ∷ []) (region true 0 1 (false ∷ true ∷ true ∷ false ∷ false ∷ []) ∷ region false 1 1 (false ∷ false ∷ true ∷ true ∷ false ∷ []) ∷ []) ≡ []
+unfolding place_cmp
+no_overlap_with_air = refl
+
+-- a ray that begins inside the first region and ends with the second
+whole_ray : partitions_of (from_to 0 0 15 ∷ from_to 1 15 1048576 ∷ []) (region false 0 1 (true ∷ false ∷ []) ∷ region false 1 1 (false ∷ true ∷ []) ∷ []) ≡ part 0 0 15 0 1 ∷ part 1 15 1048576 0 2 ∷ []
+unfolding place_cmp
+whole_ray = refl
+
+-- both boxes start at 5: the region of the second place loses, and its instance is hit, since it has the lower number
+loser_hit : partitions_of (from_to 0 5 15 ∷ from_to 1 5 20 ∷ []) (region false 1 1 (false ∷ true ∷ true ∷ false ∷ []) ∷ region false 0 1 (false ∷ true ∷ false ∷ false ∷ []) ∷ []) ≡ part 0 5 20 0 1 ∷ []
+unfolding place_cmp
+loser_hit = refl
+
+-- two stretches of one region, with a gap between
+apart : partitions_of (from_to 0 5 15 ∷ from_to 1 20 30 ∷ []) (region false 0 2 (false ∷ true ∷ false ∷ true ∷ false ∷ []) ∷ []) ≡ part 0 5 15 0 1 ∷ part 0 20 30 1 1 ∷ []
+unfolding place_cmp
+apart = refl
+
+-- two regions overlap twice, and the first of the runs is told
+first_of_two_overlaps : overlaps_of (from_to 0 5 15 ∷ from_to 1 20 30 ∷ []) (region false 0 2 (false ∷ true ∷ false ∷ true ∷ false ∷ []) ∷ region false 0 2 (false ∷ true ∷ false ∷ true ∷ false ∷ []) ∷ []) ≡ run 0 1 5 15 ∷ []
+unfolding place_cmp
+first_of_two_overlaps = refl
+
+-- of three regions in one place each pair is told, by the lower place and then the higher one
+three_pairs : overlaps_of (from_to 0 5 15 ∷ []) (region false 0 1 (false ∷ true ∷ false ∷ []) ∷ region false 0 1 (false ∷ true ∷ false ∷ []) ∷ region false 0 1 (false ∷ true ∷ false ∷ []) ∷ [])
+    ≡ run 0 1 5 15 ∷ run 0 2 5 15 ∷ run 1 2 5 15 ∷ []
+unfolding place_cmp
+three_pairs = refl

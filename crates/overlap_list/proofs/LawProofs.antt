@@ -1,18 +1,18 @@
 -- The laws of winners and runs.
-use Rattle.std.proofs.Common.{◌≡◌, ◌≢◌, ◌<◌, ◌≤◌, ◌+◌, ◌-◌, ◌⊎◌, ◌↔◌, ℕ, zero, suc, List, [], ◌∷◌, ◌++◌, length, get_or, map, filter, flat_map, Bool, true, false, not, cond, ◌&&◌, eqb, Option, Some, None, IsSome, MatchOption, Contains, ap, sym, ◌∙◌, subst, refl, inl, inr, ⊎_elim, arith, rules}
-use Rattle.std.specs.List.{list_all, range_with_len, position, position_from}
+use Rattle.std.proofs.Common.{◌≡◌, ◌≢◌, ◌<◌, ◌≤◌, ◌+◌, ◌-◌, ℕ, zero, suc, List, [], ◌∷◌, length, get_or, map, filter, flat_map, Bool, true, false, not, ◌&&◌, eqb, Option, Some, None, IsSome, MatchOption, ap, sym, ◌∙◌, subst, refl, inl, inr, arith}
+use Rattle.std.specs.List.{range_with_len, position, position_from}
 use Rattle.std.proofs.lemmas.Bool.{cases_lt, cases_eq, cases_Bool, and_parts, and_from, eqb-true, eq-eqb, true≢false, not-true, not_from_false, cond-true, cond-false, false_from_ne_true}
 use Rattle.std.proofs.lemmas.List.Quantifiers.{position-Some}
 use Rattle.std.proofs.lemmas.List.Elements.{filter_passes}
 use Rattle.std.proofs.lemmas.Iterator.Adapters.{position_from-zero}
-use Rattle.bool_weave.proofs.Sorted.{Has, has_at, has_from_contains, contains_from_has, has_append_left, has_append_right, has_append_cases}
+use Rattle.bool_weave.proofs.Sorted.{Has, has_from_contains, contains_from_has, has_append_left, has_append_right, has_append_cases}
 use Rattle.bool_weave.proofs.Middles.{has_filtered}
 use Rattle.overlap_list.specs.declared.region.RegionClaims.{RegionClaims}
 use Rattle.overlap_list.specs.Winners.{claims_at, or_else, first_without_air, first_with_air, winner_of}
 use Rattle.overlap_list.specs.Runs.{Run, runs_from, runs_below, has_before, is_maximal}
 use Rattle.overlap_list.specs.Partitions.{is_one_winner, is_won_as, won_runs}
 use Rattle.overlap_list.specs.Steps.{IsEnd}
-use Rattle.overlap_list.specs.Laws.{IsWinner, WinnersAreRight, IsWonRun, RunsAreMaximal}
+use Rattle.overlap_list.specs.Laws.{IsWinner, WinnersAreRight, RunsAreMaximal}
 use Rattle.overlap_list.proofs.Running.{run_of, maximal, range_at}
 
 some_none : (n : ℕ) → ◌≡◌ {A = Option ℕ} (Some n) None → ⊥

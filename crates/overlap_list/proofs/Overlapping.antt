@@ -1,14 +1,13 @@
 -- The first run of a pair of regions, and the pairs one after another.
-use Rattle.std.proofs.Common.{◌≡◌, ◌<◌, ◌≤◌, ◌+◌, ◌-◌, ◌⊎◌, ℕ, zero, suc, List, [], ◌∷◌, ◌++◌, length, get_or, map, filter, flat_map, find, Bool, true, false, cond, ◌&&◌, Option, Some, None, slice_get, ap, sym, ◌∙◌, subst, refl, inl, inr, arith}
+use Rattle.std.proofs.Common.{◌≡◌, ◌<◌, ◌≤◌, ◌+◌, ◌-◌, ℕ, zero, suc, List, [], ◌∷◌, ◌++◌, length, get_or, map, filter, flat_map, find, Bool, false, ◌&&◌, Option, Some, None, slice_get, ap, sym, ◌∙◌, refl, inl, inr, arith}
 use Rattle.std.specs.List.{range_with_len, filter_map}
-use Rattle.std.proofs.lemmas.Bool.{cases_lt, cases_eq, cases_Bool, cond-true, cond-false}
-use Rattle.std.proofs.lemmas.List.{append-nil, length-append}
+use Rattle.std.proofs.lemmas.Bool.{cases_Bool, cond-true, cond-false}
+use Rattle.std.proofs.lemmas.List.{length-append}
 use Rattle.std.proofs.lemmas.List.Concat.{flat_map-append}
 use Rattle.std.proofs.lemmas.List.Elements.{filter-append, filter_map-append}
 use Rattle.overlap_list.specs.Runs.{Run, runs_from, runs_below, has_before, is_maximal}
-use Rattle.std.proofs.lemmas.List.{map-append, get_or_default}
+use Rattle.std.proofs.lemmas.List.{map-append}
 use Rattle.std.proofs.lemmas.List.FromFn.{map-range_with_len_more}
-use Rattle.surd_order.specs.declared.position.Pos.{Pos}
 use Rattle.bool_weave.specs.declared.woven.Woven.{Woven}
 use Rattle.bool_weave.specs.Claims.{intervals_of}
 use Rattle.overlap_list.specs.declared.region.RegionClaims.{RegionClaims}
@@ -16,8 +15,8 @@ use Rattle.overlap_list.specs.declared.overlap.OverlapRun.{OverlapRun}
 use Rattle.overlap_list.specs.declared.overlap.CheckFault.{CheckFault}
 use Rattle.overlap_list.specs.declared.overlap.CheckFault.TheVariants.{TooMany, Memory}
 use Rattle.overlap_list.specs.Hits.{cut_at}
-use Rattle.overlap_list.specs.Overlaps.{is_solid_at, do_overlap_at, overlap_on, first_overlap, overlaps_of, IsTooMany}
-use Rattle.overlap_list.specs.Steps.{IsEnd, passes, do_overlap}
+use Rattle.overlap_list.specs.Overlaps.{is_solid_at, do_overlap_at, overlap_on, first_overlap, IsTooMany}
+use Rattle.overlap_list.specs.Steps.{IsEnd, do_overlap}
 use Rattle.overlap_list.proofs.Running.{run_of, begins, begins_none, flat_more}
 
 abbrev pub first_of : {X : Type 0} → List X → Option X

@@ -1,12 +1,12 @@
 -- Maximal runs among all runs of neighbouring numbers.
-use Rattle.std.proofs.Common.{◌≡◌, ◌≢◌, ◌<◌, ◌≤◌, ◌+◌, ◌-◌, ◌⊎◌, ℕ, zero, suc, List, [], ◌∷◌, ◌++◌, length, get_or, map, filter, flat_map, find, Bool, true, false, not, cond, ◌&&◌, Option, Some, None, ap, sym, ◌∙◌, subst, refl, inl, inr, ⊎_elim, arith}
+use Rattle.std.proofs.Common.{◌≡◌, ◌<◌, ◌≤◌, ◌+◌, ◌-◌, ◌⊎◌, ℕ, zero, suc, List, [], ◌∷◌, ◌++◌, map, filter, flat_map, Bool, true, false, ap, sym, ◌∙◌, refl, inl, inr, arith}
 use Rattle.std.specs.List.{list_all, range_with_len}
-use Rattle.std.proofs.lemmas.Bool.{cases_lt, cases_eq, cases_order, cases_Bool, and_parts, and_from, and_left, and_right, not_from_true, not_from_false, true≢false, cond-true, cond-false, false_from_ne_true}
-use Rattle.std.proofs.lemmas.List.{map-append, map-id, append-nil}
+use Rattle.std.proofs.lemmas.Bool.{cases_lt, cases_eq, and_parts, and_from, and_left, and_right, not_from_true, not_from_false, true≢false, cond-true, cond-false, false_from_ne_true}
+use Rattle.std.proofs.lemmas.List.{map-id, append-nil}
 use Rattle.std.proofs.lemmas.List.FromFn.{map-range_with_len_more}
 use Rattle.std.proofs.lemmas.List.Concat.{flat_map-append}
 use Rattle.std.proofs.lemmas.List.Elements.{filter-append}
-use Rattle.overlap_list.specs.Runs.{Run, runs_from, runs_below, has_before, is_maximal}
+use Rattle.overlap_list.specs.Runs.{Run, runs_from, has_before, is_maximal}
 use Rattle.overlap_list.specs.Steps.{IsEnd, passes}
 
 abbrev pub run_of : ℕ → ℕ → Run

@@ -1,7 +1,7 @@
 -- Partitions, one beginning after another.
-use Rattle.std.proofs.Common.{◌≡◌, ◌<◌, ◌≤◌, ◌+◌, ◌-◌, ◌⊎◌, ℕ, zero, suc, List, [], ◌∷◌, ◌++◌, length, get_or, map, filter, flat_map, Bool, true, false, Option, Some, None, ap, sym, ◌∙◌, subst, refl, inl, inr, ⊎_elim, arith}
+use Rattle.std.proofs.Common.{◌≡◌, ◌<◌, ◌≤◌, ◌+◌, ◌⊎◌, ℕ, zero, suc, List, [], ◌∷◌, ◌++◌, length, get_or, map, filter, flat_map, Bool, true, false, Option, Some, None, ap, sym, ◌∙◌, refl, inl, inr, arith}
 use Rattle.std.specs.List.{range_with_len}
-use Rattle.std.proofs.lemmas.List.{map-append, append-nil, get_or_default}
+use Rattle.std.proofs.lemmas.List.{map-append, get_or_default}
 use Rattle.bool_weave.specs.declared.woven.Woven.{Woven}
 use Rattle.surd_order.specs.declared.position.Pos.{Pos}
 use Rattle.bool_weave.specs.Cuts.{cuts_of, ray_start}
@@ -12,7 +12,7 @@ use Rattle.overlap_list.specs.declared.hit.Hit.{Hit}
 use Rattle.overlap_list.specs.Hits.{is_candidate, lowest, hit_on, cut_at}
 use Rattle.overlap_list.specs.declared.partition.Partition.{Partition}
 use Rattle.overlap_list.specs.Winners.{winner_of}
-use Rattle.overlap_list.specs.Runs.{Run, runs_from, has_before, is_maximal}
+use Rattle.overlap_list.specs.Runs.{runs_from, has_before}
 use Rattle.overlap_list.specs.Partitions.{is_one_winner, is_won_as, or_zero, or_no_hit, partition_of}
 use Rattle.overlap_list.specs.Steps.{winner_at, goes_on, IsEnd, passes}
 use Rattle.overlap_list.proofs.Running.{run_of, begins, begins_none, filter_more}

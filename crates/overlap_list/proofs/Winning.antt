@@ -1,14 +1,14 @@
 -- Winners, region by region, and the lowest candidate.
-use Rattle.std.proofs.Common.{◌≡◌, ◌≢◌, ◌<◌, ◌≤◌, ◌+◌, ◌-◌, ◌⊎◌, ℕ, zero, suc, List, [], ◌∷◌, ◌++◌, length, get_or, take, drop, filter, replicate, Bool, true, false, not, cond, ◌&&◌, nat_le, All, AllPairs, Option, Some, None, ap, sym, ◌∙◌, subst, refl, inl, inr, ⊎_elim, arith}
+use Rattle.std.proofs.Common.{◌≡◌, ◌<◌, ◌≤◌, ◌+◌, ℕ, zero, suc, List, [], ◌∷◌, ◌++◌, length, get_or, take, drop, filter, replicate, Bool, true, cond, nat_le, AllPairs, Option, Some, None, ap, sym, ◌∙◌, subst, refl, inl, inr, arith}
 use Rattle.std.specs.List.{position, position_from}
-use Rattle.std.proofs.lemmas.Bool.{cases_lt, cases_Bool, le-leb, true≢false, cond-true, cond-false, false_from_ne_true, true_from_ne_false}
+use Rattle.std.proofs.lemmas.Bool.{cases_Bool, le-leb, cond-true, cond-false}
 use Rattle.std.proofs.lemmas.List.{take_more, length-take-le, drop_more, get_or-drop, get_or_default, length-drop}
 use Rattle.std.proofs.lemmas.Iterator.Adapters.{position_from-zero}
 use Rattle.bool_weave.specs.declared.woven.Woven.{Woven}
 use Rattle.bool_weave.proofs.Sorted.{Has, contains_from_has}
 use Rattle.bool_weave.proofs.Middles.{has_filtered}
 use Rattle.overlap_list.specs.declared.region.RegionClaims.{RegionClaims}
-use Rattle.overlap_list.specs.Winners.{claims_at, or_else}
+use Rattle.overlap_list.specs.Winners.{or_else}
 use Rattle.overlap_list.specs.Hits.{lower, lowest}
 use Rattle.overlap_list.specs.Steps.{winner_at, is_claimed_by}
 

@@ -1,5 +1,5 @@
 -- Laws of winners and of the runs that they win.
-use Rattle.std.specs.Prelude.{◌≡◌, ◌≢◌, ◌↔◌, ◌<◌, ◌≤◌, ◌+◌, ℕ, List, Bool, true, false, IsSome, MatchOption, Contains, length, slice_index_or}
+use Rattle.std.specs.Prelude.{◌≡◌, ◌≢◌, ◌↔◌, ◌<◌, ◌≤◌, ◌+◌, ℕ, List, true, false, IsSome, MatchOption, Contains, length, slice_index_or}
 use Rattle.overlap_list.specs.declared.region.RegionClaims.{RegionClaims}
 use Rattle.overlap_list.specs.Winners.{claims_at, winner_of}
 use Rattle.overlap_list.specs.Runs.{Run}

@@ -1,5 +1,5 @@
 -- Runs of neighbouring intervals that have a property.
-use Rattle.std.specs.Prelude.{ℕ, zero, suc, ◌+◌, ◌-◌, List, [], ◌∷◌, Bool, true, false, ◌&&◌, not, nat_lt, map, filter, flat_map}
+use Rattle.std.specs.Prelude.{ℕ, zero, suc, ◌+◌, ◌-◌, List, Bool, false, ◌&&◌, not, map, flat_map}
 use Rattle.std.specs.List.{list_all, range_with_len}
 
 -- numbers from one up to, not including, another

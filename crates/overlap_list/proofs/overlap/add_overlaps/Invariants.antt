@@ -1,7 +1,6 @@
 use Rattle.std.proofs.Common.{◌≡◌, ◌≤◌, ◌+◌, ◌-◌, ◌++◌, length, map}
 use Rattle.std.specs.List.{filter_map, range_with_len}
 use Rattle.overlap_list.specs.declared.overlap.TheConstants.{MOST_PAIRS}
-use Rattle.overlap_list.specs.Runs.{Run}
 use Rattle.overlap_list.specs.Overlaps.{first_overlap}
 use Rattle.overlap_list.proofs.Running.{run_of}
 use Rattle.overlap_list.proofs.overlap.add_overlaps.Given as goal

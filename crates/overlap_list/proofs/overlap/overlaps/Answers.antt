@@ -1,5 +1,5 @@
-use Rattle.std.proofs.Common.{◌≡◌, ◌+◌, ◌-◌, ◌∙◌, ◌++◌, length, flat_map, ap, sym, arith}
-use Rattle.std.specs.List.{filter_map, range_with_len}
+use Rattle.std.proofs.Common.{◌+◌, ◌-◌, ◌∙◌, ◌++◌, length, ap, sym, arith}
+use Rattle.std.specs.List.{filter_map}
 use Rattle.overlap_list.specs.Runs.{runs_from}
 use Rattle.overlap_list.specs.Overlaps.{first_overlap, overlaps_of}
 use Rattle.overlap_list.proofs.Overlapping.{more_too_many, all_more, all_within}

@@ -1,11 +1,10 @@
-use Rattle.std.proofs.Common.{◌≡◌, ◌<◌, ◌≤◌, ◌+◌, ◌∙◌, ◌++◌, ◌∷◌, [], List, Some, length, map, filter, get_or, pos, ap, sym, subst, arith}
+use Rattle.std.proofs.Common.{◌≡◌, ◌∙◌, ◌++◌, ◌∷◌, [], List, Some, length, map, filter, get_or, pos, ap, sym, arith}
 use Rattle.std.proofs.lemmas.List.{append-nil}
-use Rattle.surd_order.specs.declared.position.Pos.{Pos}
 use Rattle.surd_order.specs.declared.position.Pos.TheVariants.{Frac}
 use Rattle.bool_weave.specs.declared.woven.Woven.{Woven}
 use Rattle.bool_weave.specs.Claims.{intervals_of}
 use Rattle.overlap_list.specs.Winners.{winner_of}
-use Rattle.overlap_list.specs.Runs.{Run, runs_from}
+use Rattle.overlap_list.specs.Runs.{runs_from}
 use Rattle.overlap_list.specs.Hits.{is_candidate, lowest, hit_on}
 use Rattle.overlap_list.specs.Partitions.{is_won_as, or_no_hit, partition_of}
 use Rattle.overlap_list.specs.Steps.{passes}

@@ -1,4 +1,4 @@
-use Rattle.std.proofs.Common.{rules, ◌≡◌, ◌≤◌, ◌+◌, ◌-◌, ◌∙◌, length, map, filter, flat_map, vec_len, ap, sym, subst, arith}
+use Rattle.std.proofs.Common.{rules, ◌≡◌, ◌∙◌, length, map, filter, flat_map, vec_len, ap, arith}
 use Rattle.std.specs.List.{range_with_len}
 use Rattle.bool_weave.specs.Claims.{intervals_of}
 use Rattle.overlap_list.specs.Runs.{runs_from}

@@ -1,4 +1,4 @@
-use Rattle.std.proofs.Common.{◌≡◌, ◌∙◌, Some, None, cond, ap}
+use Rattle.std.proofs.Common.{◌∙◌, Some, None, cond, ap}
 use Rattle.overlap_list.specs.Winners.{or_else}
 use Rattle.overlap_list.specs.Steps.{winner_at, is_claimed_by}
 use Rattle.overlap_list.proofs.Winning.{taken_more}

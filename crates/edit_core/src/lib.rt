@@ -10,3 +10,6 @@ mod trees;
 
 pub use applying::apply;
 pub use law::list_laws;
+
+#[cfg(test)]
+mod tests;

@@ -1,11 +1,9 @@
 use super::*;
-use comb_tree::CombTree;
 use directory::Directory;
 use lattice_core::V3;
 use name_core::Name;
 use object_set::Object;
 use prim_half::Half;
-use region_attr::Attr;
 use solid_set::Solid;
 use std::alloc::Global;
 use std::test::Fail;
@@ -15,21 +13,15 @@ fn half(alloc: Global) -> Result<Object, Fail> {
     Ok(Object::of_solid(alloc, Solid::Half(half)))
 }
 
-fn empty(alloc: Global, attr: Attr) -> Result<Object, Fail> {
-    let tree = CombTree::of_list(alloc, &[])?;
-    Ok(Object::of_comb(alloc, attr, tree))
-}
-
 #[test]
-fn names_have_marks(rt: HostRuntime) -> Result<(), Fail> {
+fn names_stand_in_order_where_they_have_room(rt: HostRuntime) -> Result<(), Fail> {
     let alloc = rt.alloc();
     let mut directory = Directory::new(alloc);
-    directory.put(&Name::read(b"s1")?, half(alloc)?)?;
-    directory.put(&Name::read(b"a.r")?, empty(alloc, Attr::of_region())?)?;
-    directory.put(&Name::read(b"b")?, empty(alloc, Attr::of_group())?)?;
-    let body = names_text(alloc, &directory, 12)?;
-    assert_eq!(rt; body.lines(), 3);
-    assert_eq!(rt; body.text(), b"s1\na.r/R\nb/\n".as_slice());
-    assert!(rt; matches!(names_text(alloc, &directory, 11), Err(TextFault::Room)));
+    directory.put(&Name::read(b"s2")?, half(alloc)?)?;
+    directory.put(&Name::read(b"s10")?, half(alloc)?)?;
+    let body = names_text(alloc, &directory, 7)?;
+    assert_eq!(rt; body.lines(), 2);
+    assert_eq!(rt; body.text(), b"s2\ns10\n".as_slice());
+    assert!(rt; matches!(names_text(alloc, &directory, 6), Err(TextFault::Room)));
     Ok(())
 }

@@ -1,0 +1,10 @@
+pub mod SolidLaws
+pub mod ListLaws
+pub mod MatrixLaws
+pub mod TokenLaws
+pub mod CommandLaws
+pub mod SettingLaws
+pub mod PlaceLaws
+pub mod LineLaws
+pub mod ScriptLaws
+pub mod PlainLaws

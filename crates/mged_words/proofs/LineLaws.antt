@@ -1,0 +1,104 @@
+-- The words of a line, and numbers among them.
+use Rattle.std.proofs.Common.{All, subst, ◌≡◌, ◌<◌, ◌+◌, ◌++◌, ◌∷◌, [], ◌∙◌, ℕ, ℤ, List, set, take, length, get_or, drop, map, Option, Some, None, arith, ap, sym, refl}
+use Rattle.std.specs.Borrow.{Bor}
+use Rattle.std.proofs.lemmas.Grind.{common_steps}
+use Rattle.std.proofs.lemmas.List.Elements.{All-cons, All-append}
+use Rattle.std.proofs.lemmas.List.{drop_more, take_more, map-append}
+use Rattle.std.proofs.Common.{cond, Bool, true, false, ◌==◌, eq-eqb, ne_eqb, Ok, Err, nat_lt, ◌≢◌}
+use Rattle.name_core.specs.NameText.{read_name, read_with, first_bad}
+use Rattle.name_core.specs.declared.name.NameFault.TheVariants.{Empty, Long}
+use Rattle.std.proofs.lemmas.Bool.{cond-true, cond-false}
+use Rattle.std.proofs.lemmas.List.{length-map}
+use Rattle.mged_words.specs.declared.solid.SolidKind.{SolidKind}
+use Rattle.command_set.specs.declared.command.Command.{Command}
+use Rattle.command_set.specs.declared.refusal.Refusal.{Refusal}
+use Rattle.mged_words.specs.Solids.{number_count}
+use Rattle.mged_words.specs.Commands.{unless_refused, kind_command, solid_command, solid_number, number_fault, in_command, nirt_command, shot_command, view_number, direction_of}
+use Rattle.command_set.specs.declared.command.Command.TheVariants.{Bad}
+use Rattle.command_set.specs.declared.refusal.Refusal.TheVariants.{Syntax}
+
+-- one number more
+pub next_fault : (f : List ℕ → Option ℤ) (atoms : List (Bor (List ℕ))) (word i : ℕ) (d : Bor (List ℕ)) (n : ℤ) → i < length atoms → Some n ≡ f (get_or atoms i d).now
+    → number_fault (word + (i + 1)) (map f (map (λ (a : Bor (List ℕ)). a.now) (drop (i + 1) atoms))) ≡ number_fault (word + i) (map f (map (λ (a : Bor (List ℕ)). a.now) (drop i atoms)))
+next_fault f atoms word i d n lt is =
+    let rest : List (Option ℤ) = map f (map (λ (a : Bor (List ℕ)). a.now) (drop (i + 1) atoms)) in
+    let sum : word + (i + 1) ≡ (word + i) + 1 = omega arith in
+    ap (λ w. number_fault w rest) sum ∙ ap (λ o. number_fault (word + i) (o ∷ rest)) is
+    ∙ sym (ap (λ (xs : List (Bor (List ℕ))). number_fault (word + i) (map f (map (λ (a : Bor (List ℕ)). a.now) xs))) (drop_more atoms i d lt))
+
+pub next_read : (f : List ℕ → Option ℤ) (atoms : List (Bor (List ℕ))) (out : List ℤ) (i : ℕ) (d : Bor (List ℕ)) (n : ℤ) → i < length atoms → length out ≡ length atoms → Some n ≡ f (get_or atoms i d).now
+    → map f (map (λ (a : Bor (List ℕ)). a.now) (take i atoms)) ≡ map (λ (m : ℤ). Some m) (take i out)
+    → map f (map (λ (a : Bor (List ℕ)). a.now) (take (i + 1) atoms)) ≡ map (λ (m : ℤ). Some m) (take (i + 1) (set out i n))
+next_read f atoms out i d n lt len is h =
+    let now : Bor (List ℕ) → List ℕ = λ a. a.now in
+    let left : map f (map now (take (i + 1) atoms)) ≡ map f (map now (take i atoms)) ++ Some n ∷ [] =
+    ap (λ (xs : List (Bor (List ℕ))). map f (map now xs)) (take_more atoms i d lt)
+    ∙ ap (map f) (map-append now (take i atoms) (get_or atoms i d ∷ [])) ∙ map-append f (map now (take i atoms)) ((get_or atoms i d).now ∷ [])
+    ∙ ap (λ o. map f (map now (take i atoms)) ++ o ∷ []) (sym is) in
+    let right : take (i + 1) (set out i n) ≡ take i out ++ n ∷ [] = grind (arith, common_steps) in
+    left ∙ ap (λ xs. xs ++ Some n ∷ []) h ∙ sym (ap (map (λ (m : ℤ). Some m)) right ∙ map-append (λ (m : ℤ). Some m) (take i out) (n ∷ []))
+
+-- too few words behind `in`
+pub in_short : (atoms : List (Bor (List ℕ))) → length atoms < 2 → Bad Syntax ≡ in_command (map (λ (a : Bor (List ℕ)). a.now) atoms)
+in_short [] lt = refl
+in_short (a ∷ []) lt = refl
+in_short (a ∷ b ∷ rest) lt = absurd (omega (arith, lt))
+
+-- another number of words behind `nirt` than five
+pub nirt_other : (atoms : List (Bor (List ℕ))) → (length atoms ≡ 5 → ⊥) → Bad Syntax ≡ nirt_command (map (λ (a : Bor (List ℕ)). a.now) atoms)
+nirt_other [] n = refl
+nirt_other (a ∷ []) n = refl
+nirt_other (a ∷ b ∷ []) n = refl
+nirt_other (a ∷ b ∷ c ∷ []) n = refl
+nirt_other (a ∷ b ∷ c ∷ d ∷ []) n = refl
+nirt_other (a ∷ b ∷ c ∷ d ∷ e ∷ []) n = absurd (n refl)
+nirt_other (a ∷ b ∷ c ∷ d ∷ e ∷ f ∷ rest) n = refl
+
+pub nirt_five : (atoms : List (Bor (List ℕ))) (d : Bor (List ℕ)) → length atoms ≡ 5
+    → nirt_command (map (λ (a : Bor (List ℕ)). a.now) atoms) ≡ shot_command (map view_number (map (λ (a : Bor (List ℕ)). a.now) (take 3 atoms))) (direction_of (get_or atoms 3 d).now) (get_or atoms 4 d).now
+nirt_five (a ∷ b ∷ c ∷ e ∷ f ∷ []) d n = refl
+nirt_five [] d n = absurd (omega (arith, n))
+nirt_five (a ∷ []) d n = absurd (omega (arith, n))
+nirt_five (a ∷ b ∷ []) d n = absurd (omega (arith, n))
+nirt_five (a ∷ b ∷ c ∷ []) d n = absurd (omega (arith, n))
+nirt_five (a ∷ b ∷ c ∷ e ∷ []) d n = absurd (omega (arith, n))
+nirt_five (a ∷ b ∷ c ∷ e ∷ f ∷ g ∷ rest) d n = absurd (omega (arith, n))
+
+all_one : {X : Type 0} (P : X → Type 0) (x : X) → P x → All P (x ∷ [])
+all_one P x h = All-cons P x [] h (λ i d lt. absurd (omega (arith, lt)))
+
+pub next_within : (P : ℤ → Type 0) (out : List ℤ) (i : ℕ) (n : ℤ) → i < length out → P n → All P (take i out) → All P (take (i + 1) (set out i n))
+next_within P out i n lt h all =
+    let more : take i out ++ n ∷ [] ≡ take (i + 1) (set out i n) = sym (grind (arith, common_steps)) in
+    subst (All P) more (All-append P (take i out) (n ∷ []) all (all_one P n h))
+
+-- a kind of solid with as many numbers as it takes, or with others
+pub kind_right : (name : List ℕ) (kind : Option SolidKind) (k : SolidKind) (atoms : List (Bor (List ℕ))) → kind ≡ Some k → length atoms ≡ number_count k
+    → kind_command name kind (map (λ (a : Bor (List ℕ)). a.now) atoms) ≡ solid_command name k (map solid_number (map (λ (a : Bor (List ℕ)). a.now) atoms))
+kind_right name kind k atoms is count =
+    let words : List (List ℕ) = map (λ (a : Bor (List ℕ)). a.now) atoms in
+    ap (λ (o : Option SolidKind). kind_command name o words) is
+    ∙ cond-true (length words == number_count k) (solid_command name k (map solid_number words)) (Bad Syntax) (eq-eqb _ _ (length-map atoms (λ (a : Bor (List ℕ)). a.now) ∙ count))
+
+pub kind_wrong : (name : List ℕ) (kind : Option SolidKind) (k : SolidKind) (atoms : List (Bor (List ℕ))) → kind ≡ Some k → length atoms ≢ number_count k
+    → kind_command name kind (map (λ (a : Bor (List ℕ)). a.now) atoms) ≡ Bad Syntax
+kind_wrong name kind k atoms is other =
+    let words : List (List ℕ) = map (λ (a : Bor (List ℕ)). a.now) atoms in
+    ap (λ (o : Option SolidKind). kind_command name o words) is
+    ∙ cond-false (length words == number_count k) (solid_command name k (map solid_number words)) (Bad Syntax)
+    (ne_eqb _ _ (λ e. other (sym (length-map atoms (λ (a : Bor (List ℕ)). a.now)) ∙ e)))
+
+pub past_fault : (t : Bool) (refusal : Refusal) (rest : List (Option Refusal)) (command : Command) → t ≡ true
+    → unless_refused (cond t None (Some refusal) ∷ rest) command ≡ unless_refused rest command
+past_fault true refusal rest command e = refl
+past_fault false refusal rest command e = absurd cc
+
+-- a name that was read is the bytes that were given
+read_by : (t u : Bool) (bad : Option ℕ) (bytes name : List ℕ) → cond t (Err Empty) (cond u (Err Long) (read_with bad bytes)) ≡ Ok name → name ≡ bytes
+read_by true u bad bytes name h = absurd cc
+read_by false true bad bytes name h = absurd cc
+read_by false false None bytes name h = cc
+read_by false false (Some i) bytes name h = absurd cc
+
+pub read_same : (bytes name : List ℕ) → read_name bytes ≡ Ok name → name ≡ bytes
+read_same bytes name h = read_by (length bytes == 0) (nat_lt 64 (length bytes)) (first_bad bytes) bytes name h

@@ -1,0 +1,340 @@
+-- The command of a line has names and refusals that stand on one line.
+use Rattle.std.proofs.Common.{zero, suc, get_or, ◌/◌, ◌%◌, nat_lt, is_some, is_none, ◌≡◌, ◌<◌, ◌≤◌, ◌+◌, ◌++◌, ◌^◌, ◌==◌, ◌&&◌, ℕ, ℤ, Bool, true, false, cond, List, [], ◌∷◌, All, Option, Some, None, Result, Ok, Err, is_ok, length, map, codes, decimal, bytes_eq, refl, sym, subst, arith, true≢false, eqb-true}
+use Rattle.std.proofs.lemmas.Bool.{and_parts, leb-true}
+use Rattle.std.proofs.lemmas.Int.{ints}
+use Rattle.std.specs.Int.RustNames.{unsigned_abs}
+use Rattle.std.specs.List.{AllByRecursion}
+use Rattle.std.specs.Fmt.{digits, digits_onto, digit_glyph}
+use Rattle.std.proofs.lemmas.List.Elements.{All-head, All-tail, All-append}
+use Rattle.lattice_core.specs.declared.ray.Dir.{Dir}
+use Rattle.lattice_core.specs.declared.vector.V3.{V3}
+use Rattle.lattice_core.specs.declared.limit.TheConstants.{WORLD}
+use Rattle.lattice_core.specs.Limits.{IsAtMost, IsWithin}
+use Rattle.name_core.specs.NameText.{IsName, is_first_byte, is_next_byte, read_name}
+use Rattle.name_core.proofs.NameLaws.{accepted}
+use Rattle.transcript.specs.Merge.{Entry}
+use Rattle.transcript.specs.Lines.{Lacks}
+use Rattle.transcript.proofs.LineLaws.{lacks_append}
+use Rattle.transcript.proofs.TranscriptLaws.{computed}
+use Rattle.mged_words.specs.Commands.{unless_refused, name_fault, names_fault, members_fault, number_fault, matrix_fault, setting_fault, solid_number, view_number, make_command, solid_command, kind_command, in_command, direction_of, world_fault, is_from_world, is_in_world, ray_of, shot_command, nirt_command, entry_of, entries_of, region_command, r_command, g_command, rm_command, kill_command, mvall_command, ls_command, placement_or, placement_given, placed_command, sixteen_command, matrix_command, matrix_words, place_with, place_command, set_command, set_with, value_of, cattr_command, with_atoms, atoms_in, atom_command, named_command, worded_command, command_of_words, command_read, command_of}
+use Rattle.mged_words.specs.Matrices.{all_numbers, placement_read}
+use Rattle.mged_words.specs.Readable.{ArePlain, IsPlain, IsPlainRefusal, IsReadable}
+use Rattle.mged_words.specs.Scripts.{command_line}
+use Rattle.plane_geom.specs.declared.fault.ShapeFault.{ShapeFault}
+use Rattle.plane_geom.specs.declared.fault.ShapeFault.TheVariants.{Flat, NotPlanar, NotConvex, Radius, ZeroNormal}
+use Rattle.solid_set.specs.declared.solid.Solid.{Solid}
+use Rattle.mged_words.specs.declared.solid.SolidKind.{SolidKind}
+use Rattle.mged_words.specs.declared.solid.SolidKind.TheVariants.{Half, Rpp, Arb8, Sphere}
+use Rattle.mged_words.specs.Solids.{kind_of, number_count, solid_made, vector_at}
+use Rattle.command_set.specs.Refusals.{shape_text}
+use Rattle.command_set.specs.declared.refusal.ViewFault.TheVariants.{World}
+use Rattle.command_set.specs.declared.command.Command.{Command}
+use Rattle.command_set.specs.declared.command.Command.TheVariants.{Bad, Edit, Query}
+use Rattle.command_set.specs.declared.command.Edit.TheVariants.{Region, Group, Remove, Kill, RenameAll, Set}
+use Rattle.tcl_words.specs.declared.token.Token.{Token}
+use Rattle.tcl_words.specs.declared.token.Word.{Word}
+use Rattle.tcl_words.specs.declared.fault.WordFault.{WordFault}
+use Rattle.tcl_words.specs.Reading.{words_of}
+use Rattle.tcl_words.specs.TopWords.{top_words, atom_of}
+use Rattle.tree_forms.specs.declared.Op.TheVariants.{U}
+use Rattle.comb_tree.specs.declared.node.ListEntry.{ListEntry}
+use Rattle.comb_tree.specs.Changes.{names_of}
+use Rattle.region_attr.specs.Keys.{key_of}
+use Rattle.region_attr.specs.Attrs.{is_setting}
+use Rattle.lattice_core.specs.declared.placement.Placement.{Placement}
+use Rattle.command_set.specs.declared.command.Query.TheVariants.{Shot}
+use Rattle.command_set.specs.declared.refusal.Refusal.{Refusal}
+use Rattle.command_set.specs.declared.refusal.Refusal.TheVariants.{Syntax, Name, Number, View, Shape}
+
+-- a name has no line feed
+rest_lacks : (bytes : List ℕ) → All (λ b. is_next_byte b ≡ true) bytes → Lacks 10 bytes
+rest_lacks [] h = tt
+rest_lacks (b ∷ bs) h = (λ e. true≢false (sym (subst (λ x. is_next_byte x ≡ true) e (All-head (λ x. is_next_byte x ≡ true) b bs h))), rest_lacks bs (All-tail (λ x. is_next_byte x ≡ true) b bs h))
+
+pub name_lacks : (bytes : List ℕ) → IsName bytes → Lacks 10 bytes
+name_lacks [] h = absurd (omega (arith, h.some))
+name_lacks (b ∷ bs) h = (λ e. true≢false (sym (subst (λ x. is_first_byte x ≡ true) e h.first)), rest_lacks bs h.rest)
+
+-- decimals
+glyph_lacks : (r : ℕ) → digit_glyph false r ≡ 10 → ⊥
+glyph_lacks r e = by_test (nat_lt r 10) r e
+  where
+    by_test : (t : Bool) (r : ℕ) → cond t (48 + r) (87 + r) ≡ 10 → ⊥
+    by_test true r e = omega (arith, e)
+    by_test false r e = omega (arith, e)
+
+step_lacks : (t : Bool) (xs ys : List ℕ) → Lacks 10 xs → Lacks 10 ys → Lacks 10 (cond t xs ys)
+step_lacks true xs ys h k = h
+step_lacks false xs ys h k = k
+
+onto_lacks : (k n : ℕ) (rest : List ℕ) → Lacks 10 rest → Lacks 10 (digits_onto k 10 false n rest)
+onto_lacks zero n rest h = h
+onto_lacks (suc k) n rest h =
+    let glyph : Lacks 10 (digit_glyph false (n % 10) ∷ rest) = (glyph_lacks (n % 10), h) in
+    step_lacks (n / 10 == 0) _ _ glyph (onto_lacks k (n / 10) _ glyph)
+
+-- a decimal of any size
+decimal_one_line : (n : ℕ) → Lacks 10 (decimal n)
+unfolding digits
+decimal_one_line n = onto_lacks 64 n [] tt
+
+-- refusals
+plain_syntax : IsPlainRefusal Syntax
+plain_syntax = record { one_line = computed 10 (codes "syntax") refl; other = refl }
+
+plain_name : (word : ℕ) → IsPlainRefusal (Name word)
+plain_name word = record { one_line = lacks_append 10 (codes "name ") (decimal word) (computed 10 (codes "name ") refl) (decimal_one_line word); other = refl }
+
+plain_number : (word : ℕ) → IsPlainRefusal (Number word)
+plain_number word = record { one_line = lacks_append 10 (codes "number ") (decimal word) (computed 10 (codes "number ") refl) (decimal_one_line word); other = refl }
+
+plain_world : IsPlainRefusal (View World)
+plain_world = record { one_line = computed 10 (codes "view world") refl; other = refl }
+
+shape_one_line : (fault : ShapeFault) → Lacks 10 (shape_text fault)
+shape_one_line Flat = computed 10 (codes "flat") refl
+shape_one_line (NotPlanar face) = lacks_append 10 (codes "planar ") (decimal face) (computed 10 (codes "planar ") refl) (decimal_one_line face)
+shape_one_line (NotConvex face) = lacks_append 10 (codes "convex ") (decimal face) (computed 10 (codes "convex ") refl) (decimal_one_line face)
+shape_one_line Radius = computed 10 (codes "radius") refl
+shape_one_line ZeroNormal = computed 10 (codes "normal") refl
+
+plain_shape : (fault : ShapeFault) → IsPlainRefusal (Shape fault)
+plain_shape fault = record { one_line = lacks_append 10 (codes "shape ") (shape_text fault) (computed 10 (codes "shape ") refl) (shape_one_line fault); other = refl }
+
+abbrev MayBePlain : Option Refusal → Type 0
+MayBePlain None = Unit {0}
+MayBePlain (Some refusal) = IsPlainRefusal refusal
+
+-- the first refusal, or a command that is plain where none holds
+unless_plain : (faults : List (Option Refusal)) (command : Command) → AllByRecursion MayBePlain faults → (AllByRecursion (λ f. f ≡ None) faults → IsPlain command) → IsPlain (unless_refused faults command)
+unless_plain [] command h k = k tt
+unless_plain (Some refusal ∷ rest) command h k = h.0
+unless_plain (None ∷ rest) command h k = unless_plain rest command h.1 (λ all. k (refl, all))
+
+may_if : (t : Bool) (refusal : Refusal) → IsPlainRefusal refusal → MayBePlain (cond t None (Some refusal))
+may_if true refusal h = tt
+may_if false refusal h = h
+
+may_unless : (t : Bool) (refusal : Refusal) → IsPlainRefusal refusal → MayBePlain (cond t (Some refusal) None)
+may_unless true refusal h = h
+may_unless false refusal h = tt
+
+may_number : (word : ℕ) (numbers : List (Option ℤ)) → MayBePlain (number_fault word numbers)
+may_number word [] = tt
+may_number word (None ∷ rest) = plain_number word
+may_number word (Some n ∷ rest) = may_number (word + 1) rest
+
+may_pick : (t : Bool) (x y : Option Refusal) → MayBePlain x → MayBePlain y → MayBePlain (cond t x y)
+may_pick true x y h k = h
+may_pick false x y h k = k
+
+may_names : (word step : ℕ) (atoms : List (List ℕ)) → MayBePlain (names_fault word step atoms)
+may_names word step [] = tt
+may_names word step (atom ∷ rest) = may_pick (is_ok (read_name atom)) (names_fault (word + step) step rest) (Some (Name word)) (may_names (word + step) step rest) (plain_name word)
+
+named : (t : Bool) (refusal : Refusal) → cond t None (Some refusal) ≡ None → t ≡ true
+named true refusal h = refl
+named false refusal h = absurd cc
+
+name_read : (word : ℕ) (atom : List ℕ) → name_fault word atom ≡ None → Lacks 10 atom
+name_read word atom h = name_lacks atom ((accepted atom).0 (named (is_ok (read_name atom)) (Name word) h))
+
+make_plain : (name : List ℕ) (made : Result Solid ShapeFault) → Lacks 10 name → IsPlain (make_command name made)
+make_plain name (Ok solid) h = h
+make_plain name (Err fault) h = plain_shape fault
+
+solid_plain : (name : List ℕ) (kind : SolidKind) (numbers : List (Option ℤ)) → IsPlain (solid_command name kind numbers)
+solid_plain name kind numbers =
+    unless_plain (name_fault 2 name ∷ number_fault 4 numbers ∷ []) (make_command name (solid_made kind numbers))
+    (may_if (is_ok (read_name name)) (Name 2) (plain_name 2), (may_number 4 numbers, tt))
+    (λ all. make_plain name (solid_made kind numbers) (name_read 2 name all.0))
+
+in_range : (c : ℤ) → is_in_world c ≡ true → IsAtMost WORLD c
+in_range c h = let small : unsigned_abs c ≤ 524288 = leb-true (unsigned_abs c) 524288 h in (omega (arith, ints, small), omega (arith, ints, small))
+
+world_read : (origin : V3) → world_fault origin ≡ None → IsWithin WORLD origin
+world_read origin h =
+    let all : (is_in_world origin.x && is_in_world origin.y && is_in_world origin.z) ≡ true = named (is_from_world origin) (View World) h in
+    let z = and_parts (is_in_world origin.x && is_in_world origin.y) (is_in_world origin.z) all in
+    let xy = and_parts (is_in_world origin.x) (is_in_world origin.y) z.0 in
+    record { x = in_range origin.x xy.0; y = in_range origin.y xy.1; z = in_range origin.z z.1 }
+
+shot_plain : (numbers : List (Option ℤ)) (dir : Option Dir) (name : List ℕ) → IsPlain (shot_command numbers dir name)
+shot_plain numbers None name = plain_syntax
+shot_plain numbers (Some dir) name =
+    unless_plain (name_fault 6 name ∷ number_fault 2 numbers ∷ world_fault (vector_at numbers 0) ∷ []) (Query (Shot (ray_of (vector_at numbers 0) dir) (name ∷ [])))
+    (may_if (is_ok (read_name name)) (Name 6) (plain_name 6), (may_number 2 numbers, (may_if (is_from_world (vector_at numbers 0)) (View World) plain_world, tt)))
+    (λ all. record { one_line = (name_read 6 name all.0, tt); in_world = world_read (vector_at numbers 0) all.1.1.0 })
+
+either_plain : (t : Bool) (x y : Command) → IsPlain x → IsPlain y → IsPlain (cond t x y)
+either_plain true x y h k = h
+either_plain false x y h k = k
+
+kind_plain : (name : List ℕ) (kind : Option SolidKind) (atoms : List (List ℕ)) → IsPlain (kind_command name kind atoms)
+kind_plain name None atoms = plain_syntax
+kind_plain name (Some kind) atoms =
+    either_plain (length atoms == number_count kind) (solid_command name kind (map solid_number atoms)) (Bad Syntax) (solid_plain name kind (map solid_number atoms)) plain_syntax
+
+in_plain : (atoms : List (List ℕ)) → IsPlain (in_command atoms)
+in_plain [] = plain_syntax
+in_plain (a ∷ []) = plain_syntax
+in_plain (name ∷ kind ∷ atoms) = kind_plain name (kind_of kind) atoms
+
+nirt_plain : (atoms : List (List ℕ)) → IsPlain (nirt_command atoms)
+nirt_plain [] = plain_syntax
+nirt_plain (a ∷ []) = plain_syntax
+nirt_plain (a ∷ b ∷ []) = plain_syntax
+nirt_plain (a ∷ b ∷ c ∷ []) = plain_syntax
+nirt_plain (a ∷ b ∷ c ∷ d ∷ []) = plain_syntax
+nirt_plain (x ∷ y ∷ z ∷ dir ∷ name ∷ []) = shot_plain (map view_number (x ∷ y ∷ z ∷ [])) (direction_of dir) name
+nirt_plain (a ∷ b ∷ c ∷ d ∷ e ∷ f ∷ rest) = plain_syntax
+
+-- names that were read
+both_fine : (t : Bool) (x : Option Refusal) (refusal : Refusal) → cond t x (Some refusal) ≡ None → (t ≡ true) × (x ≡ None)
+both_fine true x refusal h = (refl, h)
+both_fine false x refusal h = absurd cc
+
+names_plain : (word step : ℕ) (atoms : List (List ℕ)) → names_fault word step atoms ≡ None → ArePlain atoms
+names_plain word step [] h = tt
+names_plain word step (atom ∷ rest) h =
+    let fine = both_fine (is_ok (read_name atom)) (names_fault (word + step) step rest) (Name word) h in
+    (name_lacks atom ((accepted atom).0 fine.0), names_plain (word + step) step rest fine.1)
+
+members_plain : (members : List (List ℕ)) → ArePlain members → ArePlain (names_of (map (entry_of U) members))
+members_plain [] h = tt
+members_plain (m ∷ ms) h = (h.0, members_plain ms h.1)
+
+region_plain : (name : List ℕ) (entries : Option (List ListEntry)) → IsPlain (region_command name entries)
+region_plain name None = plain_syntax
+region_plain name (Some []) = plain_syntax
+region_plain name (Some (e ∷ es)) =
+    unless_plain (name_fault 2 name ∷ members_fault 4 (Some (e ∷ es)) ∷ []) (Edit (Region name (e ∷ es)))
+    (may_if (is_ok (read_name name)) (Name 2) (plain_name 2), (may_names 4 2 (names_of (e ∷ es)), tt))
+    (λ all. (name_read 2 name all.0, names_plain 4 2 (names_of (e ∷ es)) all.1.0))
+
+r_plain : (atoms : List (List ℕ)) → IsPlain (r_command atoms)
+r_plain [] = plain_syntax
+r_plain (name ∷ rest) = region_plain name (entries_of rest)
+
+g_plain : (atoms : List (List ℕ)) → IsPlain (g_command atoms)
+g_plain [] = plain_syntax
+g_plain (a ∷ []) = plain_syntax
+g_plain (name ∷ member ∷ rest) =
+    unless_plain (names_fault 2 1 (name ∷ member ∷ rest) ∷ []) (Edit (Group name (map (entry_of U) (member ∷ rest)))) (may_names 2 1 (name ∷ member ∷ rest), tt)
+    (λ all. let fine = names_plain 2 1 (name ∷ member ∷ rest) all.0 in (fine.0, members_plain (member ∷ rest) fine.1))
+
+rm_plain : (atoms : List (List ℕ)) → IsPlain (rm_command atoms)
+rm_plain [] = plain_syntax
+rm_plain (a ∷ []) = plain_syntax
+rm_plain (comb ∷ member ∷ rest) =
+    unless_plain (names_fault 2 1 (comb ∷ member ∷ rest) ∷ []) (Edit (Remove comb (member ∷ rest))) (may_names 2 1 (comb ∷ member ∷ rest), tt)
+    (λ all. let fine = names_plain 2 1 (comb ∷ member ∷ rest) all.0 in (fine.0, fine.1))
+
+kill_plain : (atoms : List (List ℕ)) → IsPlain (kill_command atoms)
+kill_plain [] = plain_syntax
+kill_plain (name ∷ rest) = unless_plain (names_fault 2 1 (name ∷ rest) ∷ []) (Edit (Kill (name ∷ rest))) (may_names 2 1 (name ∷ rest), tt) (λ all. names_plain 2 1 (name ∷ rest) all.0)
+
+mvall_plain : (atoms : List (List ℕ)) → IsPlain (mvall_command atoms)
+mvall_plain [] = plain_syntax
+mvall_plain (a ∷ []) = plain_syntax
+mvall_plain (old ∷ new ∷ []) =
+    unless_plain (names_fault 2 1 (old ∷ new ∷ []) ∷ []) (Edit (RenameAll old new)) (may_names 2 1 (old ∷ new ∷ []), tt)
+    (λ all. let fine = names_plain 2 1 (old ∷ new ∷ []) all.0 in (fine.0, fine.1.0))
+mvall_plain (a ∷ b ∷ c ∷ rest) = plain_syntax
+
+ls_plain : (atoms : List (List ℕ)) → IsPlain (ls_command atoms)
+ls_plain [] = tt
+ls_plain (a ∷ rest) = plain_syntax
+
+placed_plain : (comb member : List ℕ) (fault : Option Refusal) (placement : Option Placement) → MayBePlain fault → ArePlain (comb ∷ member ∷ []) → IsPlain (placed_command comb member (placement_or fault placement))
+placed_plain comb member (Some refusal) placement may names = may
+placed_plain comb member None None may names = plain_number 4
+placed_plain comb member None (Some placement) may names = (names.0, names.1.0)
+
+matrix_plain : (is_group : Bool) (numbers : List (Option ℤ)) → MayBePlain (matrix_fault is_group numbers)
+matrix_plain true numbers = may_if (is_some (all_numbers numbers)) (Number 4) (plain_number 4)
+matrix_plain false numbers = may_number 4 numbers
+
+sixteen_plain : (comb member : List ℕ) (is_group : Bool) (atoms : List (List ℕ)) → IsPlain (sixteen_command comb member is_group atoms)
+sixteen_plain comb member is_group atoms =
+    either_plain (length atoms == 16) (unless_refused (names_fault 2 1 (comb ∷ member ∷ []) ∷ []) (placed_command comb member (placement_given is_group (map view_number atoms)))) (Bad Syntax)
+    (unless_plain (names_fault 2 1 (comb ∷ member ∷ []) ∷ []) (placed_command comb member (placement_given is_group (map view_number atoms))) (may_names 2 1 (comb ∷ member ∷ []), tt)
+    (λ all. placed_plain comb member (matrix_fault is_group (map view_number atoms)) (placement_read (map view_number atoms)) (matrix_plain is_group (map view_number atoms)) (names_plain 2 1 (comb ∷ member ∷ []) all.0)))
+    plain_syntax
+
+words_plain : (comb member : List ℕ) (is_group : Bool) (atoms : Option (List (List ℕ))) → IsPlain (matrix_command comb member is_group atoms)
+words_plain comb member is_group None = plain_syntax
+words_plain comb member is_group (Some atoms) = sixteen_plain comb member is_group atoms
+
+with_plain : (line : List ℕ) (tokens : List Token) (words : List Word) (comb member : Option (List ℕ)) → IsPlain (place_with line tokens words comb member)
+with_plain line tokens words None member = plain_syntax
+with_plain line tokens words (Some comb) None = plain_syntax
+with_plain line tokens words (Some comb) (Some member) = words_plain comb member (length words == 1) (matrix_words line tokens words)
+
+place_plain : (line : List ℕ) (tokens : List Token) (words : List Word) → IsPlain (place_command line tokens words)
+place_plain line tokens [] = plain_syntax
+place_plain line tokens (a ∷ []) = plain_syntax
+place_plain line tokens (comb ∷ member ∷ words) = with_plain line tokens words (atom_of line tokens comb) (atom_of line tokens member)
+
+setting_plain : (name key value : List ℕ) → IsPlain (set_command name key value)
+setting_plain name key value =
+    either_plain (is_none (key_of key)) (Bad Syntax) (unless_refused (name_fault 2 name ∷ setting_fault 4 key value ∷ []) (Edit (Set name (record { key = key; value = value })))) plain_syntax
+    (unless_plain (name_fault 2 name ∷ setting_fault 4 key value ∷ []) (Edit (Set name (record { key = key; value = value })))
+    (may_if (is_ok (read_name name)) (Name 2) (plain_name 2), (may_if (is_setting key value) (Number 4) (plain_number 4), tt)) (λ all. name_read 2 name all.0))
+
+set_plain : (name key : Option (List ℕ)) (value : List ℕ) → IsPlain (set_with name key value)
+set_plain None key value = plain_syntax
+set_plain (Some name) None value = plain_syntax
+set_plain (Some name) (Some key) value = setting_plain name key value
+
+cattr_plain : (line : List ℕ) (tokens : List Token) (words : List Word) → IsPlain (cattr_command line tokens words)
+cattr_plain line tokens [] = plain_syntax
+cattr_plain line tokens (a ∷ []) = plain_syntax
+cattr_plain line tokens (a ∷ b ∷ []) = plain_syntax
+cattr_plain line tokens (name ∷ key ∷ value ∷ rest) = set_plain (atom_of line tokens name) (atom_of line tokens key) (value_of line tokens value rest)
+
+atom_plain : (word : List ℕ) (atoms : List (List ℕ)) → IsPlain (atom_command word atoms)
+atom_plain word atoms =
+    either_plain (bytes_eq word (codes "in")) (in_command atoms) _ (in_plain atoms)
+    (either_plain (bytes_eq word (codes "nirt")) (nirt_command atoms) _ (nirt_plain atoms)
+    (either_plain (bytes_eq word (codes "r")) (r_command atoms) _ (r_plain atoms)
+    (either_plain (bytes_eq word (codes "g")) (g_command atoms) _ (g_plain atoms)
+    (either_plain (bytes_eq word (codes "rm")) (rm_command atoms) _ (rm_plain atoms)
+    (either_plain (bytes_eq word (codes "kill")) (kill_command atoms) _ (kill_plain atoms)
+    (either_plain (bytes_eq word (codes "mvall")) (mvall_command atoms) _ (mvall_plain atoms)
+    (either_plain (bytes_eq word (codes "ls")) (ls_command atoms) (Bad Syntax) (ls_plain atoms) plain_syntax)))))))
+
+atoms_plain : (word : List ℕ) (atoms : Option (List (List ℕ))) → IsPlain (with_atoms (atom_command word) atoms)
+atoms_plain word None = plain_syntax
+atoms_plain word (Some atoms) = atom_plain word atoms
+
+named_plain : (line : List ℕ) (tokens : List Token) (words : List Word) (word : List ℕ) → IsPlain (named_command line tokens words word)
+named_plain line tokens words word =
+    either_plain (bytes_eq word (codes "place")) (place_command line tokens words) _ (place_plain line tokens words)
+    (either_plain (bytes_eq word (codes "cattr")) (cattr_command line tokens words) (with_atoms (atom_command word) (atoms_in line tokens words)) (cattr_plain line tokens words) (atoms_plain word (atoms_in line tokens words)))
+
+worded_plain : (line : List ℕ) (tokens : List Token) (words : List Word) (word : Option (List ℕ)) → IsPlain (worded_command line tokens words word)
+worded_plain line tokens words None = plain_syntax
+worded_plain line tokens words (Some word) = named_plain line tokens words word
+
+all_plain : (line : List ℕ) (tokens : List Token) (words : List Word) → IsPlain (command_of_words line tokens words)
+all_plain line tokens [] = plain_syntax
+all_plain line tokens (w ∷ rest) = worded_plain line tokens rest (atom_of line tokens w)
+
+read_plain : (line : List ℕ) (read : Result (List Token) WordFault) → IsPlain (command_read line read)
+read_plain line (Err fault) = plain_syntax
+read_plain line (Ok tokens) = all_plain line tokens (top_words tokens)
+
+pub line_plain : (line : List ℕ) → IsPlain (command_of line)
+line_plain line = read_plain line (words_of line)
+
+one_entry : (x : Entry Command) → IsReadable x → (i : ℕ) (d : Entry Command) → i < 1 → IsReadable (get_or (x ∷ []) i d)
+one_entry x k zero d lt = k
+one_entry x k (suc i) d lt = absurd (omega (arith, lt))
+
+all_end : (xs : List (Entry Command)) (x : Entry Command) → All IsReadable xs → IsReadable x → All IsReadable (xs ++ x ∷ [])
+all_end xs x h k = All-append IsReadable xs (x ∷ []) h (one_entry x k)
+
+-- with the command of one line more
+pub line_end : (script : List (Entry Command)) (line : List ℕ) → All IsReadable script → All IsReadable (script ++ command_line line ∷ [])
+line_end script line h = all_end script (command_line line) h (line_plain line)

@@ -1,0 +1,327 @@
+-- Which command a line is, or the refusal that it is answered as it stands. All of a line's form is looked at first, then
+-- its names, its numbers, the ray, and the solid.
+use Rattle.std.specs.Prelude.{ℕ, ℤ, Bool, true, false, ◌&&◌, ◌==◌, ◌+◌, ◌-◌, List, [], ◌∷◌, Option, Some, None, Result, Ok, Err, is_ok, is_some, is_none, map, length, codes, bytes_eq, nat_le, unwrap_or, if◌then◌else◌}
+use Rattle.std.specs.List.{slice_range}
+use Rattle.std.specs.Option.{option_map}
+use Rattle.std.specs.Int.RustNames.{unsigned_abs}
+use Rattle.lattice_core.specs.declared.ray.Dir.{Dir}
+use Rattle.lattice_core.specs.declared.ray.Dir.TheVariants.{PlusX, MinusX, PlusY, MinusY, PlusZ, MinusZ}
+use Rattle.lattice_core.specs.declared.ray.Ray.{Ray}
+use Rattle.lattice_core.specs.declared.vector.V3.{V3}
+use Rattle.lattice_core.specs.declared.placement.Placement.{Placement}
+use Rattle.name_core.specs.NameText.{read_name}
+use Rattle.tcl_words.specs.Numbers.{number_of}
+use Rattle.tcl_words.specs.Reading.{words_of}
+use Rattle.tcl_words.specs.TopWords.{top_words, atom_of, raw_of, nth}
+use Rattle.tcl_words.specs.declared.fault.WordFault.{WordFault}
+use Rattle.tcl_words.specs.declared.token.Token.{Token}
+use Rattle.tcl_words.specs.declared.token.Word.{Word}
+use Rattle.tree_forms.specs.declared.Op.{Op}
+use Rattle.tree_forms.specs.declared.Op.TheVariants.{U, N, Minus}
+use Rattle.comb_tree.specs.declared.node.ListEntry.{ListEntry}
+use Rattle.comb_tree.specs.Changes.{names_of}
+use Rattle.region_attr.specs.Keys.{key_of}
+use Rattle.region_attr.specs.Attrs.{is_setting}
+use Rattle.plane_geom.specs.declared.fault.ShapeFault.{ShapeFault}
+use Rattle.solid_set.specs.declared.solid.Solid.{Solid}
+use Rattle.object_set.specs.declared.object.Body.TheVariants as bodies
+use Rattle.object_set.specs.Objects.{Parts}
+use Rattle.command_set.specs.declared.command.Command.{Command}
+use Rattle.command_set.specs.declared.command.Command.TheVariants.{Bad, Edit, Query}
+use Rattle.command_set.specs.declared.command.Edit.TheVariants.{Make, Region, Group, Remove, Kill, RenameAll, Place, Set}
+use Rattle.command_set.specs.declared.command.Query.TheVariants.{Names, Shot}
+use Rattle.command_set.specs.declared.refusal.Refusal.{Refusal}
+use Rattle.command_set.specs.declared.refusal.Refusal.TheVariants.{Syntax, Name, Number, View, Shape}
+use Rattle.command_set.specs.declared.refusal.ViewFault.TheVariants.{World}
+use Rattle.mged_words.specs.declared.solid.SolidKind.{SolidKind}
+use Rattle.mged_words.specs.Solids.{kind_of, number_count, solid_made, vector_at}
+use Rattle.mged_words.specs.Matrices.{all_numbers, placement_read, identity}
+
+-- the words of a line, where each is an atom or a group of one atom
+abbrev pub all_atoms : List (Option (List ℕ)) → Option (List (List ℕ))
+all_atoms [] = Some []
+all_atoms (None ∷ rest) = None
+all_atoms (Some atom ∷ rest) = option_map (λ atoms. atom ∷ atoms) (all_atoms rest)
+
+abbrev pub atoms_in : List ℕ → List Token → List Word → Option (List (List ℕ))
+atoms_in line tokens words = all_atoms (map (atom_of line tokens) words)
+
+-- the first refusal that holds, else the command
+abbrev pub unless_refused : List (Option Refusal) → Command → Command
+unless_refused [] command = command
+unless_refused (Some refusal ∷ rest) command = Bad refusal
+unless_refused (None ∷ rest) command = unless_refused rest command
+
+-- the word of this number is no name
+abbrev pub name_fault : ℕ → List ℕ → Option Refusal
+name_fault word atom = if is_ok (read_name atom) then None else Some (Name word)
+
+-- the first of the words that is no name, where they are counted from one number on, by steps
+abbrev pub names_fault : ℕ → ℕ → List (List ℕ) → Option Refusal
+names_fault word step [] = None
+names_fault word step (atom ∷ rest) = if is_ok (read_name atom) then names_fault (word + step) step rest else Some (Name word)
+
+abbrev pub kept_to : ℕ → Option ℤ → Option ℤ
+kept_to most None = None
+kept_to most (Some n) = if nat_le (unsigned_abs n) most then Some n else None
+
+-- an atom as a number of at most this size
+abbrev pub number_to : ℕ → List ℕ → Option ℤ
+number_to most atom = kept_to most (number_of atom)
+
+-- a coordinate, a radius, a component of a normal or a distance, in millimetres
+abbrev pub solid_number : List ℕ → Option ℤ
+solid_number atom = number_to 16384 atom
+
+-- a coordinate of a ray's origin, in millimetres, or a number of a matrix
+abbrev pub view_number : List ℕ → Option ℤ
+view_number atom = number_to 999999999 atom
+
+-- the first of the words, counted from this one, that is no number in its range
+abbrev pub number_fault : ℕ → List (Option ℤ) → Option Refusal
+number_fault word [] = None
+number_fault word (None ∷ rest) = Some (Number word)
+number_fault word (Some n ∷ rest) = number_fault (word + 1) rest
+
+abbrev pub solid_object : Solid → Parts
+solid_object solid = record { body = bodies.Solid solid; kept = [] }
+
+abbrev pub make_command : List ℕ → Result Solid ShapeFault → Command
+make_command name (Ok solid) = Edit (Make name (solid_object solid))
+make_command name (Err fault) = Bad (Shape fault)
+
+-- the numbers of a solid, after its name was read
+abbrev pub numbers_command : List ℕ → SolidKind → List (Option ℤ) → Command
+numbers_command name kind numbers = unless_refused (number_fault 4 numbers ∷ []) (make_command name (solid_made kind numbers))
+
+-- `in NAME KIND` and the numbers of that kind
+abbrev pub solid_command : List ℕ → SolidKind → List (Option ℤ) → Command
+solid_command name kind numbers =
+    unless_refused (name_fault 2 name ∷ number_fault 4 numbers ∷ []) (make_command name (solid_made kind numbers))
+
+abbrev pub kind_command : List ℕ → Option SolidKind → List (List ℕ) → Command
+kind_command name None atoms = Bad Syntax
+kind_command name (Some kind) atoms = if length atoms == number_count kind then solid_command name kind (map solid_number atoms) else Bad Syntax
+
+abbrev pub in_command : List (List ℕ) → Command
+in_command [] = Bad Syntax
+in_command (name ∷ []) = Bad Syntax
+in_command (name ∷ kind ∷ atoms) = kind_command name (kind_of kind) atoms
+
+abbrev pub direction_of : List ℕ → Option Dir
+direction_of word =
+    if bytes_eq word (codes "+x") then Some PlusX
+    else (if bytes_eq word (codes "-x") then Some MinusX
+    else (if bytes_eq word (codes "+y") then Some PlusY
+    else (if bytes_eq word (codes "-y") then Some MinusY
+    else (if bytes_eq word (codes "+z") then Some PlusZ
+    else (if bytes_eq word (codes "-z") then Some MinusZ else None)))))
+
+abbrev pub is_in_world : ℤ → Bool
+is_in_world c = nat_le (unsigned_abs c) 524288
+
+abbrev pub is_from_world : V3 → Bool
+is_from_world origin = is_in_world origin.x && is_in_world origin.y && is_in_world origin.z
+
+-- a ray starts in the world
+abbrev pub world_fault : V3 → Option Refusal
+world_fault origin = if is_from_world origin then None else Some (View World)
+
+abbrev pub ray_of : V3 → Dir → Ray
+ray_of origin dir = record { origin = origin; dir = dir }
+
+abbrev pub shot_from : V3 → Dir → List ℕ → Command
+shot_from origin dir name = unless_refused (world_fault origin ∷ []) (Query (Shot (ray_of origin dir) (name ∷ [])))
+
+-- `nirt X Y Z DIR NAME`
+abbrev pub shot_command : List (Option ℤ) → Option Dir → List ℕ → Command
+shot_command numbers None name = Bad Syntax
+shot_command numbers (Some dir) name =
+    unless_refused (name_fault 6 name ∷ number_fault 2 numbers ∷ world_fault (vector_at numbers 0) ∷ []) (Query (Shot (ray_of (vector_at numbers 0) dir) (name ∷ [])))
+
+abbrev pub nirt_command : List (List ℕ) → Command
+nirt_command (x ∷ y ∷ z ∷ dir ∷ name ∷ []) = shot_command (map view_number (x ∷ y ∷ z ∷ [])) (direction_of dir) name
+nirt_command _ = Bad Syntax
+
+abbrev pub operator_of : List ℕ → Option Op
+operator_of word =
+    if bytes_eq word (codes "u") then Some U
+    else (if bytes_eq word (codes "+") then Some N
+    else (if bytes_eq word (codes "-") then Some Minus else None))
+
+-- new members stand where they were made
+abbrev pub entry_of : Op → List ℕ → ListEntry
+entry_of op name = record { op = op; name = name; placement = identity }
+
+abbrev pub entry_before : Option Op → List ℕ → Option (List ListEntry) → Option (List ListEntry)
+entry_before None name rest = None
+entry_before (Some op) name rest = option_map (λ list. entry_of op name ∷ list) rest
+
+-- operators and members by turns; none where one is no operator, or an operator stands last
+abbrev pub entries_of : List (List ℕ) → Option (List ListEntry)
+entries_of [] = Some []
+entries_of (op ∷ []) = None
+entries_of (op ∷ name ∷ rest) = entry_before (operator_of op) name (entries_of rest)
+
+-- the first member of a list that is no name, where the first one is this word
+abbrev pub members_fault : ℕ → Option (List ListEntry) → Option Refusal
+members_fault word None = None
+members_fault word (Some list) = names_fault word 2 (names_of list)
+
+-- `r NAME OP MEMBER ..`
+abbrev pub region_command : List ℕ → Option (List ListEntry) → Command
+region_command name None = Bad Syntax
+region_command name (Some []) = Bad Syntax
+region_command name (Some (e ∷ es)) = unless_refused (name_fault 2 name ∷ members_fault 4 (Some (e ∷ es)) ∷ []) (Edit (Region name (e ∷ es)))
+
+abbrev pub r_command : List (List ℕ) → Command
+r_command [] = Bad Syntax
+r_command (name ∷ rest) = region_command name (entries_of rest)
+
+-- `g NAME MEMBER ..`
+abbrev pub g_command : List (List ℕ) → Command
+g_command [] = Bad Syntax
+g_command (name ∷ []) = Bad Syntax
+g_command (name ∷ member ∷ rest) = unless_refused (names_fault 2 1 (name ∷ member ∷ rest) ∷ []) (Edit (Group name (map (entry_of U) (member ∷ rest))))
+
+-- `rm COMB MEMBER ..`
+abbrev pub rm_command : List (List ℕ) → Command
+rm_command [] = Bad Syntax
+rm_command (comb ∷ []) = Bad Syntax
+rm_command (comb ∷ member ∷ rest) = unless_refused (names_fault 2 1 (comb ∷ member ∷ rest) ∷ []) (Edit (Remove comb (member ∷ rest)))
+
+-- `kill NAME ..`
+abbrev pub kill_command : List (List ℕ) → Command
+kill_command [] = Bad Syntax
+kill_command (name ∷ rest) = unless_refused (names_fault 2 1 (name ∷ rest) ∷ []) (Edit (Kill (name ∷ rest)))
+
+-- `mvall OLD NEW`
+abbrev pub mvall_command : List (List ℕ) → Command
+mvall_command (old ∷ new ∷ []) = unless_refused (names_fault 2 1 (old ∷ new ∷ []) ∷ []) (Edit (RenameAll old new))
+mvall_command _ = Bad Syntax
+
+-- `ls`
+abbrev pub ls_command : List (List ℕ) → Command
+ls_command [] = Query Names
+ls_command _ = Bad Syntax
+
+-- the refusal of numbers that all stand in one word
+abbrev pub group_fault : ℕ → List (Option ℤ) → Option Refusal
+group_fault word numbers = if is_some (all_numbers numbers) then None else Some (Number word)
+
+-- the first number of a matrix that is none; all numbers of a group have its word
+abbrev pub matrix_fault : Bool → List (Option ℤ) → Option Refusal
+matrix_fault is_group numbers = if is_group then group_fault 4 numbers else number_fault 4 numbers
+
+-- numbers that are no placement, or one with a shift too far, are named by their first word
+abbrev pub placement_or : Option Refusal → Option Placement → Result Placement Refusal
+placement_or (Some refusal) placement = Err refusal
+placement_or None None = Err (Number 4)
+placement_or None (Some placement) = Ok placement
+
+abbrev pub placement_given : Bool → List (Option ℤ) → Result Placement Refusal
+placement_given is_group numbers = placement_or (matrix_fault is_group numbers) (placement_read numbers)
+
+abbrev pub placed_command : List ℕ → List ℕ → Result Placement Refusal → Command
+placed_command comb member (Ok placement) = Edit (Place comb member placement)
+placed_command comb member (Err refusal) = Bad refusal
+
+-- sixteen numbers, each a word or all in one group
+abbrev pub sixteen_command : List ℕ → List ℕ → Bool → List (List ℕ) → Command
+sixteen_command comb member is_group atoms =
+    if length atoms == 16 then unless_refused (names_fault 2 1 (comb ∷ member ∷ []) ∷ []) (placed_command comb member (placement_given is_group (map view_number atoms)))
+    else Bad Syntax
+
+abbrev pub matrix_command : List ℕ → List ℕ → Bool → Option (List (List ℕ)) → Command
+matrix_command comb member is_group None = Bad Syntax
+matrix_command comb member is_group (Some atoms) = sixteen_command comb member is_group atoms
+
+-- the words in a group; a word that is no group has none
+abbrev pub words_in : List ℕ → List Token → Word → Option (List (List ℕ))
+words_in line tokens w =
+    if w.first == w.last then None
+    else atoms_in line (slice_range tokens (w.first + 1) w.last) (top_words (slice_range tokens (w.first + 1) w.last))
+
+-- the words of a matrix: those in a single group, or the words themselves
+abbrev pub matrix_words : List ℕ → List Token → List Word → Option (List (List ℕ))
+matrix_words line tokens (w ∷ []) = words_in line tokens w
+matrix_words line tokens words = atoms_in line tokens words
+
+abbrev pub place_with : List ℕ → List Token → List Word → Option (List ℕ) → Option (List ℕ) → Command
+place_with line tokens words None member = Bad Syntax
+place_with line tokens words (Some comb) None = Bad Syntax
+place_with line tokens words (Some comb) (Some member) = matrix_command comb member (length words == 1) (matrix_words line tokens words)
+
+-- `place COMB MEMBER` and 16 numbers, or one group of them
+abbrev pub place_command : List ℕ → List Token → List Word → Command
+place_command line tokens (comb ∷ member ∷ words) = place_with line tokens words (atom_of line tokens comb) (atom_of line tokens member)
+place_command line tokens _ = Bad Syntax
+
+abbrev pub last_token : List Token → Token
+last_token tokens = nth tokens (length tokens - 1)
+
+-- the bytes from the start of a word to the end of the line's last word
+abbrev pub text_from : List ℕ → List Token → Word → List ℕ
+text_from line tokens w = slice_range line (nth tokens w.first).start (last_token tokens).end
+
+-- the raw text of a single group, or the bytes from the first word's start to the last word's end
+abbrev pub value_of : List ℕ → List Token → Word → List Word → List ℕ
+value_of line tokens w [] = unwrap_or (raw_of line tokens w) (text_from line tokens w)
+value_of line tokens w (next ∷ rest) = text_from line tokens w
+
+-- the words from this one on are no value of the attribute
+abbrev pub setting_fault : ℕ → List ℕ → List ℕ → Option Refusal
+setting_fault word key value = if is_setting key value then None else Some (Number word)
+
+abbrev pub set_command : List ℕ → List ℕ → List ℕ → Command
+set_command name key value =
+    if is_none (key_of key) then Bad Syntax
+    else unless_refused (name_fault 2 name ∷ setting_fault 4 key value ∷ []) (Edit (Set name (record { key = key; value = value })))
+
+abbrev pub set_with : Option (List ℕ) → Option (List ℕ) → List ℕ → Command
+set_with None key value = Bad Syntax
+set_with (Some name) None value = Bad Syntax
+set_with (Some name) (Some key) value = set_command name key value
+
+-- `cattr NAME KEY VALUE ..`
+abbrev pub cattr_command : List ℕ → List Token → List Word → Command
+cattr_command line tokens (name ∷ key ∷ value ∷ rest) = set_with (atom_of line tokens name) (atom_of line tokens key) (value_of line tokens value rest)
+cattr_command line tokens _ = Bad Syntax
+
+abbrev pub with_atoms : (List (List ℕ) → Command) → Option (List (List ℕ)) → Command
+with_atoms f None = Bad Syntax
+with_atoms f (Some atoms) = f atoms
+
+-- the commands of which each word is an atom
+abbrev pub atom_command : List ℕ → List (List ℕ) → Command
+atom_command word atoms =
+    if bytes_eq word (codes "in") then in_command atoms
+    else (if bytes_eq word (codes "nirt") then nirt_command atoms
+    else (if bytes_eq word (codes "r") then r_command atoms
+    else (if bytes_eq word (codes "g") then g_command atoms
+    else (if bytes_eq word (codes "rm") then rm_command atoms
+    else (if bytes_eq word (codes "kill") then kill_command atoms
+    else (if bytes_eq word (codes "mvall") then mvall_command atoms
+    else (if bytes_eq word (codes "ls") then ls_command atoms else Bad Syntax)))))))
+
+abbrev pub named_command : List ℕ → List Token → List Word → List ℕ → Command
+named_command line tokens words word =
+    if bytes_eq word (codes "place") then place_command line tokens words
+    else (if bytes_eq word (codes "cattr") then cattr_command line tokens words
+    else with_atoms (atom_command word) (atoms_in line tokens words))
+
+abbrev pub worded_command : List ℕ → List Token → List Word → Option (List ℕ) → Command
+worded_command line tokens words None = Bad Syntax
+worded_command line tokens words (Some word) = named_command line tokens words word
+
+abbrev pub command_of_words : List ℕ → List Token → List Word → Command
+command_of_words line tokens [] = Bad Syntax
+command_of_words line tokens (w ∷ rest) = worded_command line tokens rest (atom_of line tokens w)
+
+abbrev pub command_read : List ℕ → Result (List Token) WordFault → Command
+command_read line (Err fault) = Bad Syntax
+command_read line (Ok tokens) = command_of_words line tokens (top_words tokens)
+
+-- the command of a line
+abbrev pub command_of : List ℕ → Command
+command_of line = command_read line (words_of line)

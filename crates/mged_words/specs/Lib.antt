@@ -1,0 +1,8 @@
+pub mod Matrices
+pub mod Solids
+pub mod Commands
+pub mod Entries
+pub mod Scripts
+pub mod Readings
+pub mod Readable
+pub mod Examples

@@ -1,0 +1,41 @@
+-- What reading names, lines and a script gave.
+use Rattle.std.specs.Prelude.{◌≡◌, ℕ, List, Option, Some, None, Result, Ok, Err, map, is_none, true, false}
+use Rattle.region_attr.specs.Attrs.{is_setting}
+use Rattle.region_attr.specs.Keys.{key_of}
+use Rattle.region_attr.specs.declared.attr.AttrFault.{AttrFault}
+use Rattle.region_attr.specs.declared.attr.AttrFault.TheVariants.{UnknownKey, BadValue}
+use Rattle.command_set.specs.Lawful.{KeyAndValue}
+use Rattle.command_set.specs.declared.command.Command.{Command}
+use Rattle.command_set.specs.declared.command.Command.TheVariants.{Bad}
+use Rattle.command_set.specs.declared.refusal.Refusal.{Refusal}
+use Rattle.mged_words.specs.Entries.{command_entry}
+use Rattle.mged_words.specs.Scripts.{script_of}
+use Rattle.mged_words.specs.declared.command.ScriptCommand.{ScriptCommand}
+use Rattle.mged_words.specs.declared.fault.LineFault.{LineFault}
+use Rattle.mged_words.specs.declared.fault.LineFault.TheVariants as line
+use Rattle.mged_words.specs.declared.script.ScriptFault.{ScriptFault}
+use Rattle.mged_words.specs.declared.script.ScriptFault.TheVariants.{At, Memory}
+
+-- a refusal was answered where one holds, unless memory ran out
+abbrev pub HasFault : {T : Type 0} → Result T LineFault → Option Refusal → Type 0
+HasFault (Ok value) fault = fault ≡ None
+HasFault (Err (line.Refused refusal)) fault = fault ≡ Some refusal
+HasFault (Err line.Memory) fault = Unit {0}
+
+-- what a call gave is that command, or its refusal, unless memory ran out
+abbrev pub IsRead : Result Command LineFault → Command → Type 0
+IsRead (Ok made) command = made ≡ command
+IsRead (Err (line.Refused refusal)) command = Bad refusal ≡ command
+IsRead (Err line.Memory) command = Unit {0}
+
+-- what a call gave is the setting of a key and a value, or why there is none
+abbrev pub IsSettingRead : Result KeyAndValue AttrFault → List ℕ → List ℕ → Type 0
+IsSettingRead (Ok setting) key value = (setting ≡ record { key = key; value = value }) × (is_none (key_of key) ≡ false) × (is_setting key value ≡ true)
+IsSettingRead (Err UnknownKey) key value = is_none (key_of key) ≡ true
+IsSettingRead (Err BadValue) key value = (is_none (key_of key) ≡ false) × (is_setting key value ≡ false)
+
+-- what a call gave is what the script is read as, unless memory ran out
+abbrev pub IsScript : Result (List ScriptCommand) ScriptFault → List ℕ → Type 0
+IsScript (Ok commands) text = script_of text ≡ Ok (map command_entry commands)
+IsScript (Err (At flaw)) text = script_of text ≡ Err flaw
+IsScript (Err Memory) text = Unit {0}

@@ -1,0 +1,9 @@
+use command_set::Command;
+use std::sync::Arc;
+
+/// A command of a script, with the number of its session, from 1 to 8.
+#[derive(Drop)]
+pub struct ScriptCommand {
+    pub session: u8,
+    pub command: Arc<Command>,
+}

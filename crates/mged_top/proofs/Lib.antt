@@ -1,7 +1,5 @@
 pub mod PlaceLaws
 pub mod ShotLaws
 pub mod WriteLaws
-pub mod LineLaws
-pub mod ScriptLaws
+pub mod EditLaws
 pub mod RunLaws
-pub mod PlainLaws

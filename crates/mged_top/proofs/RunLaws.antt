@@ -1,12 +1,13 @@
 -- The transcript of a script that is run in the order of its lines.
-use Rattle.std.proofs.Common.{◌≡◌, ℕ, zero, suc, ◌<◌, ◌≤◌, ◌+◌, ◌^◌, ◌==◌, ◌||◌, Bool, true, false, cond, List, [], ◌∷◌, ◌++◌, All, map, length, replicate, get_or, bytes_eq, codes, refl, ap, ap₂, sym, ◌∙◌, subst, arith, Option, Some, None, Result, Ok, Err, is_err}
+use Rattle.std.proofs.Common.{◌≡◌, ◌≢◌, ℕ, zero, suc, ◌<◌, ◌≤◌, ◌+◌, ◌-◌, ◌^◌, ◌==◌, ◌||◌, Bool, true, false, cond, List, [], ◌∷◌, ◌++◌, All, map, length, replicate, get_or, set, nat_le, eqb-true, bytes_eq, codes, refl, ap, ap₂, sym, ◌∙◌, subst, arith, Option, Some, None, Result, Ok, Err, is_err}
 use Rattle.std.specs.List.{AllByRecursion, list_any}
+use Rattle.std.proofs.lemmas.Bool.{eqb-false, leb-true}
 use Rattle.std.proofs.lemmas.List.{length-map}
 use Rattle.std.proofs.lemmas.List.Elements.{All-head, All-tail}
 use mathlib.Core.Path.{fun_ext}
 use Rattle.lattice_core.specs.declared.ray.Ray.{Ray}
 use Rattle.outside_core.specs.declared.traits.File.{File}
-use Rattle.transcript.specs.Lines.{Lacks}
+use Rattle.transcript.specs.Lines.{Lacks, text_of}
 use Rattle.transcript.specs.Merge.{Entry, order_of, lane}
 use Rattle.transcript.specs.Run as run
 use Rattle.transcript.specs.Run.{Marked, Reply, Accepted, Refused, State, stepped, answered, run_of, refuses, answer_refuses, any_refused, files_of, file_in}
@@ -17,87 +18,175 @@ use Rattle.transcript.proofs.Readable.{KeepsLines, IfSomeKeeps, good_outcome, go
 use Rattle.transcript.proofs.RefusedLaws.{any_of_lanes, among_eight}
 use Rattle.transcript.proofs.RunLaws.{run_order, memory_of}
 use Rattle.transcript.proofs.TranscriptLaws.{computed}
-use Rattle.mged_top.specs.Answers.{HasSession, session_of, marked_entry, unmarked, core_answer, core_answers, answers_at, is_refused}
-use Rattle.mged_top.specs.Directories.{Entries, solid_at}
-use Rattle.mged_top.specs.Outcomes.{IsLineOutcome}
-use Rattle.mged_top.specs.Readable.{IsPlain, IsReadable}
-use Rattle.mged_top.specs.Replies.{core_rules, start_from, made, shot, edited, outcome_of, edit_outcome, shown}
-use Rattle.mged_top.specs.declared.answer.Answer.{Answer}
-use Rattle.solid_set.specs.declared.solid.Solid.{Solid}
 use Rattle.surd_order.specs.declared.position.Seg.{Seg}
 use Rattle.solid_set.specs.Segments.{segment_of}
+use Rattle.name_core.specs.declared.name.Name.{Name}
+use Rattle.object_set.specs.declared.object.Body.{Body}
+use Rattle.object_set.specs.declared.object.Body.TheVariants.{Solid, Comb}
+use Rattle.object_set.specs.Objects.{Parts}
+use Rattle.command_set.specs.Refusals.{refusal_text}
+use Rattle.command_set.specs.declared.command.Command.{Command}
+use Rattle.command_set.specs.declared.command.Command.TheVariants.{Bad, Edit as IsEdit, Query as IsQuery}
+use Rattle.command_set.specs.declared.command.Query.{Query}
+use Rattle.command_set.specs.declared.command.Query.TheVariants as queries
+use Rattle.command_set.specs.declared.refusal.Refusal.{Refusal}
+use Rattle.command_set.specs.declared.refusal.Refusal.TheVariants.{Syntax, Missing, NotList, Quota}
+use Rattle.directory.specs.Listing.{Listing}
+use Rattle.edit_core.specs.Edits.{object_at, made}
+use Rattle.edit_core.specs.Refused.{refusal_of, unless}
+use Rattle.mged_words.specs.Entries.{HasSession, session_of}
+use Rattle.mged_words.specs.Readable.{IsPlain, IsPlainRefusal, IsPlainQuery, ArePlain, IsReadable}
+use Rattle.mged_top.specs.Answers.{marked_entry, unmarked, core_answer, core_answers, answers_at, used_at, is_refused}
+use Rattle.mged_top.specs.Outcomes.{IsLineOutcome}
+use Rattle.mged_top.specs.Replies.{Outcome, core_rules, start_from, no_objects, most_used, within_quota, shot_body, shot_at, shot_of, found, edit_outcome, outcome_of, directory_made, shown}
 use Rattle.mged_top.specs.Shots.{own_surface, partition_lines}
+use Rattle.mged_top.specs.declared.answer.Answer.{Answer}
+use Rattle.mged_top.proofs.EditLaws.{MayBePlain, IsPlainListing, refusal_plain, edit_keeps, names_plain, lines_few}
 use Rattle.mged_top.proofs.PlaceLaws.{partition_one_line}
-use Rattle.mged_top.specs.declared.command.Command.{Command}
-use Rattle.mged_top.specs.declared.command.Command.TheVariants.{Bad, Edit as IsEdit, Query as IsQuery}
-use Rattle.mged_top.specs.declared.command.Edit.TheVariants.{Make}
-use Rattle.mged_top.specs.declared.command.Query.TheVariants.{Shot}
-use Rattle.mged_top.specs.declared.command.Refusal.{Refusal}
 
-abbrev Any : Entries → Type 0
-Any entries = Unit {0}
-
-abbrev None_own : Unit {0} → Type 0
-None_own own = Unit {0}
+abbrev Any_own : ℕ → Type 0
+Any_own used = Unit {0}
 
 -- replies stand on lines of their own
-edited_fits : (d : Entries) (c : Command) → Any d → IsPlain c → IfSomeKeeps Any (edited d c)
+edited_fits : (d : Listing) (c : Command) → IsPlainListing d → IsPlain c → IfSomeKeeps IsPlainListing (directory_made d c)
 edited_fits d (Bad refusal) h k = tt
-edited_fits d (IsEdit (Make name solid)) h k = made_fits d name solid (solid_at d name)
-  where
-    made_fits : (d : Entries) (name : List ℕ) (solid : Solid) (there : Option Solid) → IfSomeKeeps Any (Rattle.std.specs.Result.result_ok (made d name solid there))
-    made_fits d name solid (Some x) = tt
-    made_fits d name solid None = tt
+edited_fits d (IsEdit edit) h k = edit_keeps d edit h k
 edited_fits d (IsQuery query) h k = tt
 
-made_reply : (d : Entries) (name : List ℕ) (solid : Solid) (there : Option Solid) → Lacks 10 name → IsPrintableReply (shown (edit_outcome (made d name solid there)))
-made_reply d name solid (Some x) h = lacks_append 10 (codes "exists ") name (computed 10 (codes "exists ") refl) h
-made_reply d name solid None h = (tt, omega arith)
+-- an outcome whose lines have no line feed
+abbrev IsPlainOutcome : Outcome → Type 0
+IsPlainOutcome (Ok lines) = AllByRecursion (Lacks 10) lines
+IsPlainOutcome (Err refusal) = IsPlainRefusal refusal
 
-lines_fit : (name : List ℕ) (seg : Option Seg) → Lacks 10 name → AllByRecursion (Lacks 10) (partition_lines name seg) × (length (partition_lines name seg) < 2 ^ 64)
-lines_fit name None h = (tt, omega arith)
-lines_fit name (Some seg) h = ((partition_one_line name seg h, tt), omega arith)
+edit_fits : (d : Listing) (refusal : Option Refusal) (made : Listing) → MayBePlain refusal → IsPrintableReply (shown (edit_outcome (unless refusal made)))
+edit_fits d None made h = (tt, omega arith)
+edit_fits d (Some refusal) made h = h.one_line
 
-shot_reply : (ray : Ray) (name : List ℕ) (there : Option Solid) → Lacks 10 name → IsPrintableReply (shown (shot ray name there))
-shot_reply ray name None h = lacks_append 10 (codes "missing ") name (computed 10 (codes "missing ") refl) h
-shot_reply ray name (Some solid) h = lines_fit name (segment_of (own_surface solid) ray) h
+plain_quota : IsPlainRefusal Quota
+plain_quota = record { one_line = computed 10 (codes "quota") refl; other = refl }
 
-reply_fits : (d : Entries) (own : Unit {0}) (c : Command) → Any d → None_own own → IsPlain c → IsPrintableReply (shown (outcome_of d c))
-reply_fits d own (Bad refusal) h q k = k.one_line
-reply_fits d own (IsEdit (Make name solid)) h q k = made_reply d name solid (solid_at d name) k
-reply_fits d own (IsQuery (Shot ray name)) h q k = shot_reply ray name (solid_at d name) k.one_line
+plain_syntax : IsPlainRefusal Syntax
+plain_syntax = record { one_line = computed 10 (codes "syntax") refl; other = refl }
+
+fit_by : (t : Bool) (lines : List (List ℕ)) → AllByRecursion (Lacks 10) lines → (t ≡ true → length lines < 2 ^ 64) → IsPrintableReply (shown (cond t (Ok lines) (Err Quota)))
+fit_by true lines h few = (h, few refl)
+fit_by false lines h few = plain_quota.one_line
+
+within_fits : (used : ℕ) (outcome : Outcome) → IsPlainOutcome outcome → IsPrintableReply (shown (within_quota used outcome))
+within_fits used (Ok lines) h =
+    fit_by (nat_le (used + length (text_of lines)) most_used) lines h
+    (λ e. let small : used + length (text_of lines) ≤ 67108864 = leb-true (used + length (text_of lines)) 67108864 e in omega (arith, small, lines_few lines))
+within_fits used (Err refusal) h = h.one_line
+
+lines_plain : (name : List ℕ) (seg : Option Seg) → Lacks 10 name → AllByRecursion (Lacks 10) (partition_lines name seg)
+lines_plain name None h = tt
+lines_plain name (Some seg) h = (partition_one_line name seg h, tt)
+
+body_plain : (ray : Ray) (name : Name) (body : Body) → Lacks 10 name → IsPlainOutcome (shot_body ray name body)
+body_plain ray name (Solid solid) h = lines_plain name (segment_of (own_surface solid) ray) h
+body_plain ray name (Comb attr tree) h = record { one_line = lacks_append 10 (codes "not-list ") name (computed 10 (codes "not-list ") refl) h; other = refl }
+
+shot_plain : (ray : Ray) (name : Name) (there : Option Parts) → Lacks 10 name → IsPlainOutcome (shot_at ray name there)
+shot_plain ray name None h = record { one_line = lacks_append 10 (codes "missing ") name (computed 10 (codes "missing ") refl) h; other = refl }
+shot_plain ray name (Some object) h = body_plain ray name object.body h
+
+shots_plain : (d : Listing) (ray : Ray) (names : List Name) → ArePlain names → IsPlainOutcome (shot_of d ray names)
+shots_plain d ray [] h = plain_syntax
+shots_plain d ray (name ∷ []) h = shot_plain ray name (object_at d name) h.0
+shots_plain d ray (name ∷ other ∷ names) h = plain_syntax
+
+found_plain : (d : Listing) (query : Query) → IsPlainListing d → IsPlainQuery query → IsPlainOutcome (found d query)
+found_plain d (queries.List names) h k = plain_syntax
+found_plain d queries.Names h k = names_plain d.objects h
+found_plain d (queries.Tree names) h k = plain_syntax
+found_plain d (queries.Save file) h k = plain_syntax
+found_plain d (queries.Shot ray names) h k = shots_plain d ray names k.one_line
+
+reply_fits : (d : Listing) (used : ℕ) (c : Command) → IsPlainListing d → Any_own used → IsPlain c → IsPrintableReply (shown (outcome_of d used c))
+reply_fits d used (Bad refusal) h q k = k.one_line
+reply_fits d used (IsEdit edit) h q k = edit_fits d (refusal_of d edit) (made d edit) (refusal_plain d edit k)
+reply_fits d used (IsQuery query) h q k = within_fits used (found d query) (found_plain d query h k)
 
 -- none of them says memory
-exists_tells : (name : List ℕ) → bytes_eq (codes "exists " ++ name) (codes "memory") ≡ false
-exists_tells name = refl
+edit_tells : (refusal : Option Refusal) (made : Listing) → MayBePlain refusal → says_memory (shown (edit_outcome (unless refusal made))) ≡ false
+edit_tells None made h = refl
+edit_tells (Some refusal) made h = h.other
 
-missing_tells : (name : List ℕ) → bytes_eq (codes "missing " ++ name) (codes "memory") ≡ false
-missing_tells name = refl
+tells_by : (t : Bool) (lines : List (List ℕ)) → says_memory (shown (cond t (Ok lines) (Err Quota))) ≡ false
+tells_by true lines = refl
+tells_by false lines = refl
 
-made_tells : (d : Entries) (name : List ℕ) (solid : Solid) (there : Option Solid) → says_memory (shown (edit_outcome (made d name solid there))) ≡ false
-made_tells d name solid (Some x) = exists_tells name
-made_tells d name solid None = refl
+abbrev Tells : Outcome → Type 0
+Tells (Ok lines) = Unit {0}
+Tells (Err refusal) = bytes_eq (refusal_text refusal) (codes "memory") ≡ false
 
-shot_tells : (ray : Ray) (name : List ℕ) (there : Option Solid) → says_memory (shown (shot ray name there)) ≡ false
-shot_tells ray name None = missing_tells name
-shot_tells ray name (Some solid) = refl
+within_tells : (used : ℕ) (outcome : Outcome) → Tells outcome → says_memory (shown (within_quota used outcome)) ≡ false
+within_tells used (Ok lines) h = tells_by (nat_le (used + length (text_of lines)) most_used) lines
+within_tells used (Err refusal) h = h
 
-reply_tells : (d : Entries) (own : Unit {0}) (c : Command) → IsPlain c → says_memory (shown (outcome_of d c)) ≡ false
-reply_tells d own (Bad refusal) k = k.other
-reply_tells d own (IsEdit (Make name solid)) k = made_tells d name solid (solid_at d name)
-reply_tells d own (IsQuery (Shot ray name)) k = shot_tells ray name (solid_at d name)
+body_tells : (ray : Ray) (name : Name) (body : Body) → Tells (shot_body ray name body)
+body_tells ray name (Solid solid) = tt
+body_tells ray name (Comb attr tree) = refl
 
-keeps : KeepsLines core_rules Any None_own IsPlain
-keeps = record { edited = edited_fits; kept = λ d own c h q k. tt; forgotten = λ own c q k. tt; reply = reply_fits; tells = reply_tells }
+shot_tells : (ray : Ray) (name : Name) (there : Option Parts) → Tells (shot_at ray name there)
+shot_tells ray name None = refl
+shot_tells ray name (Some object) = body_tells ray name object.body
+
+shots_tell : (d : Listing) (ray : Ray) (names : List Name) → Tells (shot_of d ray names)
+shots_tell d ray [] = refl
+shots_tell d ray (name ∷ []) = shot_tells ray name (object_at d name)
+shots_tell d ray (name ∷ other ∷ names) = refl
+
+found_tells : (d : Listing) (query : Query) → Tells (found d query)
+found_tells d (queries.List names) = refl
+found_tells d queries.Names = tt
+found_tells d (queries.Tree names) = refl
+found_tells d (queries.Save file) = refl
+found_tells d (queries.Shot ray names) = shots_tell d ray names
+
+reply_tells : (d : Listing) (used : ℕ) (c : Command) → IsPlain c → says_memory (shown (outcome_of d used c)) ≡ false
+reply_tells d used (Bad refusal) k = k.other
+reply_tells d used (IsEdit edit) k = edit_tells (refusal_of d edit) (made d edit) (refusal_plain d edit k)
+reply_tells d used (IsQuery query) k = within_tells used (found d query) (found_tells d query)
+
+keeps : KeepsLines core_rules IsPlainListing Any_own IsPlain
+keeps = record { edited = edited_fits; kept = λ d used c h q k. tt; forgotten = λ used c q k. tt; reply = reply_fits; tells = reply_tells }
+
+-- the bytes that the sessions have used, after those of one are counted anew
+pub used_one : (used : List ℕ) (session v : ℕ) (f : ℕ → ℕ) → 1 ≤ session → session ≤ 8 → length used ≡ 8 → v ≡ f (used_at used session)
+    → used_at (set used (session - 1) v) ≡ (λ k. cond (session == k) (f (used_at used k)) (used_at used k))
+used_one used session v f some eight len is = fun_ext (λ k. used_step used session v f k some eight len is)
+  where
+    set_here : (used : List ℕ) (i v : ℕ) → i < length used → get_or (set used i v) i 0 ≡ v
+    set_here [] i v lt = absurd (omega (arith, lt))
+    set_here (x ∷ xs) zero v lt = refl
+    set_here (x ∷ xs) (suc i) v lt = set_here xs i v (omega (arith, lt))
+    set_away : (used : List ℕ) (i j v : ℕ) → i ≢ j → get_or (set used i v) j 0 ≡ get_or used j 0
+    set_away [] i j v ne = refl
+    set_away (x ∷ xs) zero zero v ne = absurd (ne refl)
+    set_away (x ∷ xs) zero (suc j) v ne = refl
+    set_away (x ∷ xs) (suc i) zero v ne = refl
+    set_away (x ∷ xs) (suc i) (suc j) v ne = set_away xs i j v (λ e. ne (ap suc e))
+    by_session : (t : Bool) (used : List ℕ) (i v : ℕ) (f : ℕ → ℕ) (k : ℕ) → t ≡ (suc i == k) → i < length used → v ≡ f (get_or used i 0)
+        → used_at (set used i v) k ≡ cond t (f (used_at used k)) (used_at used k)
+    by_session true used i v f k t lt is =
+        let same : suc i ≡ k = eqb-true (suc i) k (sym t) in
+        subst (λ n. used_at (set used i v) n ≡ f (used_at used n)) same (set_here used i v lt ∙ is)
+    by_session false used i v f zero t lt is = refl
+    by_session false used i v f (suc k) t lt is = set_away used i k v (λ e. eqb-false (suc i) (suc k) (sym t) (ap suc e))
+    used_step : (used : List ℕ) (session v : ℕ) (f : ℕ → ℕ) (k : ℕ) → 1 ≤ session → session ≤ 8 → length used ≡ 8 → v ≡ f (used_at used session)
+        → used_at (set used (session - 1) v) k ≡ cond (session == k) (f (used_at used k)) (used_at used k)
+    used_step used zero v f k some eight len is = absurd (omega (arith, some))
+    used_step used (suc i) v f k some eight len is = by_session (suc i == k) used i v f k refl (omega (arith, eight, len)) is
 
 -- no reply has a file
-no_file : (r : Result (List (List ℕ)) Refusal) → file_in (shown r) ≡ []
+no_file : (r : Outcome) → file_in (shown r) ≡ []
 no_file (Ok lines) = refl
 no_file (Err refusal) = refl
 
-no_files : (s : State Entries (Unit {0})) (script : List (Entry Command)) → files_of (run_of core_rules s (map marked_entry script)) ≡ []
+no_files : (s : State Listing ℕ) (script : List (Entry Command)) → files_of (run_of core_rules s (map marked_entry script)) ≡ []
 no_files s [] = refl
-no_files s (e ∷ rest) = ap (λ fs. fs ++ files_of (run_of core_rules (stepped core_rules s (marked_entry e)) (map marked_entry rest))) (no_file (outcome_of s.book.directory e.item)) ∙ no_files (stepped core_rules s (marked_entry e)) rest
+no_files s (e ∷ rest) = ap (λ fs. fs ++ files_of (run_of core_rules (stepped core_rules s (marked_entry e)) (map marked_entry rest))) (no_file (outcome_of s.book.directory (s.own e.session) e.item)) ∙ no_files (stepped core_rules s (marked_entry e)) rest
 
 -- the script's own lists
 commands_step : (t : Bool) (e : Entry Command) (xs : List (Marked Command)) (ys : List Command) → map (λ (m : Marked Command). m.command) xs ≡ ys
@@ -168,12 +257,12 @@ any_same f g (k ∷ ks) h = ap₂ ◌||◌ (h k) (any_same f g ks h)
 pub script_outcome : (script : List (Entry Command)) (order : List ℕ) (none lists : List (List Answer)) (text : List ℕ)
     → All HasSession script → All IsReadable script → length script + 1 < 2 ^ 32
     → none ≡ replicate 8 [] → order ≡ map session_of script
-    → ((k : ℕ) → core_answers lists k ≡ core_answers none k ++ lane (run_of core_rules (start_from []) (map marked_entry script)) k)
+    → ((k : ℕ) → core_answers lists k ≡ core_answers none k ++ lane (run_of core_rules (start_from no_objects) (map marked_entry script)) k)
     → text ≡ transcript order (core_answers lists) → length lists ≡ 8
     → (some_refused : Bool) → some_refused ≡ list_any (list_any is_refused) lists
-    → IsLineOutcome [] script text [] some_refused
+    → IsLineOutcome no_objects script text [] some_refused
 script_outcome script order none lists text in_session plain few no_lists order_is answers text_is eight_lists some_refused refused =
-    let start : State Entries (Unit {0}) = start_from [] in
+    let start : State Listing ℕ = start_from no_objects in
     let entries : List (Entry (Marked Command)) = map marked_entry script in
     let same : core_answers lists ≡ lane (run_of core_rules start entries) =
     fun_ext (λ k. answers k ∙ ap (λ (n : List (List Answer)). core_answers n k ++ lane (run_of core_rules start entries) k) no_lists
@@ -187,10 +276,10 @@ script_outcome script order none lists text in_session plain few no_lists order_
     refused ∙ any_of_eight (list_any is_refused) lists eight_lists ∙ any_same _ _ digits each_list
     ∙ any_of_lanes answer_refuses digits among_eight (run_of core_rules start entries) (run_ranges core_rules start entries ranges) in
     let fits : start.book.version + length entries + 1 < 2 ^ 64 = omega (arith, length-map script marked_entry, few) in
-    let reading = good_reading core_rules Any None_own IsPlain keeps start entries tt (λ j. tt) fits (all_plain script plain) ranges in
-    subst (λ t. IsLineOutcome [] script t [] some_refused) (sym text_run)
+    let reading = good_reading core_rules IsPlainListing Any_own IsPlain keeps start entries tt (λ j. tt) fits (all_plain script plain) ranges in
+    subst (λ t. IsLineOutcome no_objects script t [] some_refused) (sym text_run)
     (record {
-      outcome = good_outcome core_rules Any None_own IsPlain keeps start (lane script) entries tt (λ j. tt)
+      outcome = good_outcome core_rules IsPlainListing Any_own IsPlain keeps start (lane script) entries tt (λ j. tt)
           fits (all_plain script plain) ranges (same_commands script) [] (sym (no_files start script)) some_refused some;
       in_line_order = reading.0 ∙ same_order script;
       unmarked = λ k. ap (list_any (λ (m : Bool). m)) (reading.1 k) ∙ none_marked script k;
@@ -198,15 +287,15 @@ script_outcome script order none lists text in_session plain few no_lists order_
 
 -- no session has more answers than the script has commands
 pub few_answers : (script : List (Entry Command)) (none lists : List (List Answer)) → none ≡ replicate 8 []
-    → ((k : ℕ) → core_answers lists k ≡ core_answers none k ++ lane (run_of core_rules (start_from []) (map marked_entry script)) k)
+    → ((k : ℕ) → core_answers lists k ≡ core_answers none k ++ lane (run_of core_rules (start_from no_objects) (map marked_entry script)) k)
     → (i : ℕ) → length (get_or lists i []) ≤ length script
 few_answers script none lists no_lists answers i =
-    let start : State Entries (Unit {0}) = start_from [] in
+    let start : State Listing ℕ = start_from no_objects in
     let entries : List (Entry (Marked Command)) = map marked_entry script in
     let same : core_answers lists (suc i) ≡ lane (run_of core_rules start entries) (suc i) =
     answers (suc i) ∙ ap (λ (n : List (List Answer)). core_answers n (suc i) ++ lane (run_of core_rules start entries) (suc i)) no_lists
     ∙ ap (λ (l : List Answer). map core_answer l ++ lane (run_of core_rules start entries) (suc i)) (no_answer 8 (suc i)) in
-    omega (arith, ap length same, length-map (get_or lists i []) core_answer, lane_no_longer (run_of core_rules start entries) (suc i), run_length core_rules Any None_own IsPlain keeps start entries, length-map script marked_entry)
+    omega (arith, ap length same, length-map (get_or lists i []) core_answer, lane_no_longer (run_of core_rules start entries) (suc i), run_length core_rules IsPlainListing Any_own IsPlain keeps start entries, length-map script marked_entry)
 
 pub any_default : {X : Type 0} (xs : List X) (i : ℕ) (d e : X) → i < length xs → get_or xs i d ≡ get_or xs i e
 any_default [] i d e lt = absurd (omega (arith, lt))

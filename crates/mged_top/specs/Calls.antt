@@ -1,17 +1,18 @@
 -- What a call of the program has read and written, by its status. Content is told or kept to itself; None is
 -- content that is not told, of which nothing is said.
-use Rattle.std.specs.Prelude.{◌≡◌, ◌++◌, ℕ, Bool, true, false, List, [], Option, Some, IfSome, Ok, Err}
+use Rattle.std.specs.Prelude.{◌≡◌, ◌++◌, ℕ, Bool, true, false, List, Option, Some, IfSome, Ok, Err}
 use Rattle.std.specs.Io.KnownBytes.{Appends, Consumes, IsAtEnd, Keeps}
 use Rattle.outside_core.specs.Faults.{Rose}
 use Rattle.outside_core.specs.Told.{Stays}
 use Rattle.outside_core.specs.Transfers.{IsCutShort}
 use Rattle.outside_core.specs.declared.traits.File.{File}
 use Rattle.transcript.specs.Merge.{Entry}
+use Rattle.command_set.specs.declared.command.Command.{Command}
+use Rattle.mged_words.specs.Scripts.{script_of}
+use Rattle.mged_words.specs.declared.script.ScriptFlaw.{ScriptFlaw}
+use Rattle.mged_words.specs.declared.script.ScriptFlaw.TheVariants.{Size, Session}
 use Rattle.mged_top.specs.Outcomes.{IsLineOutcome}
-use Rattle.mged_top.specs.Scripts.{script_of}
-use Rattle.mged_top.specs.declared.command.Command.{Command}
-use Rattle.mged_top.specs.declared.script.ScriptFlaw.{ScriptFlaw}
-use Rattle.mged_top.specs.declared.script.ScriptFlaw.TheVariants.{Size, Session}
+use Rattle.mged_top.specs.Replies.{no_objects}
 use Rattle.mged_top.specs.declared.status.Status.{Status}
 use Rattle.mged_top.specs.declared.status.Status.TheVariants.{Done, SomeRefused, Usage, ScriptRefused, ReadFault, WriteFault, Memory}
 
@@ -37,7 +38,7 @@ pub record IsTranscribed (some_refused : Bool) (left left' held held' : Option (
   pub written : Appends held held' bytes
   pub files : List File
   pub added : Added puts puts' files
-  pub outcome : IsLineOutcome [] commands bytes files some_refused
+  pub outcome : IsLineOutcome no_objects commands bytes files some_refused
 
 -- The script was read and run, and the sink has grown by a proper prefix of a transcript as above. No file is
 -- put.
@@ -51,7 +52,7 @@ pub record IsCutTranscript (left left' held held' : Option (List ℕ)) (puts put
   pub nothing_put : Stays puts puts'
   pub files : List File
   pub some_refused : Bool
-  pub outcome : IsLineOutcome [] commands bytes files some_refused
+  pub outcome : IsLineOutcome no_objects commands bytes files some_refused
 
 -- the script's first fault is its size, or a line; for a line it was read whole
 abbrev pub HasFlaw : ScriptFlaw → Option (List ℕ) → Option (List ℕ) → Type 0

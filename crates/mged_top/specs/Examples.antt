@@ -1,73 +1,89 @@
--- Small scripts and lines, and what the definitions make of them.
-use Rattle.std.specs.Prelude.{◌≡◌, refl, ℕ, pos, List, [], ◌∷◌, Ok, Err, codes, replicate}
-use Rattle.lattice_core.specs.declared.ray.Dir.TheVariants.{MinusX}
-use Rattle.plane_geom.specs.declared.fault.ShapeFault.TheVariants.{Flat, Radius, ZeroNormal}
+-- Small directories, and what the definitions make of commands.
+use Rattle.std.specs.Prelude.{◌≡◌, refl, pos, [], ◌∷◌, None, Some, Ok, Err, codes}
+use Rattle.lattice_core.specs.declared.ray.Dir.TheVariants.{PlusX}
+use Rattle.lattice_core.specs.declared.ray.Ray.{Ray}
+use Rattle.surd_order.specs.PlaceOrder.{place_cmp}
+use Rattle.std.specs.Fmt.{digits}
+use Rattle.region_attr.specs.Attrs.{group_attr, region_attr}
 use Rattle.solid_set.specs.declared.solid.Solid.TheVariants as solids
-use Rattle.transcript.specs.Merge.{entry}
-use Rattle.mged_top.specs.declared.command.Command.TheVariants.{Bad, Edit, Query}
-use Rattle.mged_top.specs.declared.command.Edit.TheVariants.{Make}
-use Rattle.mged_top.specs.declared.command.Query.TheVariants.{Shot}
-use Rattle.mged_top.specs.declared.command.Refusal.TheVariants.{Syntax, Name, Number, View, Shape, Exists}
-use Rattle.mged_top.specs.declared.command.ViewFault.TheVariants.{World}
-use Rattle.mged_top.specs.declared.script.ScriptFlaw.TheVariants.{Size, Session}
+use Rattle.object_set.specs.Objects.{Parts}
+use Rattle.object_set.specs.declared.object.Body.TheVariants.{Solid, Comb}
+use Rattle.command_set.specs.declared.command.Command.TheVariants.{Bad, Edit as IsEdit, Query as IsQuery}
+use Rattle.command_set.specs.declared.command.Edit.TheVariants.{Make, Kill}
+use Rattle.command_set.specs.declared.command.Query.TheVariants as queries
+use Rattle.command_set.specs.declared.refusal.Refusal.TheVariants.{Syntax, Exists, Missing, NotList, Quota}
+use Rattle.directory.specs.Listing.{Listing}
+use Rattle.mged_words.specs.declared.script.ScriptFlaw.TheVariants.{Size, Session}
 use Rattle.mged_top.specs.declared.status.Status.TheVariants as status
-use Rattle.mged_top.specs.Commands.{command_of, ray_of}
-use Rattle.mged_top.specs.Refusals.{refusal_text}
-use Rattle.mged_top.specs.Scripts.{script_of}
-use Rattle.solid_set.specs.Rpps.{vector}
+use Rattle.mged_top.specs.Replies.{no_objects, outcome_of, directory_made, used_after}
 use Rattle.mged_top.specs.Statuses.{status_line}
 
-pub no_such_command : command_of (codes "frob") ≡ Bad Syntax
-no_such_command = refl
+-- the half-space of the points with x at most 5
+abbrev half : Parts
+half = record { body = Solid (solids.Half (record { normal = record { x = pos 1; y = pos 0; z = pos 0 }; d = pos 5 })); kept = [] }
 
-pub too_few_words : command_of (codes "in s") ≡ Bad Syntax
-too_few_words = refl
+abbrev along_x : Ray
+along_x = record { origin = record { x = pos 0; y = pos 0; z = pos 0 }; dir = PlusX }
 
--- the whole line is looked at for its form before its names
-pub a_bad_name : command_of (codes "in s/1 sph 0 0 0 5") ≡ Bad (Name 2)
-a_bad_name = refl
+-- a half-space, a region and another combination without members
+abbrev three : Listing
+three = record { title = []; objects = (codes "h", half) ∷ (codes "r", record { body = Comb region_attr None; kept = [] }) ∷ (codes "g", record { body = Comb group_attr None; kept = [] }) ∷ [] }
 
-pub names_before_numbers : command_of (codes "in s/1 sph x 0 0 5") ≡ Bad (Name 2)
-names_before_numbers = refl
+names_of_three : outcome_of three 0 (IsQuery queries.Names) ≡ Ok (codes "h" ∷ codes "r/R" ∷ codes "g/" ∷ [])
+names_of_three = refl
 
-pub too_large : command_of (codes "in t sph 16385 0 0 1") ≡ Bad (Number 4)
-too_large = refl
+-- these lines have nine bytes with their line feeds
+nine_bytes : used_after 7 (outcome_of three 7 (IsQuery queries.Names)) ≡ 16
+nine_bytes = refl
 
-pub not_whole : command_of (codes "in t sph 1.5 0 0 1") ≡ Bad (Number 4)
-not_whole = refl
+nine_bytes_left : outcome_of three 67108855 (IsQuery queries.Names) ≡ Ok (codes "h" ∷ codes "r/R" ∷ codes "g/" ∷ [])
+nine_bytes_left = refl
 
-pub numbers_before_shapes : command_of (codes "in t sph 0 0 x 0") ≡ Bad (Number 6)
-numbers_before_shapes = refl
+eight_bytes_left : outcome_of three 67108856 (IsQuery queries.Names) ≡ Err Quota
+eight_bytes_left = refl
 
-pub no_radius : command_of (codes "in t sph 0 0 0 0") ≡ Bad (Shape Radius)
-no_radius = refl
+-- a refused command uses nothing
+nothing_used : used_after 67108856 (outcome_of three 67108856 (IsQuery queries.Names)) ≡ 67108856
+nothing_used = refl
 
-pub no_normal : command_of (codes "in h half 0 0 0 5") ≡ Bad (Shape ZeroNormal)
-no_normal = refl
-
-pub outside_the_world : command_of (codes "nirt 524289 0 0 +x s") ≡ Bad (View World)
-outside_the_world = refl
-
--- a group of one atom counts as that atom, and numbers have signs and zeros after the point
-pub a_sphere : command_of (codes "in  {s} sph 0 0 0 +5.0") ≡ Edit (Make (codes "s") (solids.Sphere (record { centre = vector (pos 0) (pos 0) (pos 0); radius = pos 5 })))
-a_sphere = refl
-
-pub a_shot : command_of (codes "nirt 1 2 3 -x s") ≡ Query (Shot (ray_of (vector (pos 1) (pos 2) (pos 3)) MinusX) (codes "s"))
+a_shot : outcome_of three 0 (IsQuery (queries.Shot along_x (codes "h" ∷ []))) ≡ Ok (codes "1 /h 0 5" ∷ [])
+unfolding place_cmp digits
 a_shot = refl
 
-pub no_commands : script_of [] ≡ Ok []
-no_commands = refl
+-- a combination is not shot at yet, and a name that is not there comes before the bytes used
+a_shot_of_a_combination : outcome_of three 0 (IsQuery (queries.Shot along_x (codes "g" ∷ []))) ≡ Err (NotList (codes "g"))
+a_shot_of_a_combination = refl
 
--- comments and blank lines are no commands, and the last line needs no line feed
-pub two_commands : script_of (codes "# two\n\nfrob\n  \nin s") ≡ Ok (entry 1 (Bad Syntax) ∷ entry 1 (Bad Syntax) ∷ [])
-two_commands = refl
+missing_before_quota : outcome_of three 67108864 (IsQuery (queries.Shot along_x (codes "x" ∷ []))) ≡ Err (Missing (codes "x"))
+missing_before_quota = refl
 
--- the first line that names a session is the fault, whatever the lines before it are
-pub a_session : script_of (codes "frob\n#\n@2 frob\n@1 frob\n") ≡ Err (Session 3)
-a_session = refl
+no_bytes_left : outcome_of three 67108864 (IsQuery (queries.Shot along_x (codes "h" ∷ []))) ≡ Err Quota
+unfolding place_cmp digits
+no_bytes_left = refl
 
-pub text_of_a_name_that_is_there : refusal_text (Exists (codes "s")) ≡ codes "exists s"
-text_of_a_name_that_is_there = refl
+-- an edit takes no bytes, and gives the new directory
+an_edit : directory_made no_objects (IsEdit (Make (codes "h") half)) ≡ Some (record { title = []; objects = (codes "h", half) ∷ [] })
+an_edit = refl
 
-pub line_of_a_size : status_line (status.ScriptRefused Size) ≡ codes "mgedrt: script size"
-line_of_a_size = refl
+its_answer : outcome_of no_objects 67108864 (IsEdit (Make (codes "h") half)) ≡ Ok []
+its_answer = refl
+
+a_refused_edit : directory_made three (IsEdit (Make (codes "h") half)) ≡ None
+a_refused_edit = refl
+
+its_refusal : outcome_of three 0 (IsEdit (Make (codes "h") half)) ≡ Err (Exists (codes "h"))
+its_refusal = refl
+
+-- the first name that is not there is told
+missing_names : outcome_of three 0 (IsEdit (Kill (codes "h" ∷ codes "x" ∷ codes "y" ∷ []))) ≡ Err (Missing (codes "x"))
+missing_names = refl
+
+a_bad_line : outcome_of three 0 (Bad Syntax) ≡ Err Syntax
+a_bad_line = refl
+
+a_faulty_line : status_line (status.ScriptRefused (Session 12)) ≡ codes "mgedrt: script line 12 session"
+unfolding digits
+a_faulty_line = refl
+
+too_long_a_script : status_line (status.ScriptRefused Size) ≡ codes "mgedrt: script size"
+too_long_a_script = refl

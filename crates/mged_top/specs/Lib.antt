@@ -1,14 +1,7 @@
-pub mod Refusals
-pub mod Directories
-pub mod Solids
 pub mod Shots
-pub mod Commands
-pub mod Scripts
-pub mod Readings
 pub mod Replies
 pub mod Answers
 pub mod Outcomes
-pub mod Readable
 pub mod Statuses
 pub mod Calls
 pub mod Examples

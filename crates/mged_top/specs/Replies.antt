@@ -1,69 +1,99 @@
--- What a command is answered, and the directory after it.
-use Rattle.std.specs.Prelude.{ℕ, List, [], ◌∷◌, ◌++◌, Option, Some, None, Result, Ok, Err}
+-- What a command is answered, the directory after it, and the bytes that its session has used.
+use Rattle.std.specs.Prelude.{ℕ, ◌+◌, nat_le, cond, List, [], ◌∷◌, Option, Some, None, Result, Ok, Err, length}
 use Rattle.std.specs.Result.{result_ok}
+use Rattle.name_core.specs.declared.name.Name.{Name}
 use Rattle.lattice_core.specs.declared.ray.Ray.{Ray}
 use Rattle.outside_core.specs.declared.traits.File.{File}
+use Rattle.transcript.specs.Lines.{text_of}
 use Rattle.transcript.specs.Run.{Reply, Accepted, Refused, Rules, State}
-use Rattle.mged_top.specs.Directories.{Entries, solid_at}
-use Rattle.mged_top.specs.Refusals.{refusal_text}
-use Rattle.solid_set.specs.declared.solid.Solid.{Solid}
+use Rattle.object_set.specs.declared.object.Body.{Body}
+use Rattle.object_set.specs.declared.object.Body.TheVariants.{Solid, Comb}
+use Rattle.object_set.specs.Objects.{Parts}
+use Rattle.command_set.specs.Refusals.{refusal_text}
+use Rattle.command_set.specs.declared.command.Command.{Command}
+use Rattle.command_set.specs.declared.command.Command.TheVariants.{Bad, Edit as IsEdit, Query as IsQuery}
+use Rattle.command_set.specs.declared.command.Query.{Query}
+use Rattle.command_set.specs.declared.command.Query.TheVariants as queries
+use Rattle.command_set.specs.declared.refusal.Refusal.{Refusal}
+use Rattle.command_set.specs.declared.refusal.Refusal.TheVariants.{Syntax, Missing, NotList, Quota}
+use Rattle.directory.specs.Listing.{Listing}
+use Rattle.edit_core.specs.Edits.{object_at}
+use Rattle.edit_core.specs.Refused.{edited}
+use Rattle.report_text.specs.Names.{names_lines}
 use Rattle.mged_top.specs.Shots.{shot_lines}
-use Rattle.mged_top.specs.declared.command.Command.{Command}
-use Rattle.mged_top.specs.declared.command.Command.TheVariants.{Bad, Edit as IsEdit, Query as IsQuery}
-use Rattle.mged_top.specs.declared.command.Edit.{Edit}
-use Rattle.mged_top.specs.declared.command.Edit.TheVariants.{Make}
-use Rattle.mged_top.specs.declared.command.Query.{Query}
-use Rattle.mged_top.specs.declared.command.Query.TheVariants.{Shot}
-use Rattle.mged_top.specs.declared.command.Refusal.{Refusal}
-use Rattle.mged_top.specs.declared.command.Refusal.TheVariants.{Exists, Missing}
 
--- a new object goes to the end of the directory, where its name is not there yet
-abbrev pub made : Entries → List ℕ → Solid → Option Solid → Result Entries Refusal
-made entries name solid (Some there) = Err (Exists name)
-made entries name solid None = Ok (entries ++ (name, solid) ∷ [])
+-- what a command is answered: the lines of its body, or why it is refused
+abbrev pub Outcome : Type 0
+Outcome = Result (List (List ℕ)) Refusal
 
--- the directory after an edit, or why it is refused
-abbrev pub applied : Entries → Edit → Result Entries Refusal
-applied entries (Make name solid) = made entries name solid (solid_at entries name)
+-- the most bytes that the bodies and files of one session may have
+abbrev pub most_used : ℕ
+most_used = 67108864
 
--- the body of a shot, whose object is there or not
-abbrev pub shot : Ray → List ℕ → Option Solid → Result (List (List ℕ)) Refusal
-shot ray name None = Err (Missing name)
-shot ray name (Some solid) = Ok (shot_lines ray name solid)
+-- a body, where the bytes used with it are no more than that
+abbrev pub within_quota : ℕ → Outcome → Outcome
+within_quota used (Ok lines) = cond (nat_le (used + length (text_of lines)) most_used) (Ok lines) (Err Quota)
+within_quota used (Err refusal) = Err refusal
 
--- the body of a query, or why it is refused
-abbrev pub looked : Entries → Query → Result (List (List ℕ)) Refusal
-looked entries (Shot ray name) = shot ray name (solid_at entries name)
+-- the partitions of a ray and an object; those of combinations are not told yet
+abbrev pub shot_body : Ray → Name → Body → Outcome
+shot_body ray name (Solid solid) = Ok (shot_lines ray name solid)
+shot_body ray name (Comb attr tree) = Err (NotList name)
 
-abbrev pub edit_outcome : Result Entries Refusal → Result (List (List ℕ)) Refusal
-edit_outcome (Ok entries) = Ok []
+-- the partitions of a ray and the object of a name, which is there or not
+abbrev pub shot_at : Ray → Name → Option Parts → Outcome
+shot_at ray name None = Err (Missing name)
+shot_at ray name (Some object) = shot_body ray name object.body
+
+-- a shot has one name yet
+abbrev pub shot_of : Listing → Ray → List Name → Outcome
+shot_of d ray (name ∷ []) = shot_at ray name (object_at d name)
+shot_of d ray _ = Err Syntax
+
+-- what a query finds; of the others than these two no line asks yet
+abbrev pub found : Listing → Query → Outcome
+found d queries.Names = Ok (names_lines d.objects)
+found d (queries.Shot ray names) = shot_of d ray names
+found d _ = Err Syntax
+
+abbrev pub edit_outcome : Result Listing Refusal → Outcome
+edit_outcome (Ok made) = Ok []
 edit_outcome (Err refusal) = Err refusal
 
--- the body of a command, which an edit leaves empty, or why it is refused
-abbrev pub outcome_of : Entries → Command → Result (List (List ℕ)) Refusal
-outcome_of entries (Bad refusal) = Err refusal
-outcome_of entries (IsEdit edit) = edit_outcome (applied entries edit)
-outcome_of entries (IsQuery query) = looked entries query
+-- what a command is answered, where its session has used so many bytes; the body of an edit is empty
+abbrev pub outcome_of : Listing → ℕ → Command → Outcome
+outcome_of d used (Bad refusal) = Err refusal
+outcome_of d used (IsEdit edit) = edit_outcome (edited d edit)
+outcome_of d used (IsQuery query) = within_quota used (found d query)
 
 -- the new directory, exactly where the command is an edit that is accepted
-abbrev pub edited : Entries → Command → Option Entries
-edited entries (Bad refusal) = None
-edited entries (IsEdit edit) = result_ok (applied entries edit)
-edited entries (IsQuery query) = None
+abbrev pub directory_made : Listing → Command → Option Listing
+directory_made d (Bad refusal) = None
+directory_made d (IsEdit edit) = result_ok (edited d edit)
+directory_made d (IsQuery query) = None
 
-abbrev pub shown : Result (List (List ℕ)) Refusal → Reply File
+-- the bytes used after an answer: an accepted one adds those of its body
+abbrev pub used_after : ℕ → Outcome → ℕ
+used_after used (Ok lines) = used + length (text_of lines)
+used_after used (Err refusal) = used
+
+abbrev pub shown : Outcome → Reply File
 shown (Ok lines) = Accepted lines None
 shown (Err refusal) = Refused (refusal_text refusal)
 
--- The rules of the core. A session has nothing of its own yet.
-abbrev pub core_rules : Rules Entries (Unit {0}) Command File
+-- The rules of the core. What a session has of its own is the number of bytes that it has used.
+abbrev pub core_rules : Rules Listing ℕ Command File
 core_rules = record {
-  edited = edited;
-  reply = λ entries own command. shown (outcome_of entries command);
-  kept = λ entries own command. own;
-  forgotten = λ own command. own;
+  edited = directory_made;
+  reply = λ d used command. shown (outcome_of d used command);
+  kept = λ d used command. used_after used (outcome_of d used command);
+  forgotten = λ used command. used;
 }
 
--- the state from which a run begins: the directory, version 0, and nothing of any session
-abbrev pub start_from : Entries → State Entries (Unit {0})
-start_from entries = record { book = record { directory = entries; version = 0 }; own = λ session. tt }
+-- the empty directory
+abbrev pub no_objects : Listing
+no_objects = record { title = []; objects = [] }
+
+-- the state from which a run begins: the directory, version 0, and no bytes used
+abbrev pub start_from : Listing → State Listing ℕ
+start_from d = record { book = record { directory = d; version = 0 }; own = λ session. 0 }

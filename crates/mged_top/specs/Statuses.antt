@@ -1,7 +1,7 @@
 -- The numbers and lines of the statuses.
 use Rattle.std.specs.Prelude.{ℕ, List, [], ◌++◌, codes, decimal}
-use Rattle.mged_top.specs.declared.script.ScriptFlaw.{ScriptFlaw}
-use Rattle.mged_top.specs.declared.script.ScriptFlaw.TheVariants.{Size, Session}
+use Rattle.mged_words.specs.declared.script.ScriptFlaw.{ScriptFlaw}
+use Rattle.mged_words.specs.declared.script.ScriptFlaw.TheVariants.{Size, Session}
 use Rattle.mged_top.specs.declared.status.Status.{Status}
 use Rattle.mged_top.specs.declared.status.Status.TheVariants.{Done, SomeRefused, Usage, ScriptRefused, ReadFault, WriteFault, Memory}
 

@@ -1,15 +1,25 @@
-ghost use Rattle.std.specs.Prelude.{◌≡◌, ◌≤◌, ◌<◌, ◌+◌, ◌^◌, IfOk, OnOk, OnErr};
-ghost use Rattle.transcript.specs.Run.{answer_of, book_after};
+ghost use Rattle.std.specs.Prelude.{◌≡◌, ◌≤◌, ◌<◌, ◌+◌, ◌^◌, Ok, IfOk, OnOk, OnErr};
+ghost use Rattle.std.specs.Result.{result_ok};
+ghost use Rattle.transcript.specs.Run.{answer_of, book_after, committed, own_after};
+ghost use Rattle.object_set.specs.Objects.{Parts};
+ghost use Rattle.edit_core.specs.Edits.{object_at};
+ghost use Rattle.edit_core.specs.Refused.{edited};
+ghost use Rattle.report_text.specs.Names.{names_lines};
 ghost use Rattle.mged_top.specs.Answers.{core_book, core_answer, unmarked};
-ghost use Rattle.mged_top.specs.Readable.{IsPlain, IsPlainQuery};
-ghost use Rattle.mged_top.specs.Replies.{core_rules, looked};
+ghost use Rattle.mged_top.specs.Replies.{core_rules, most_used, within_quota, shot_at, shot_of, found, edit_outcome, outcome_of, directory_made, used_after};
 
-use crate::command::{Command, Query, Refusal};
-use crate::directory::Directory;
 use crate::shot::shoot;
+use command_set::{Command, Edit, Query, Refusal, WorldRay};
+use directory::Directory;
+use edit_core::apply;
 use memory_core::Memory;
+use name_core::Name;
+use object_set::Body as ObjectBody;
+use report_text::{Body, TextFault, names_text};
 use std::alloc::Global;
-use transcript::Body;
+
+/// The most bytes that the bodies and files of one session may have.
+pub const MOST_USED: u64 = 67_108_864;
 
 /// What a command is answered: its body, or why it is refused, and the version after it.
 #[derive(Debug, Drop)]
@@ -25,45 +35,135 @@ pub struct Book {
     pub version: u32,
 }
 
+/// The names of all objects, where there is room for them.
+fn look_at_names(
+    alloc: Global,
+    directory: &Directory,
+    used: u64,
+) -> Result<Result<Body, Refusal>, Memory>
+    requires { used ≤ most_used }
+    ensures { IfOk result (λ outcome. outcome ≡ within_quota used (Ok (names_lines directory.now.objects))) }
+{
+    match names_text(alloc, directory, MOST_USED - used) {
+        Ok(body) => Ok(Ok(body)),
+        Err(TextFault::Room) => Ok(Err(Refusal::Quota)),
+        Err(TextFault::Memory) => Err(Memory),
+    }
+}
+
+/// The body, where there is room for it.
+fn fit(used: u64, body: Body) -> Result<Body, Refusal>
+    requires { used ≤ most_used }
+    ensures { result ≡ within_quota used (Ok body) }
+{
+    if body.text().len() as u64 > MOST_USED - used {
+        Err(Refusal::Quota)
+    } else {
+        Ok(body)
+    }
+}
+
+/// The partitions of a ray and the object of a name.
+fn shoot_at(
+    alloc: Global,
+    directory: &Directory,
+    used: u64,
+    ray: &WorldRay,
+    name: &Name,
+) -> Result<Result<Body, Refusal>, Memory>
+    requires { used ≤ most_used }
+    ensures { IfOk result (λ outcome. outcome ≡ within_quota used (shot_at ray.now name.now (object_at directory.now name.now))) }
+{
+    let Some(object) = directory.get(name) else {
+        return Ok(Err(Refusal::Missing(*name)));
+    };
+    match object.body() {
+        ObjectBody::Solid(solid) => Ok(fit(used, shoot(alloc, &ray.ray(), name, solid)?)),
+        ObjectBody::Comb { .. } => Ok(Err(Refusal::NotList(*name))),
+    }
+}
+
 /// What a query is answered.
 fn look(
     alloc: Global,
     directory: &Directory,
+    used: u64,
     query: &Query,
 ) -> Result<Result<Body, Refusal>, Memory>
-    requires { IsPlainQuery query.now }
-    ensures { IfOk result (λ outcome. outcome ≡ looked directory.now query.now) }
+    requires { used ≤ most_used }
+    ensures { IfOk result (λ outcome. outcome ≡ within_quota used (found directory.now query.now)) }
 {
     match query {
-        Query::Shot { ray, name } => match directory.get(name) {
-            None => Ok(Err(Refusal::Missing(*name))),
-            Some(solid) => Ok(Ok(shoot(alloc, ray, name, solid)?)),
+        Query::Names => look_at_names(alloc, directory, used),
+        Query::Shot { ray, names } => match names.items() {
+            [name] => shoot_at(alloc, directory, used, ray, name),
+            _ => Ok(Err(Refusal::Syntax)),
         },
+        _ => Ok(Err(Refusal::Syntax)),
     }
 }
 
-/// The core step on one thread: what a command is answered, and the book after it. Want of memory leaves the
-/// book as it was.
-pub fn answer_command(alloc: Global, book: &mut Book, command: &Command) -> Result<Answer, Memory>
+/// Applies an edit, and counts it where it is accepted.
+fn edit_book(
+    alloc: Global,
+    book: &mut Book,
+    edit: &Edit,
+) -> Result<Result<Body, Refusal>, Memory>
     requires version { book.old.version + 1 < 2 ^ 32 }
-    requires plain { IsPlain command.now }
-    ensures answer { IfOk result (λ answer. core_answer answer ≡ answer_of core_rules (core_book book.old) tt (unmarked command.now)) }
+    ensures outcome { IfOk result (λ outcome. outcome ≡ edit_outcome (edited book.old.directory edit.now)) }
+    ensures book { OnOk result (core_book book.new ≡ committed (core_book book.old) (result_ok (edited book.old.directory edit.now))) }
+    ensures stays { OnErr result (book.new ≡ book.old) }
+    ensures version { book.new.version ≤ book.old.version + 1 }
+{
+    match apply(alloc, &mut book.directory, edit) {
+        Ok(()) => {
+            book.version += 1;
+            Ok(Ok(Body::new(alloc)))
+        }
+        Err(Refusal::Memory) => Err(Memory),
+        Err(refusal) => Ok(Err(refusal)),
+    }
+}
+
+/// Does what a command asks for.
+fn obey(
+    alloc: Global,
+    book: &mut Book,
+    used: u64,
+    command: &Command,
+) -> Result<Result<Body, Refusal>, Memory>
+    requires version { book.old.version + 1 < 2 ^ 32 }
+    requires quota { used ≤ most_used }
+    ensures outcome { IfOk result (λ outcome. outcome ≡ outcome_of book.old.directory used command.now) }
+    ensures book { OnOk result (core_book book.new ≡ committed (core_book book.old) (directory_made book.old.directory command.now)) }
+    ensures stays { OnErr result (book.new ≡ book.old) }
+    ensures version { book.new.version ≤ book.old.version + 1 }
+{
+    match command {
+        Command::Bad(refusal) => Ok(Err(*refusal)),
+        Command::Edit(edit) => edit_book(alloc, book, edit),
+        Command::Query(query) => look(alloc, &book.directory, used, query),
+    }
+}
+
+/// The core step on one thread: what a command is answered, where its session has used so many bytes, and the book
+/// after it. Want of memory leaves the book as it was.
+pub fn answer_command(
+    alloc: Global,
+    book: &mut Book,
+    used: u64,
+    command: &Command,
+) -> Result<Answer, Memory>
+    requires version { book.old.version + 1 < 2 ^ 32 }
+    requires quota { used ≤ most_used }
+    ensures answer { IfOk result (λ answer. core_answer answer ≡ answer_of core_rules (core_book book.old) used (unmarked command.now)) }
+    ensures kept { IfOk result (λ answer. used_after used answer.outcome ≡ own_after core_rules (core_book book.old) used (unmarked command.now)) }
+    ensures quota { IfOk result (λ answer. used_after used answer.outcome ≤ most_used) }
     ensures book { OnOk result (core_book book.new ≡ book_after core_rules (core_book book.old) (unmarked command.now)) }
     ensures stays { OnErr result (book.new ≡ book.old) }
     ensures version { book.new.version ≤ book.old.version + 1 }
 {
-    let outcome = match command {
-        Command::Bad(refusal) => Err(*refusal),
-        Command::Edit(edit) => match book.directory.apply(edit) {
-            Ok(()) => {
-                book.version += 1;
-                Ok(Body::new(alloc))
-            }
-            Err(Refusal::Memory) => return Err(Memory),
-            Err(refusal) => Err(refusal),
-        },
-        Command::Query(query) => look(alloc, &book.directory, query)?,
-    };
+    let outcome = obey(alloc, book, used, command)?;
     Ok(Answer {
         version: book.version,
         outcome,

@@ -2,19 +2,11 @@
 #![tactic(auto)]
 
 mod answer;
-mod command;
-mod directory;
-mod line;
 mod main_call;
 mod run;
-mod script;
 mod shot;
-mod solid;
 mod status;
 
-pub use answer::{Answer, Book};
-pub use command::{Command, Edit, Query, Refusal, RefusalText, ScriptCommand, ViewFault};
-pub use directory::Directory;
+pub use answer::{Answer, Book, MOST_USED};
 pub use main_call::mged_main;
-pub use script::{SCRIPT_SIZE, ScriptFault, ScriptFlaw, read_script};
 pub use status::{Status, StatusText};

@@ -4,11 +4,10 @@ ghost use Rattle.outside_core.specs.Faults.{Rose};
 ghost use Rattle.outside_core.specs.Told.{Advances};
 ghost use Rattle.mged_top.specs.Calls.{IsRun, IsFlawed, IsCutTranscript, IsSound, IsAnswered, WritesNothing};
 
-use crate::command::ScriptCommand;
 use crate::run::run_script;
-use crate::script::{SCRIPT_SIZE, ScriptFault, ScriptFlaw, read_script};
 use crate::status::Status;
 use item_list::Items;
+use mged_words::{SCRIPT_SIZE, ScriptCommand, ScriptFault, ScriptFlaw, read_script};
 use outside_core::{Gate, ReadStop, Shelf, Sink, Source, read_all, write_all};
 use std::alloc::Global;
 

@@ -5,16 +5,19 @@ ghost use Rattle.transcript.specs.Lines.{text_of};
 ghost use Rattle.transcript.specs.Merge.{lane};
 ghost use Rattle.transcript.specs.Run.{run_of, stepped, answered};
 ghost use Rattle.transcript.specs.Transcript.{answer_lines, session_lines, transcript};
-ghost use Rattle.mged_top.specs.Answers.{HasSession, command_entry, session_of, core_answer, core_answers, core_state, marked_entry, is_refused, all_session_lines};
+ghost use Rattle.mged_words.specs.Entries.{HasSession, command_entry, session_of};
+ghost use Rattle.mged_words.specs.Readable.{IsReadable};
+ghost use Rattle.mged_top.specs.Answers.{core_answer, core_answers, core_state, marked_entry, is_refused, all_session_lines};
 ghost use Rattle.mged_top.specs.Outcomes.{IsLineOutcome};
-ghost use Rattle.mged_top.specs.Readable.{IsReadable};
-ghost use Rattle.mged_top.specs.Replies.{core_rules};
+ghost use Rattle.mged_top.specs.Replies.{core_rules, most_used, no_objects, used_after};
 
 use crate::answer::{Answer, Book, answer_command};
-use crate::command::{RefusalText, ScriptCommand};
-use crate::directory::Directory;
+use command_set::{Refusal, RefusalText};
+use directory::Directory;
 use item_list::Items;
 use memory_core::Memory;
+use mged_words::ScriptCommand;
+use report_text::Body;
 use std::alloc::Global;
 use std::vec::Vec;
 use transcript::{push_accepted, push_order, push_refused};
@@ -37,23 +40,40 @@ fn keep_answer(answers: &mut Vec<Items<Answer>>, session: u8, answer: Answer) ->
     Ok(())
 }
 
-/// Answers the next command.
+/// The bytes that a session has used after an answer.
+fn used_with(used: u64, outcome: &Result<Body, Refusal>) -> u64
+    requires { used_after used outcome.now ≤ most_used }
+    ensures { result ≡ used_after used outcome.now }
+{
+    match outcome {
+        Ok(body) => used + body.text().len() as u64,
+        Err(_) => used,
+    }
+}
+
+/// Answers the next command. `used` has the bytes that each session has used.
 fn run_command(
     alloc: Global,
     book: &mut Book,
+    used: &mut [u64],
     answers: &mut Vec<Items<Answer>>,
     next: &ScriptCommand,
 ) -> Result<(), Memory>
     requires session { HasSession (command_entry next.now) }
-    requires readable { IsReadable (command_entry next.now) }
+    requires numbers { length used.old ≡ 8 }
+    requires quota { All (λ n. n ≤ most_used) used.old }
     requires eight { vec_len answers.old ≡ 8 }
     requires small { book.old.version + 1 < 2 ^ 32 }
+    ensures numbers { length used.new ≡ 8 }
+    ensures quota { All (λ n. n ≤ most_used) used.new }
     ensures eight { vec_len answers.new ≡ 8 }
     ensures small { book.new.version ≤ book.old.version + 1 }
-    ensures state { OnOk result (core_state book.new ≡ stepped core_rules (core_state book.old) (marked_entry (command_entry next.now))) }
-    ensures kept { OnOk result ((k : ℕ) → core_answers answers.new.items k ≡ core_answers answers.old.items k ++ lane (answered core_rules (core_state book.old) (marked_entry (command_entry next.now)) ∷ []) k) }
+    ensures state { OnOk result (core_state book.new used.new ≡ stepped core_rules (core_state book.old used.old) (marked_entry (command_entry next.now))) }
+    ensures kept { OnOk result ((k : ℕ) → core_answers answers.new.items k ≡ core_answers answers.old.items k ++ lane (answered core_rules (core_state book.old used.old) (marked_entry (command_entry next.now)) ∷ []) k) }
 {
-    let answer = answer_command(alloc, book, &next.command)?;
+    let place = usize::from(next.session - 1);
+    let answer = answer_command(alloc, book, used[place], &next.command)?;
+    used[place] = used_with(used[place], &answer.outcome);
     keep_answer(answers, next.session, answer)
 }
 
@@ -61,19 +81,21 @@ fn run_command(
 fn run_commands(
     alloc: Global,
     book: &mut Book,
+    used: &mut [u64],
     answers: &mut Vec<Items<Answer>>,
     script: &[ScriptCommand],
 ) -> Result<(), Memory>
     requires sessions { All HasSession (map command_entry script.now) }
-    requires readable { All IsReadable (map command_entry script.now) }
     requires few { length script.now + 1 < 2 ^ 32 }
+    requires numbers { length used.old ≡ 8 }
+    requires quota { All (λ n. n ≤ most_used) used.old }
     requires eight { vec_len answers.old ≡ 8 }
     requires fresh { book.old.version ≡ 0 }
     ensures eight { vec_len answers.new ≡ 8 }
-    ensures answered { OnOk result ((k : ℕ) → core_answers answers.new.items k ≡ core_answers answers.old.items k ++ lane (run_of core_rules (core_state book.old) (map marked_entry (map command_entry script.now))) k) }
+    ensures answered { OnOk result ((k : ℕ) → core_answers answers.new.items k ≡ core_answers answers.old.items k ++ lane (run_of core_rules (core_state book.old used.old) (map marked_entry (map command_entry script.now))) k) }
 {
     for next in script {
-        run_command(alloc, book, answers, next)?;
+        run_command(alloc, book, used, answers, next)?;
     }
     Ok(())
 }
@@ -170,14 +192,15 @@ pub fn run_script(alloc: Global, script: &[ScriptCommand]) -> Result<Outcome, Me
     requires sessions { All HasSession (map command_entry script.now) }
     requires readable { All IsReadable (map command_entry script.now) }
     requires few { length script.now + 1 < 2 ^ 32 }
-    ensures { IfOk result (λ o. IsLineOutcome [] (map command_entry script.now) o.text.items [] o.some_refused) }
+    ensures { IfOk result (λ o. IsLineOutcome no_objects (map command_entry script.now) o.text.items [] o.some_refused) }
 {
     let mut book = Book {
         directory: Directory::new(alloc),
         version: 0,
     };
+    let mut used = [0; 8];
     let mut answers = no_answers(alloc)?;
-    run_commands(alloc, &mut book, &mut answers, script)?;
+    run_commands(alloc, &mut book, &mut used, &mut answers, script)?;
     let order = line_order(alloc, script)?;
     let text = write_transcript(alloc, &order, &answers)?;
     let some_refused = is_refused_among(&answers);

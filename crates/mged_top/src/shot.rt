@@ -5,7 +5,6 @@ ghost use Rattle.lattice_core.specs.Limits.{IsWithin};
 ghost use Rattle.solid_set.specs.Segments.{segment_of};
 ghost use Rattle.surd_order.specs.Text.{position_text};
 ghost use Rattle.transcript.specs.Lines.{Lacks};
-ghost use Rattle.mged_top.specs.Readable.{IsPlainShot};
 ghost use Rattle.mged_top.specs.Shots.{own_surface, partition_line, partition_lines, shot_lines};
 
 use lattice_core::{Placement, Ray};
@@ -37,7 +36,8 @@ fn push_position(line: &mut Vec<u8>, place: &Pos) -> Result<(), Memory>
 
 /// The line of the one partition: the region's number and path, and where the ray enters and leaves it.
 fn line_of(alloc: Global, name: &Name, seg: &Seg) -> Result<Vec<u8>, Memory>
-    ensures { IfOk result (λ line. line.items ≡ partition_line name.now seg.now) }
+    ensures value { IfOk result (λ line. line.items ≡ partition_line name.now seg.now) }
+    ensures one_line { IfOk result (λ line. Lacks 10 line.items) }
 {
     let mut line = Vec::new(alloc);
     line.extend_from_slice(b"1 /")?;
@@ -49,7 +49,6 @@ fn line_of(alloc: Global, name: &Name, seg: &Seg) -> Result<Vec<u8>, Memory>
 
 /// The body with the partition of a segment, or with none.
 fn partitions(alloc: Global, name: &Name, seg: Option<Seg>) -> Result<Body, Memory>
-    requires { Lacks 10 name.now }
     ensures { IfOk result (λ body. body ≡ partition_lines name.now seg) }
 {
     let mut body = Body::new(alloc);
@@ -61,7 +60,7 @@ fn partitions(alloc: Global, name: &Name, seg: Option<Seg>) -> Result<Body, Memo
 
 /// The partitions of a ray and one solid.
 pub fn shoot(alloc: Global, ray: &Ray, name: &Name, solid: &Solid) -> Result<Body, Memory>
-    requires { IsPlainShot ray.now name.now }
+    requires { IsWithin WORLD ray.now.origin }
     ensures { IfOk result (λ body. body ≡ shot_lines ray.now name.now solid.now) }
 {
     partitions(alloc, name, segment(solid, ray))

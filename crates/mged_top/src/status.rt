@@ -1,8 +1,8 @@
 ghost use Rattle.std.specs.Prelude.{◌≡◌};
 ghost use Rattle.mged_top.specs.Statuses.{exit_number, status_line};
 
-use crate::script::ScriptFlaw;
 use fixed_text::FixedText;
+use mged_words::ScriptFlaw;
 
 /// How a call of the program ended.
 #[derive(Clone, Copy, Debug, PartialEq, Eq)]

@@ -1,5 +1,5 @@
 use Rattle.std.proofs.Common.{◌≡◌, map, take}
-use Rattle.mged_top.specs.Answers.{session_of, command_entry}
+use Rattle.mged_words.specs.Entries.{session_of, command_entry}
 use Rattle.mged_top.proofs.run.line_order.Given as goal
 
 abbrev pub invariant-loop-next : goal.invariant-loop-next

@@ -4,11 +4,11 @@ use Rattle.std.proofs.lemmas.List.Elements.{All-map, All-weaker}
 use Rattle.std.specs.List.{list_any}
 use Rattle.transcript.specs.Merge.{Entry, lane}
 use Rattle.transcript.specs.Run.{run_of}
-use Rattle.mged_top.specs.Answers.{HasSession, session_of, command_entry, core_answers, marked_entry, is_refused}
-use Rattle.mged_top.specs.Directories.{Entries}
-use Rattle.mged_top.specs.Replies.{core_rules, start_from}
+use Rattle.command_set.specs.declared.command.Command.{Command}
+use Rattle.mged_words.specs.Entries.{HasSession, session_of, command_entry}
+use Rattle.mged_top.specs.Answers.{core_answers, marked_entry, is_refused}
+use Rattle.mged_top.specs.Replies.{core_rules, start_from, no_objects}
 use Rattle.mged_top.specs.declared.answer.Answer.{Answer}
-use Rattle.mged_top.specs.declared.command.Command.{Command}
 use Rattle.mged_top.proofs.RunLaws.{script_outcome, few_answers, any_default}
 use Rattle.mged_top.proofs.run.run_script.Goals as goal
 

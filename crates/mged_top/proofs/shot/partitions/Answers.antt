@@ -1,8 +1,6 @@
-use Rattle.std.proofs.Common.{◌∙◌, sym, subst}
+use Rattle.std.proofs.Common.{sym, subst}
 use Rattle.transcript.specs.Lines.{Lacks}
-use Rattle.mged_top.proofs.PlaceLaws.{partition_one_line}
 use Rattle.mged_top.proofs.shot.partitions.Goals as goal
 
 pub push_line-requires-clause-one_line : goal.push_line-requires-clause-one_line
-push_line-requires-clause-one_line c =
-    subst (Lacks 10) (sym (c.deref.ensures.value ∙ c.in_ok-line_of.ensures)) (partition_one_line c.args.name.now c.in-Some.seg c.requires)
+push_line-requires-clause-one_line c = subst (Lacks 10) (sym c.deref.ensures.value) c.in_ok-line_of.ensures.one_line

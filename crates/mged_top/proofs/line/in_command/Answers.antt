@@ -1,5 +1,0 @@
-use Rattle.mged_top.proofs.LineLaws.{in_short}
-use Rattle.mged_top.proofs.line.in_command.Goals as goal
-
-pub returns-in_default : goal.returns-in_default
-returns-in_default c = in_short c.args.atoms.now c.in_default.len_below

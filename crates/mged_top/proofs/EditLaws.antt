@@ -4,7 +4,6 @@ use Rattle.std.specs.List.{AllByRecursion, list_any}
 use Rattle.std.specs.Option.{option_map}
 use Rattle.std.specs.Result.{result_ok}
 use Rattle.transcript.proofs.Readable.{IfSomeKeeps}
-use Rattle.report_text.proofs.LineLaws.{mark_lacks}
 use Rattle.name_core.specs.declared.name.Name.{Name}
 use Rattle.name_core.specs.Same.{same_name}
 use Rattle.directory.proofs.WalkLemmas.{name_tells}
@@ -328,6 +327,10 @@ kept_unless (Some refusal) d h = tt
 -- the directory that an edit makes has plain names again
 pub edit_keeps : (d : Listing) (edit : Edit) → IsPlainListing d → IsPlainEdit edit → IfSomeKeeps IsPlainListing (result_ok (edited d edit))
 edit_keeps d edit h k = kept_unless (refusal_of d edit) (made d edit) (made_plain d edit h k)
+
+mark_lacks : (body : Body) → Lacks 10 (mark_of body)
+mark_lacks (bodies.Solid solid) = tt
+mark_lacks (bodies.Comb attr tree) = elim attr.region as (λ b. Lacks 10 (cond b (codes "/R") (codes "/"))) [ true ↦ computed 10 (codes "/R") refl | false ↦ computed 10 (codes "/") refl ]
 
 -- their lines
 pub names_plain : (es : Entries) → HasPlainNames es → AllByRecursion (Lacks 10) (names_lines es)

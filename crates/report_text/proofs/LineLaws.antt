@@ -30,7 +30,7 @@ mark_of_comb : (region : Bool) → Lacks 10 (cond region (codes "/R") (codes "/"
 mark_of_comb true = computed 10 (codes "/R") refl
 mark_of_comb false = computed 10 (codes "/") refl
 
-pub mark_lacks : (body : Body) → Lacks 10 (mark_of body)
+mark_lacks : (body : Body) → Lacks 10 (mark_of body)
 mark_lacks (Solid solid) = tt
 mark_lacks (Comb attr tree) = mark_of_comb attr.region
 

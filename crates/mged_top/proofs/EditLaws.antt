@@ -1,5 +1,5 @@
 -- Edits whose names have no line feed: their refusals stand on one line, and so do the names of the directory that they make.
-use Rattle.std.proofs.Common.{◌≡◌, ◌≤◌, ◌<◌, ◌+◌, ◌++◌, ◌∙◌, ◌&&◌, ◌||◌, inl, inr, ℕ, zero, suc, Bool, true, false, not, cond, nat_le, nat_lt, List, [], ◌∷◌, Option, Some, None, Result, Ok, Err, is_some, is_none, find, filter, map, length, bytes_eq, codes, decimal, refl, ap, sym, subst, arith, length-append}
+use Rattle.std.proofs.Common.{◌≡◌, ◌≤◌, ◌++◌, ◌∙◌, ◌&&◌, ◌||◌, inl, inr, ℕ, Bool, true, false, not, cond, nat_le, nat_lt, List, [], ◌∷◌, Option, Some, None, is_some, is_none, find, filter, length, codes, decimal, refl, sym, subst, arith, length-append}
 use Rattle.std.specs.List.{AllByRecursion, list_any}
 use Rattle.std.specs.Option.{option_map}
 use Rattle.std.specs.Result.{result_ok}
@@ -17,21 +17,18 @@ use Rattle.comb_tree.specs.Lists.{products}
 use Rattle.object_set.specs.declared.object.Body.{Body}
 use Rattle.object_set.specs.declared.object.Body.TheVariants as bodies
 use Rattle.object_set.specs.Objects.{Parts}
-use Rattle.object_set.specs.Renaming.{new_name, renamed_object}
-use Rattle.command_set.specs.Refusals.{refusal_text}
 use Rattle.command_set.specs.declared.command.Edit.{Edit}
 use Rattle.command_set.specs.declared.command.Edit.TheVariants.{Make, Region, Group, Remove, Kill, RenameAll, Place, Title, Keep, Set}
 use Rattle.command_set.specs.declared.refusal.Refusal.{Refusal}
 use Rattle.command_set.specs.declared.refusal.Refusal.TheVariants.{Exists, Missing, NotComb, NotList, Absent, Heads, Members, Full, Cycle, Deep}
-use Rattle.directory.specs.declared.fault.DirFault.{DirFault}
 use Rattle.directory.specs.declared.fault.DirFault.TheVariants as faults
 use Rattle.directory.specs.Listing.{Listing}
 use Rattle.directory.specs.Walks.{Entries, most_objects, most_depth, unbounded, deepest, object_of}
-use Rattle.directory.specs.Edits.{judged, judged_by, first_of, appended, replaced, without_all, renamed_all}
+use Rattle.directory.specs.Edits.{judged, first_of, appended, replaced, renamed_all}
 use Rattle.edit_core.specs.ListForms.{list_of}
 use Rattle.edit_core.specs.Edits.{object_at, tree_at, own_list, made, set_object, change_object}
 use Rattle.edit_core.specs.Refused.{refusal_of, edited, unless, first_refusal, exists, missing, not_comb, not_list, absent, heads, too_many, full, too_deep, at_name, when, is_there, is_solid, fresh, wanted, combination, listed, put, edited_name, over_members, of_judgement}
-use Rattle.report_text.specs.Names.{names_lines, name_line, mark_of}
+use Rattle.report_text.specs.Names.{names_lines, mark_of}
 use Rattle.mged_words.specs.Readable.{IsPlainRefusal, ArePlain, IsPlainEdit}
 use Rattle.mged_top.proofs.PlaceLaws.{decimal_one_line}
 
@@ -249,18 +246,35 @@ first_plain (Some refusal ∷ rest) h = h.0
 -- the refusal of an edit stands on one line, and does not say memory
 pub refusal_plain : (d : Listing) (edit : Edit) → IsPlainEdit edit → MayBePlain (refusal_of d edit)
 refusal_plain d edit h =
-    first_plain (exists d edit ∷ missing d edit ∷ not_comb d edit ∷ not_list d edit ∷ absent d edit ∷ heads d edit ∷ too_many d edit ∷ full d edit ∷ too_deep d edit ∷ [])
-    (may_at (fresh edit) (λ name. when (is_there d name) (Exists name)) (fresh_plain edit h) (λ n k. may_when (is_there d n) (Exists n) (plain_exists n k)),
-    (may_be (find (λ name. not (is_there d name)) (wanted edit)) Missing (find_plain (λ name. not (is_there d name)) (wanted edit) (wanted_plain edit h)) plain_missing,
-    (may_at (combination edit) (λ name. when (is_solid (object_at d name)) (NotComb name)) (combination_plain edit h) (λ n k. may_when (is_solid (object_at d n)) (NotComb n) (plain_not_comb n k)),
-    (may_at (listed edit) (λ name. when (is_none (list_of (tree_at (object_at d name)))) (NotList name)) (listed_plain edit h) (λ n k. may_when (is_none (list_of (tree_at (object_at d n)))) (NotList n) (plain_not_list n k)),
-    (absent_plain d edit h,
-    (lost_plain d edit h,
-    (many_plain d edit,
-    (may_at (put edit) (λ name. when (not (is_there d name) && nat_le most_objects (length d.objects)) Full) (put_plain edit h) (λ n k. may_when (not (is_there d n) && nat_le most_objects (length d.objects)) Full plain_full),
-    (may_at (edited_name edit) (λ name. of_judgement (judged (made d edit).objects name)) (edited_plain edit h)
-    (λ n k. judged_plain (nat_le unbounded (deepest (made d edit).objects)) (nat_lt most_depth (deepest (made d edit).objects)) n (deepest (made d edit).objects) k),
-    tt)))))))))
+    first_plain (exists d edit ∷ missing d edit ∷ not_comb d edit ∷ not_list d edit ∷ absent d edit ∷ heads d edit ∷ too_many d edit ∷ full d edit ∷ too_deep d edit ∷ []) (
+      may_at (fresh edit) (λ name. when (is_there d name) (Exists name)) (fresh_plain edit h) (λ n k. may_when (is_there d n) (Exists n) (plain_exists n k)),
+      (
+        may_be (find (λ name. not (is_there d name)) (wanted edit)) Missing (find_plain (λ name. not (is_there d name)) (wanted edit) (wanted_plain edit h)) plain_missing,
+        (
+          may_at (combination edit) (λ name. when (is_solid (object_at d name)) (NotComb name)) (combination_plain edit h) (λ n k. may_when (is_solid (object_at d n)) (NotComb n) (plain_not_comb n k)),
+          (
+            may_at (listed edit) (λ name. when (is_none (list_of (tree_at (object_at d name)))) (NotList name)) (listed_plain edit h) (λ n k. may_when (is_none (list_of (tree_at (object_at d n)))) (NotList n) (plain_not_list n k)),
+            (
+              absent_plain d edit h,
+              (
+                lost_plain d edit h,
+                (
+                  many_plain d edit,
+                  (
+                    may_at (put edit) (λ name. when (not (is_there d name) && nat_le most_objects (length d.objects)) Full) (put_plain edit h) (λ n k. may_when (not (is_there d n) && nat_le most_objects (length d.objects)) Full plain_full),
+                    (
+                      may_at (edited_name edit) (λ name. of_judgement (judged (made d edit).objects name)) (edited_plain edit h)
+                          (λ n k. judged_plain (nat_le unbounded (deepest (made d edit).objects)) (nat_lt most_depth (deepest (made d edit).objects)) n (deepest (made d edit).objects) k),
+                      tt,
+                    ),
+                  ),
+                ),
+              ),
+            ),
+          ),
+        ),
+      ),
+    )
 
 -- the names of a directory have no line feed
 abbrev pub HasPlainNames : Entries → Type 0

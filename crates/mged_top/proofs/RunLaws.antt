@@ -30,7 +30,7 @@ use Rattle.command_set.specs.declared.command.Command.TheVariants.{Bad, Edit as 
 use Rattle.command_set.specs.declared.command.Query.{Query}
 use Rattle.command_set.specs.declared.command.Query.TheVariants as queries
 use Rattle.command_set.specs.declared.refusal.Refusal.{Refusal}
-use Rattle.command_set.specs.declared.refusal.Refusal.TheVariants.{Syntax, Missing, NotList, Quota}
+use Rattle.command_set.specs.declared.refusal.Refusal.TheVariants.{Syntax, Quota}
 use Rattle.directory.specs.Listing.{Listing}
 use Rattle.directory.specs.Walks.{Entries}
 use Rattle.edit_core.specs.Edits.{object_at, made}
@@ -162,12 +162,14 @@ used_one used session place v f some here lt is = fun_ext (λ k. used_step used 
     set_here [] i v lt = absurd (omega (arith, lt))
     set_here (x ∷ xs) zero v lt = refl
     set_here (x ∷ xs) (suc i) v lt = set_here xs i v (omega (arith, lt))
+
     set_away : (used : List ℕ) (i j v : ℕ) → i ≢ j → get_or (set used i v) j 0 ≡ get_or used j 0
     set_away [] i j v ne = refl
     set_away (x ∷ xs) zero zero v ne = absurd (ne refl)
     set_away (x ∷ xs) zero (suc j) v ne = refl
     set_away (x ∷ xs) (suc i) zero v ne = refl
     set_away (x ∷ xs) (suc i) (suc j) v ne = set_away xs i j v (λ e. ne (ap suc e))
+
     by_session : (t : Bool) (used : List ℕ) (i v : ℕ) (f : ℕ → ℕ) (k : ℕ) → t ≡ (suc i == k) → i < length used → v ≡ f (get_or used i 0)
         → used_at (set used i v) k ≡ cond t (f (used_at used k)) (used_at used k)
     by_session true used i v f k t lt is =
@@ -175,6 +177,7 @@ used_one used session place v f some here lt is = fun_ext (λ k. used_step used 
         subst (λ n. used_at (set used i v) n ≡ f (used_at used n)) same (set_here used i v lt ∙ is)
     by_session false used i v f zero t lt is = refl
     by_session false used i v f (suc k) t lt is = set_away used i k v (λ e. eqb-false (suc i) (suc k) (sym t) (ap suc e))
+
     used_step : (used : List ℕ) (session place v : ℕ) (f : ℕ → ℕ) (k : ℕ) → 1 ≤ session → place ≡ session - 1 → place < length used → v ≡ f (get_or used place 0)
         → used_at (set used place v) k ≡ cond (session == k) (f (used_at used k)) (used_at used k)
     used_step used zero place v f k some here lt is = absurd (omega (arith, some))
@@ -197,6 +200,7 @@ none_used used is = ap used_at is ∙ fun_ext zero_at
     zero_past (suc (suc (suc (suc (suc (suc zero)))))) = refl
     zero_past (suc (suc (suc (suc (suc (suc (suc zero))))))) = refl
     zero_past (suc (suc (suc (suc (suc (suc (suc (suc n)))))))) = refl
+
     zero_at : (k : ℕ) → used_at (replicate 8 0) k ≡ 0
     zero_at zero = refl
     zero_at (suc n) = zero_past n

@@ -104,11 +104,7 @@ fn look(
 }
 
 /// Applies an edit, and counts it where it is accepted.
-fn edit_book(
-    alloc: Global,
-    book: &mut Book,
-    edit: &Edit,
-) -> Result<Result<Body, Refusal>, Memory>
+fn edit_book(alloc: Global, book: &mut Book, edit: &Edit) -> Result<Result<Body, Refusal>, Memory>
     requires version { book.old.version + 1 < 2 ^ 32 }
     ensures outcome { IfOk result (λ outcome. outcome ≡ edit_outcome (edited book.old.directory edit.now)) }
     ensures book { OnOk result (core_book book.new ≡ committed (core_book book.old) (result_ok (edited book.old.directory edit.now))) }

@@ -251,16 +251,16 @@ pub refusal_plain : (d : Listing) (edit : Edit) → IsPlainEdit edit → MayBePl
 refusal_plain d edit h =
     first_plain (exists d edit ∷ missing d edit ∷ not_comb d edit ∷ not_list d edit ∷ absent d edit ∷ heads d edit ∷ too_many d edit ∷ full d edit ∷ too_deep d edit ∷ [])
     (may_at (fresh edit) (λ name. when (is_there d name) (Exists name)) (fresh_plain edit h) (λ n k. may_when (is_there d n) (Exists n) (plain_exists n k)),
-    may_be (find (λ name. not (is_there d name)) (wanted edit)) Missing (find_plain (λ name. not (is_there d name)) (wanted edit) (wanted_plain edit h)) plain_missing,
-    may_at (combination edit) (λ name. when (is_solid (object_at d name)) (NotComb name)) (combination_plain edit h) (λ n k. may_when (is_solid (object_at d n)) (NotComb n) (plain_not_comb n k)),
-    may_at (listed edit) (λ name. when (is_none (list_of (tree_at (object_at d name)))) (NotList name)) (listed_plain edit h) (λ n k. may_when (is_none (list_of (tree_at (object_at d n)))) (NotList n) (plain_not_list n k)),
-    absent_plain d edit h,
-    lost_plain d edit h,
-    many_plain d edit,
-    may_at (put edit) (λ name. when (not (is_there d name) && nat_le most_objects (length d.objects)) Full) (put_plain edit h) (λ n k. may_when (not (is_there d n) && nat_le most_objects (length d.objects)) Full plain_full),
-    may_at (edited_name edit) (λ name. of_judgement (judged (made d edit).objects name)) (edited_plain edit h)
+    (may_be (find (λ name. not (is_there d name)) (wanted edit)) Missing (find_plain (λ name. not (is_there d name)) (wanted edit) (wanted_plain edit h)) plain_missing,
+    (may_at (combination edit) (λ name. when (is_solid (object_at d name)) (NotComb name)) (combination_plain edit h) (λ n k. may_when (is_solid (object_at d n)) (NotComb n) (plain_not_comb n k)),
+    (may_at (listed edit) (λ name. when (is_none (list_of (tree_at (object_at d name)))) (NotList name)) (listed_plain edit h) (λ n k. may_when (is_none (list_of (tree_at (object_at d n)))) (NotList n) (plain_not_list n k)),
+    (absent_plain d edit h,
+    (lost_plain d edit h,
+    (many_plain d edit,
+    (may_at (put edit) (λ name. when (not (is_there d name) && nat_le most_objects (length d.objects)) Full) (put_plain edit h) (λ n k. may_when (not (is_there d n) && nat_le most_objects (length d.objects)) Full plain_full),
+    (may_at (edited_name edit) (λ name. of_judgement (judged (made d edit).objects name)) (edited_plain edit h)
     (λ n k. judged_plain (nat_le unbounded (deepest (made d edit).objects)) (nat_lt most_depth (deepest (made d edit).objects)) n (deepest (made d edit).objects) k),
-    tt)
+    tt)))))))))
 
 -- the names of a directory have no line feed
 abbrev pub HasPlainNames : Entries → Type 0

@@ -1,5 +1,5 @@
 -- The transcript of a script that is run in the order of its lines.
-use Rattle.std.proofs.Common.{◌≡◌, ◌≢◌, ℕ, zero, suc, ◌<◌, ◌≤◌, ◌+◌, ◌-◌, ◌^◌, ◌==◌, ◌||◌, Bool, true, false, cond, List, [], ◌∷◌, ◌++◌, All, map, length, replicate, get_or, set, nat_le, eqb-true, bytes_eq, codes, refl, ap, ap₂, sym, ◌∙◌, subst, arith, Option, Some, None, Result, Ok, Err, is_err}
+use Rattle.std.proofs.Common.{◌≡◌, ◌≢◌, ℕ, zero, suc, ◌<◌, ◌≤◌, ◌+◌, ◌-◌, ◌^◌, ◌==◌, ◌||◌, Bool, true, false, cond, List, [], ◌∷◌, ◌++◌, All, map, length, append_assoc, replicate, get_or, set, nat_le, eqb-true, bytes_eq, codes, refl, ap, ap₂, sym, ◌∙◌, subst, arith, Option, Some, None, Result, Ok, Err, is_err}
 use Rattle.std.specs.List.{AllByRecursion, list_any}
 use Rattle.std.proofs.lemmas.Bool.{eqb-false, leb-true}
 use Rattle.std.proofs.lemmas.List.{length-map}
@@ -32,6 +32,7 @@ use Rattle.command_set.specs.declared.command.Query.TheVariants as queries
 use Rattle.command_set.specs.declared.refusal.Refusal.{Refusal}
 use Rattle.command_set.specs.declared.refusal.Refusal.TheVariants.{Syntax, Missing, NotList, Quota}
 use Rattle.directory.specs.Listing.{Listing}
+use Rattle.directory.specs.Walks.{Entries}
 use Rattle.edit_core.specs.Edits.{object_at, made}
 use Rattle.edit_core.specs.Refused.{refusal_of, unless}
 use Rattle.mged_words.specs.Entries.{HasSession, session_of}
@@ -153,9 +154,9 @@ keeps : KeepsLines core_rules IsPlainListing Any_own IsPlain
 keeps = record { edited = edited_fits; kept = λ d used c h q k. tt; forgotten = λ used c q k. tt; reply = reply_fits; tells = reply_tells }
 
 -- the bytes that the sessions have used, after those of one are counted anew
-pub used_one : (used : List ℕ) (session v : ℕ) (f : ℕ → ℕ) → 1 ≤ session → session ≤ 8 → length used ≡ 8 → v ≡ f (used_at used session)
-    → used_at (set used (session - 1) v) ≡ (λ k. cond (session == k) (f (used_at used k)) (used_at used k))
-used_one used session v f some eight len is = fun_ext (λ k. used_step used session v f k some eight len is)
+pub used_one : (used : List ℕ) (session place v : ℕ) (f : ℕ → ℕ) → 1 ≤ session → place ≡ session - 1 → place < length used → v ≡ f (get_or used place 0)
+    → used_at (set used place v) ≡ (λ k. cond (session == k) (f (used_at used k)) (used_at used k))
+used_one used session place v f some here lt is = fun_ext (λ k. used_step used session place v f k some here lt is)
   where
     set_here : (used : List ℕ) (i v : ℕ) → i < length used → get_or (set used i v) i 0 ≡ v
     set_here [] i v lt = absurd (omega (arith, lt))
@@ -174,10 +175,53 @@ used_one used session v f some eight len is = fun_ext (λ k. used_step used sess
         subst (λ n. used_at (set used i v) n ≡ f (used_at used n)) same (set_here used i v lt ∙ is)
     by_session false used i v f zero t lt is = refl
     by_session false used i v f (suc k) t lt is = set_away used i k v (λ e. eqb-false (suc i) (suc k) (sym t) (ap suc e))
-    used_step : (used : List ℕ) (session v : ℕ) (f : ℕ → ℕ) (k : ℕ) → 1 ≤ session → session ≤ 8 → length used ≡ 8 → v ≡ f (used_at used session)
-        → used_at (set used (session - 1) v) k ≡ cond (session == k) (f (used_at used k)) (used_at used k)
-    used_step used zero v f k some eight len is = absurd (omega (arith, some))
-    used_step used (suc i) v f k some eight len is = by_session (suc i == k) used i v f k refl (omega (arith, eight, len)) is
+    used_step : (used : List ℕ) (session place v : ℕ) (f : ℕ → ℕ) (k : ℕ) → 1 ≤ session → place ≡ session - 1 → place < length used → v ≡ f (get_or used place 0)
+        → used_at (set used place v) k ≡ cond (session == k) (f (used_at used k)) (used_at used k)
+    used_step used zero place v f k some here lt is = absurd (omega (arith, some))
+    used_step used (suc i) place v f k some here lt is =
+        let at : place ≡ i = omega (arith, here) in
+        subst (λ p. used_at (set used p v) k ≡ cond (suc i == k) (f (used_at used k)) (used_at used k)) (sym at)
+        (by_session (suc i == k) used i v f k refl (omega (arith, at, lt)) (is ∙ ap (λ p. f (get_or used p 0)) at))
+
+-- at the start no session has used any
+pub none_used : (used : List ℕ) → used ≡ replicate 8 0 → ◌≡◌ {A = ℕ → ℕ} (used_at used) (λ k. 0)
+none_used used is = ap used_at is ∙ fun_ext zero_at
+  where
+    zero_past : (n : ℕ) → get_or {A = ℕ} (replicate 8 0) n 0 ≡ 0
+    zero_past zero = refl
+    zero_past (suc zero) = refl
+    zero_past (suc (suc zero)) = refl
+    zero_past (suc (suc (suc zero))) = refl
+    zero_past (suc (suc (suc (suc zero)))) = refl
+    zero_past (suc (suc (suc (suc (suc zero))))) = refl
+    zero_past (suc (suc (suc (suc (suc (suc zero)))))) = refl
+    zero_past (suc (suc (suc (suc (suc (suc (suc zero))))))) = refl
+    zero_past (suc (suc (suc (suc (suc (suc (suc (suc n)))))))) = refl
+    zero_at : (k : ℕ) → used_at (replicate 8 0) k ≡ 0
+    zero_at zero = refl
+    zero_at (suc n) = zero_past n
+
+pub start_is : (d : Listing) (used : List ℕ) → d.title ≡ [] → d.objects ≡ [] → used ≡ replicate 8 0
+    → ◌≡◌ {A = State Listing ℕ} (record { book = record { directory = d; version = 0 }; own = used_at used }) (start_from no_objects)
+start_is d used title objects none =
+    ap₂ (λ (e : Listing) (own : ℕ → ℕ). record { book = record { directory = e; version = 0 }; own = own })
+    (ap₂ (λ (t : List ℕ) (o : Entries). record { title = t; objects = o }) title objects) (none_used used none)
+
+-- the answers of one command more
+lane_one : {X : Type 0} (x : Entry X) (xs : List (Entry X)) (k : ℕ) → lane (x ∷ []) k ++ lane xs k ≡ lane (x ∷ xs) k
+lane_one x xs k = one_by (x.session == k) x.item (lane xs k)
+  where
+    one_by : {Y : Type 0} (t : Bool) (y : Y) (ys : List Y) → cond t (y ∷ []) [] ++ ys ≡ cond t (y ∷ ys) ys
+    one_by true y ys = refl
+    one_by false y ys = refl
+
+pub rest_more : (s t : State Listing ℕ) (e : Entry (Marked Command)) (rest : List (Entry (Marked Command))) (old new : List (run.Answer File)) (k : ℕ)
+    → t ≡ stepped core_rules s e → new ≡ old ++ lane (answered core_rules s e ∷ []) k
+    → new ++ lane (run_of core_rules t rest) k ≡ old ++ lane (run_of core_rules s (e ∷ rest)) k
+rest_more s t e rest old new k next more =
+    ap₂ (λ (n : List (run.Answer File)) (u : State Listing ℕ). n ++ lane (run_of core_rules u rest) k) more next
+    ∙ append_assoc old (lane (answered core_rules s e ∷ []) k) (lane (run_of core_rules (stepped core_rules s e) rest) k)
+    ∙ ap (λ (xs : List (run.Answer File)). old ++ xs) (lane_one (answered core_rules s e) (run_of core_rules (stepped core_rules s e) rest) k)
 
 -- no reply has a file
 no_file : (r : Outcome) → file_in (shown r) ≡ []

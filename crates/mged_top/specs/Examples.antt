@@ -20,7 +20,7 @@ use Rattle.mged_top.specs.Statuses.{status_line}
 
 -- the half-space of the points with x at most 5
 abbrev half : Parts
-half = record { body = Solid (solids.Half (record { normal = record { x = pos 1; y = pos 0; z = pos 0 }; d = pos 5 })); kept = [] }
+half = record { body = Solid (solids.Half (record { normal = record { x = pos 1; y = pos 0; z = pos 0 }; distance = pos 5 })); kept = [] }
 
 abbrev along_x : Ray
 along_x = record { origin = record { x = pos 0; y = pos 0; z = pos 0 }; dir = PlusX }

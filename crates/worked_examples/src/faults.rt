@@ -1,4 +1,5 @@
-use mged_top::{ScriptFlaw, Status, StatusText, mged_main};
+use mged_top::{Status, StatusText, mged_main};
+use mged_words::ScriptFlaw;
 use outside_core::{OpenGate, VecShelf, VecSink, VecSource};
 use std::alloc::{AllocError, Global};
 use std::process::Abort;

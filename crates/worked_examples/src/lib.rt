@@ -5,7 +5,11 @@
 #[cfg(test)]
 mod commands;
 #[cfg(test)]
+mod edits;
+#[cfg(test)]
 mod faults;
+#[cfg(test)]
+mod limits;
 #[cfg(test)]
 mod run;
 #[cfg(test)]

@@ -1,5 +1,6 @@
 use crate::run::run_script;
-use mged_top::{SCRIPT_SIZE, ScriptFlaw, Status};
+use mged_top::Status;
+use mged_words::{SCRIPT_SIZE, ScriptFlaw};
 use std::test::Fail;
 
 /// A script, how its run ends, and the transcript.

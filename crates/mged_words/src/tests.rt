@@ -168,11 +168,23 @@ fn shown(alloc: Global, command: &Command) -> Result<String, Fail> {
 fn lines_are_read(rt: HostRuntime) -> Result<(), Fail> {
     let rows: [(&[u8], &str); 56] = [
         (b"in  {s} sph 0 0 0 +5.0\r", "make s sphere 0 0 0 5"),
-        (b"\t{ in } {\ts}\r{sph} {1} 2 { 3 } 4 \t", "make s sphere 1 2 3 4"),
-        (b"in s sph 16384 -16384 +16384 16384", "make s sphere 16384 -16384 16384 16384"),
-        (b"in s sph -0 0. -000000000001.000 1", "make s sphere 0 0 -1 1"),
+        (
+            b"\t{ in } {\ts}\r{sph} {1} 2 { 3 } 4 \t",
+            "make s sphere 1 2 3 4",
+        ),
+        (
+            b"in s sph 16384 -16384 +16384 16384",
+            "make s sphere 16384 -16384 16384 16384",
+        ),
+        (
+            b"in s sph -0 0. -000000000001.000 1",
+            "make s sphere 0 0 -1 1",
+        ),
         (b"in h half 0 0 -1 -16384", "make h half 0 0 -1 -16384"),
-        (b"in h half 16384 -16384 0 0", "make h half 16384 -16384 0 0"),
+        (
+            b"in h half 16384 -16384 0 0",
+            "make h half 16384 -16384 0 0",
+        ),
         (
             b"in b rpp 1 2 3 4 5 6",
             "make b arb8 1 3 5 1 4 5 1 4 6 1 3 6 2 3 5 2 4 5 2 4 6 2 3 6",
@@ -235,7 +247,10 @@ fn lines_are_read(rt: HostRuntime) -> Result<(), Fail> {
         (b"cattr c air {+999999.0}", "set c air +999999.0"),
         (b"cattr c los 100", "set c los 100"),
         (b"cattr c los 0", "set c los 0"),
-        (b"cattr {c} { mater } 000000000007.", "set c mater 000000000007."),
+        (
+            b"cattr {c} { mater } 000000000007.",
+            "set c mater 000000000007.",
+        ),
         (b"cattr c rgb 0 255 0\r", "set c rgb 0 255 0"),
         (b"cattr c rgb 1 2 \t3 ", "set c rgb 1 2 \t3"),
         (b"cattr c rgb { 1 2  3\t}", "set c rgb  1 2  3\t"),
@@ -243,9 +258,18 @@ fn lines_are_read(rt: HostRuntime) -> Result<(), Fail> {
         (b"cattr c rgb {1/+2/3.0}", "set c rgb 1/+2/3.0"),
         (b"nirt 0 0 0 +x s", "shot PlusX 0 0 0 s"),
         (b"nirt 1 2 3 -x s", "shot MinusX 1 2 3 s"),
-        (b"nirt 524288 -524288 524288 +y s", "shot PlusY 524288 -524288 524288 s"),
-        (b"nirt -524288 524288 -524288 -y s", "shot MinusY -524288 524288 -524288 s"),
-        (b"nirt 000000000524288 -0 +7. +z s", "shot PlusZ 524288 0 7 s"),
+        (
+            b"nirt 524288 -524288 524288 +y s",
+            "shot PlusY 524288 -524288 524288 s",
+        ),
+        (
+            b"nirt -524288 524288 -524288 -y s",
+            "shot MinusY -524288 524288 -524288 s",
+        ),
+        (
+            b"nirt 000000000524288 -0 +7. +z s",
+            "shot PlusZ 524288 0 7 s",
+        ),
         (b"nirt {1} { 2 } 3 {-z} {s}", "shot MinusZ 1 2 3 s"),
         (b"nirt\t1\r2 3  -z nirt\r", "shot MinusZ 1 2 3 nirt"),
         (b"in s sph 0 0 0 0", "Shape(Radius)"),
@@ -260,156 +284,51 @@ fn lines_are_read(rt: HostRuntime) -> Result<(), Fail> {
 
 #[test]
 fn lines_without_the_form_of_a_command(rt: HostRuntime) -> Result<(), Fail> {
-    let rows: [&[u8]; 121] = [
-        b"",
-        b" \t\r",
-        b"frob",
-        b"IN s sph 0 0 0 5",
-        b"lsx",
-        b"l",
-        b"{}",
-        b"{ls ls}",
-        b"{{ls}}",
-        b"@1 ls",
-        b"ls #",
-        b"in",
-        b"in s",
-        b"in s sph",
-        b"in s sph 0 0 0",
-        b"in s sph 0 0 0 5 6",
-        b"in s half 1 0 0",
-        b"in s half 1 0 0 5 6",
-        b"in b rpp 0 1 0 1 0",
-        b"in b rpp 0 1 0 1 0 1 2",
-        b"in a arb8 0 0 0 10 0 0 10 10 0 0 10 0 0 0 10 10 0 10 10 10 10 0 10",
-        b"in a arb8 0 0 0 10 0 0 10 10 0 0 10 0 0 0 10 10 0 10 10 10 10 0 10 10 0",
-        b"in s cube 0 0 0 5",
-        b"in s SPH 0 0 0 5",
-        b"in s sphx 0 0 0 5",
-        b"in s ell 0 0 0 5",
-        b"in {} sph 0 0 0 5",
-        b"in {{s}} sph 0 0 0 5",
-        b"in {s t} sph 0 0 0 5",
-        b"in s {} 0 0 0 5",
-        b"in s {sph half} 0 0 0 5",
-        b"in s sph {0 0} 0 5",
-        b"in s sph {0 0} 0 0 5",
-        b"in s sph 0 0 0 {}",
-        b"in s sph {0 0 0} 5",
-        b"r",
-        b"r a",
-        b"r a u",
-        b"r s u",
-        b"r a b",
-        b"r a u b u",
-        b"r a u b u c -",
-        b"r a x b",
-        b"r a U b",
-        b"r a uu b",
-        b"r a u b x c",
-        b"r a u b ++ c",
-        b"r a b u",
-        b"r {a b} u c",
-        b"r a {u +} b",
-        b"r a {} b",
-        b"r a u {b c}",
-        b"r a u b u {}",
-        b"g",
-        b"g a",
-        b"g {a}",
-        b"g {} a",
-        b"g a {}",
-        b"g a b {c d}",
-        b"g a {{b}}",
-        b"rm",
-        b"rm a",
-        b"rm {} b",
-        b"rm a {b c}",
-        b"rm a b {}",
-        b"kill",
-        b"kill {}",
-        b"kill {a b}",
-        b"kill a {{b}}",
-        b"mvall",
-        b"mvall a",
-        b"mvall a b c",
-        b"mvall {a b}",
-        b"mvall {} b",
-        b"mvall a {}",
-        b"ls x",
-        b"ls {}",
-        b"ls {x}",
-        b"place",
-        b"place c",
-        b"place c m",
-        b"place c m 1",
-        b"place c m {}",
-        b"place c m {1}",
-        b"place c m 1 0 0 0 0 1 0 0 0 0 1 0 0 0 0",
-        b"place c m 1 0 0 0 0 1 0 0 0 0 1 0 0 0 0 1 1",
-        b"place c m {1 0 0 0 0 1 0 0 0 0 1 0 0 0 0}",
-        b"place c m {1 0 0 0 0 1 0 0 0 0 1 0 0 0 0 1 1}",
-        b"place c m {{1 0 0 0 0 1 0 0 0 0 1 0 0 0 0 1}}",
-        b"place c m {1 0 0 0 0 1 0 0} {0 0 1 0 0 0 0 1}",
-        b"place c m {1 0 0 0 0 1 0 0 0 0 1 0 0 0 0 1} 1",
-        b"place c m {1 0 0 0 0 1 0 0 0 0 1 0 0 0 {0 1}}",
-        b"place c m {1 0 0 0 0 1 0 0 0 0 1 0 0 0 0 {1 1}}",
-        b"place c m 1 0 0 0 0 1 0 0 0 0 1 0 0 0 0 {1 1}",
-        b"place {c m} x 1 0 0 0 0 1 0 0 0 0 1 0 0 0 0 1",
-        b"place c {} 1 0 0 0 0 1 0 0 0 0 1 0 0 0 0 1",
-        b"cattr",
-        b"cattr c",
-        b"cattr c id",
-        b"cattr c colour 1",
-        b"cattr c ID 1",
-        b"cattr c tree 1",
-        b"cattr c id/ 1",
-        b"cattr c {id air} 1",
-        b"cattr c {} 1",
-        b"cattr {} id 1",
-        b"cattr {c d} id 1",
-        b"cattr c a23456789.123456789.123456789.123456789.123456789.123456789.12345 1",
-        b"nirt",
-        b"nirt 0 0 0 +x",
-        b"nirt 0 0 0 s",
-        b"nirt 0 0 0 x s",
-        b"nirt 0 0 0 +w s",
-        b"nirt 0 0 0 +X s",
-        b"nirt 0 0 0 +xx s",
-        b"nirt 0 0 0 {+ x} s",
-        b"nirt {0 0} 0 +x s",
-        b"nirt {0 0} 0 0 +x s",
-        b"nirt 0 0 0 +x {}",
-        b"nirt 0 0 0 +x {s t}",
-        b"put a comb tree {u {l b}}",
+    let rows: [(&[u8], u32); 12] = [
+        (
+            b"frob\nIN s sph 0 0 0 5\nlsx\nl\n{}\n{ls ls}\n{{ls}}\nput a comb tree {u {l b}}",
+            8,
+        ),
+        (b"ls #\nls x\nls {}\nls {x}", 4),
+        (
+            b"in\nin s\nin s sph\nin s sph 0 0 0\nin s sph 0 0 0 5 6\nin s half 1 0 0\nin s half 1 0 0 5 6\nin b rpp 0 1 0 1 0\nin b rpp 0 1 0 1 0 1 2\nin a arb8 0 0 0 10 0 0 10 10 0 0 10 0 0 0 10 10 0 10 10 10 10 0 10\nin a arb8 0 0 0 10 0 0 10 10 0 0 10 0 0 0 10 10 0 10 10 10 10 0 10 10 0\nin s cube 0 0 0 5\nin s SPH 0 0 0 5\nin s sphx 0 0 0 5\nin s ell 0 0 0 5\nin {} sph 0 0 0 5\nin {{s}} sph 0 0 0 5\nin {s t} sph 0 0 0 5\nin s {} 0 0 0 5\nin s {sph half} 0 0 0 5\nin s sph {0 0} 0 5\nin s sph {0 0} 0 0 5\nin s sph 0 0 0 {}\nin s sph {0 0 0} 5",
+            24,
+        ),
+        (
+            b"r\nr a\nr a u\nr s u\nr a b\nr a u b u\nr a u b u c -\nr a x b\nr a U b\nr a uu b\nr a u b x c\nr a u b ++ c\nr a b u\nr {a b} u c\nr a {u +} b\nr a {} b\nr a u {b c}\nr a u b u {}",
+            18,
+        ),
+        (b"g\ng a\ng {a}\ng {} a\ng a {}\ng a b {c d}\ng a {{b}}", 7),
+        (b"rm\nrm a\nrm {} b\nrm a {b c}\nrm a b {}", 5),
+        (b"kill\nkill {}\nkill {a b}\nkill a {{b}}", 4),
+        (
+            b"mvall\nmvall a\nmvall a b c\nmvall {a b}\nmvall {} b\nmvall a {}",
+            6,
+        ),
+        (
+            b"place\nplace c\nplace c m\nplace c m 1\nplace c m {}\nplace c m {1}\nplace c m 1 0 0 0 0 1 0 0 0 0 1 0 0 0 0\nplace c m 1 0 0 0 0 1 0 0 0 0 1 0 0 0 0 1 1\nplace c m {1 0 0 0 0 1 0 0 0 0 1 0 0 0 0}\nplace c m {1 0 0 0 0 1 0 0 0 0 1 0 0 0 0 1 1}\nplace c m {{1 0 0 0 0 1 0 0 0 0 1 0 0 0 0 1}}\nplace c m {1 0 0 0 0 1 0 0} {0 0 1 0 0 0 0 1}\nplace c m {1 0 0 0 0 1 0 0 0 0 1 0 0 0 0 1} 1\nplace c m {1 0 0 0 0 1 0 0 0 0 1 0 0 0 {0 1}}\nplace c m {1 0 0 0 0 1 0 0 0 0 1 0 0 0 0 {1 1}}\nplace c m 1 0 0 0 0 1 0 0 0 0 1 0 0 0 0 {1 1}\nplace {c m} x 1 0 0 0 0 1 0 0 0 0 1 0 0 0 0 1\nplace c {} 1 0 0 0 0 1 0 0 0 0 1 0 0 0 0 1",
+            18,
+        ),
+        (
+            b"cattr\ncattr c\ncattr c id\ncattr c colour 1\ncattr c ID 1\ncattr c tree 1\ncattr c id/ 1\ncattr c {id air} 1\ncattr c {} 1\ncattr {} id 1\ncattr {c d} id 1\ncattr c a23456789.123456789.123456789.123456789.123456789.123456789.12345 1",
+            12,
+        ),
+        (
+            b"nirt\nnirt 0 0 0 +x\nnirt 0 0 0 s\nnirt 0 0 0 x s\nnirt 0 0 0 +w s\nnirt 0 0 0 +X s\nnirt 0 0 0 +xx s\nnirt 0 0 0 {+ x} s\nnirt {0 0} 0 +x s\nnirt {0 0} 0 0 +x s\nnirt 0 0 0 +x {}\nnirt 0 0 0 +x {s t}",
+            12,
+        ),
+        (
+            b"ls }\nls {\nkill {a\nkill a}\nkill a{b}\nkill {a}b\nkill {a}{b}\nkill a\\\nkill {\\}\nkill a\x01\nkill a \x7f\nkill {a \x00}\nkill a\x0b\nkill $a\nkill \"a\"\nkill [a]\nkill a;\nls ;\ncattr c id {5}}\ncattr c id {\\}",
+            20,
+        ),
     ];
-    for line in rows {
-        let command = read(rt.alloc(), line)?;
-        assert_eq!(&rt; shown(rt.alloc(), &command)?.as_str(), "Syntax");
+    for (script, count) in rows {
+        let found = script_shown(rt.alloc(), script)?;
+        let wanted = repeated(rt.alloc(), b"", b"1:Syntax;", count, b"")?;
+        assert!(&rt; found.as_bytes() == wanted.as_slice(), "{found}");
     }
-    let broken: [&[u8]; 20] = [
-        b"ls }",
-        b"ls {",
-        b"kill {a",
-        b"kill a}",
-        b"kill a{b}",
-        b"kill {a}b",
-        b"kill {a}{b}",
-        b"kill a\\",
-        b"kill {\\}",
-        b"kill a\x01",
-        b"kill a \x7f",
-        b"kill {a \x00}",
-        b"kill a\x0b",
-        b"kill $a",
-        b"kill \"a\"",
-        b"kill [a]",
-        b"kill a;",
-        b"ls ;",
-        b"cattr c id {5}}",
-        b"cattr c id {\\}",
-    ];
-    for line in broken {
+    let blank: [&[u8]; 3] = [b"", b" \t\r", b"@1 ls"];
+    for line in blank {
         let command = read(rt.alloc(), line)?;
         assert_eq!(&rt; shown(rt.alloc(), &command)?.as_str(), "Syntax");
     }
@@ -513,9 +432,7 @@ fn form_before_names_before_numbers(rt: HostRuntime) -> Result<(), Fail> {
     ];
     for (line, wanted) in solids {
         let command = read(rt.alloc(), line)?;
-        assert!(&rt;
-            matches!(&command, Command::Bad(Refusal::Shape(found)) if *found == wanted)
-        );
+        assert!(&rt; matches!(&command, Command::Bad(Refusal::Shape(found)) if *found == wanted));
     }
     Ok(())
 }
@@ -611,7 +528,13 @@ fn numbers_out_of_their_ranges(rt: HostRuntime) -> Result<(), Fail> {
 }
 
 /// A line of a beginning, one piece again and again, and an end.
-fn repeated(alloc: Global, front: &[u8], piece: &[u8], count: u32, end: &[u8]) -> Result<Vec<u8>, Fail> {
+fn repeated(
+    alloc: Global,
+    front: &[u8],
+    piece: &[u8],
+    count: u32,
+    end: &[u8],
+) -> Result<Vec<u8>, Fail> {
     let mut line = Vec::from_slice(alloc, front)?;
     for _ in 0..count {
         line.extend_from_slice(piece)?;
@@ -749,15 +672,10 @@ fn scripts_at_their_limits(rt: HostRuntime) -> Result<(), Fail> {
     let last = repeated(alloc, b"", b"#\n", 65535, b"@9")?;
     assert_eq!(&rt; script_shown(alloc, &last)?.as_str(), "Session(65536)");
     let many = repeated(alloc, b"", b"ls\n", 65536, b"")?;
-    let Ok(commands) = read_script(alloc, &many) else {
-        return Err("refused")?;
-    };
-    assert_eq!(&rt; commands.items().len(), 65536);
+    let wanted = repeated(alloc, b"", b"1:names;", 65536, b"")?;
+    assert!(&rt; script_shown(alloc, &many)?.as_bytes() == wanted.as_slice());
     let long = repeated(alloc, b"kill", b" a", 32766, b"\nls")?;
-    let Ok(commands) = read_script(alloc, &long) else {
-        return Err("refused")?;
-    };
-    assert_eq!(&rt; commands.items().len(), 2);
-    assert_eq!(&rt; outline(alloc, &commands.items()[0].command)?.as_str(), "kill 32766");
+    let wanted = repeated(alloc, b"1:kill", b" a", 32766, b";1:names;")?;
+    assert!(&rt; script_shown(alloc, &long)?.as_bytes() == wanted.as_slice());
     Ok(())
 }

@@ -1,7 +1,7 @@
 -- Small scripts and lines, and what the definitions make of them.
 use Rattle.std.specs.Prelude.{◌≡◌, refl, ℕ, pos, List, [], ◌∷◌, Ok, Err, codes, replicate}
 use Rattle.lattice_core.specs.declared.ray.Dir.TheVariants.{MinusX}
-use Rattle.plane_geom.specs.declared.fault.ShapeFault.TheVariants.{Flat, Radius, ZeroNormal}
+use Rattle.plane_geom.specs.declared.fault.ShapeFault.TheVariants.{Flat, NotPlanar, NotConvex, Radius, ZeroNormal}
 use Rattle.tree_forms.specs.declared.Op.TheVariants.{U, Minus}
 use Rattle.solid_set.specs.declared.solid.Solid.TheVariants as solids
 use Rattle.transcript.specs.Merge.{entry}
@@ -142,6 +142,148 @@ a_scaling = refl
 pub shifted_too_far : command_of (codes "place c m 1 0 0 0 0 1 0 16385 0 0 1 0 0 0 0 1") ≡ Bad (Number 4)
 shifted_too_far = refl
 
+-- a carriage return and a tab are blanks
+pub carriage_return_at_the_end : command_of (codes "kill a\r") ≡ Edit (Kill (codes "a" ∷ []))
+carriage_return_at_the_end = refl
+
+pub blanks_of_each_kind : command_of (codes "\tkill\ra \t b") ≡ Edit (Kill (codes "a" ∷ codes "b" ∷ []))
+blanks_of_each_kind = refl
+
+-- a group of one atom counts as that atom, and a group of a group does not
+pub blanks_in_groups : command_of (codes "{ kill } { a }") ≡ Edit (Kill (codes "a" ∷ []))
+blanks_in_groups = refl
+
+pub group_in_a_group : command_of (codes "kill {{a}}") ≡ Bad Syntax
+group_in_a_group = refl
+
+pub group_of_two : command_of (codes "kill {a b}") ≡ Bad Syntax
+group_of_two = refl
+
+pub group_of_none : command_of (codes "kill {}") ≡ Bad Syntax
+group_of_none = refl
+
+-- a word that is no atom is looked for in the whole line first
+pub group_before_a_name : command_of (codes "kill a/ {b c}") ≡ Bad Syntax
+group_before_a_name = refl
+
+-- words that can't be read
+pub bad_byte : command_of (codes "kill a;") ≡ Bad Syntax
+bad_byte = refl
+
+pub open_group : command_of (codes "kill {a") ≡ Bad Syntax
+open_group = refl
+
+pub no_word : command_of (codes "") ≡ Bad Syntax
+no_word = refl
+
+-- the three parts of a colour stand between blanks, also at its ends
+pub colour_with_blanks : command_of (codes "cattr c rgb { 1 2 3 }") ≡ Edit (Set (codes "c") (record { key = codes "rgb"; value = codes " 1 2 3 " }))
+colour_with_blanks = refl
+
+-- more than one group is a text with its braces
+pub value_of_two_groups : command_of (codes "cattr c id {5} {6}") ≡ Bad (Number 4)
+value_of_two_groups = refl
+
+pub value_in_two_groups : command_of (codes "cattr c id {{5}}") ≡ Bad (Number 4)
+value_in_two_groups = refl
+
+pub no_value : command_of (codes "cattr c id") ≡ Bad Syntax
+no_value = refl
+
+-- a group is named by its word, whichever of its numbers is at fault
+pub a_scaling_in_a_group : command_of (codes "place c m {2 0 0 0 0 1 0 0 0 0 1 0 0 0 0 1}") ≡ Bad (Number 4)
+a_scaling_in_a_group = refl
+
+pub last_row_of_a_group : command_of (codes "place c m {1 0 0 0 0 1 0 0 0 0 1 0 0 0 0 2}") ≡ Bad (Number 4)
+last_row_of_a_group = refl
+
+pub matrix_in_two_groups : command_of (codes "place c m {{1 0 0 0 0 1 0 0 0 0 1 0 0 0 0 1}}") ≡ Bad Syntax
+matrix_in_two_groups = refl
+
+pub seventeen_numbers : command_of (codes "place c m 1 0 0 0 0 1 0 0 0 0 1 0 0 0 0 1 1") ≡ Bad Syntax
+seventeen_numbers = refl
+
+-- the first number that is out of its range
+pub first_number_of_a_matrix : command_of (codes "place c m 1 0 0 1000000000 0 1 0 0 0 0 1 0 0 0 0 x") ≡ Bad (Number 7)
+first_number_of_a_matrix = refl
+
+-- each name has the number of its word
+pub name_of_a_region : command_of (codes "r a/ u b") ≡ Bad (Name 2)
+name_of_a_region = refl
+
+pub first_member_of_a_region : command_of (codes "r a u b/ + c/") ≡ Bad (Name 4)
+first_member_of_a_region = refl
+
+pub name_of_a_group : command_of (codes "g a/ b/") ≡ Bad (Name 2)
+name_of_a_group = refl
+
+pub second_member_of_a_group : command_of (codes "g a b c/") ≡ Bad (Name 4)
+second_member_of_a_group = refl
+
+pub removed_from : command_of (codes "rm a/ b") ≡ Bad (Name 2)
+removed_from = refl
+
+pub removed_member : command_of (codes "rm a b/ c") ≡ Bad (Name 3)
+removed_member = refl
+
+pub second_killed : command_of (codes "kill a b/") ≡ Bad (Name 3)
+second_killed = refl
+
+pub old_name : command_of (codes "mvall a/ b/") ≡ Bad (Name 2)
+old_name = refl
+
+pub new_name : command_of (codes "mvall a b/") ≡ Bad (Name 3)
+new_name = refl
+
+pub placed_in : command_of (codes "place c/ m/ x 0 0 0 0 1 0 0 0 0 1 0 0 0 0 1") ≡ Bad (Name 2)
+placed_in = refl
+
+pub placed_member : command_of (codes "place c m/ x 0 0 0 0 1 0 0 0 0 1 0 0 0 0 1") ≡ Bad (Name 3)
+placed_member = refl
+
+-- the name of a shot stands behind its numbers, and is looked at first
+pub shot_at : command_of (codes "nirt x 0 0 +x s/") ≡ Bad (Name 6)
+shot_at = refl
+
+-- each number has the number of its word
+pub first_of_an_origin : command_of (codes "nirt 1000000000 0 x +x s") ≡ Bad (Number 2)
+first_of_an_origin = refl
+
+pub second_of_an_origin : command_of (codes "nirt 524289 - 0 +x s") ≡ Bad (Number 3)
+second_of_an_origin = refl
+
+pub third_of_an_origin : command_of (codes "nirt 524289 0 0.5 +x s") ≡ Bad (Number 4)
+third_of_an_origin = refl
+
+-- zeros after a point, or none, change nothing
+pub numbers_with_points : command_of (codes "nirt 524289 5. +0.00 +x s") ≡ Bad (View World)
+numbers_with_points = refl
+
+pub radius_too_large : command_of (codes "in s sph 0 0 0 16385") ≡ Bad (Number 7)
+radius_too_large = refl
+
+pub last_of_a_box : command_of (codes "in b rpp 0 1 0 1 0 1e3") ≡ Bad (Number 9)
+last_of_a_box = refl
+
+pub last_of_a_solid : command_of (codes "in a arb8 0 0 0 10 0 0 10 10 0 0 10 0 0 0 10 10 0 10 10 10 10 0 10 -16385") ≡ Bad (Number 27)
+last_of_a_solid = refl
+
+pub value_too_large : command_of (codes "cattr c los 101") ≡ Bad (Number 4)
+value_too_large = refl
+
+-- the faults of a solid of eight vertices, by the face
+pub flat_solid : command_of (codes "in a arb8 0 0 0 10 0 0 10 10 0 0 10 0 0 0 0 10 0 0 10 10 0 0 10 0") ≡ Bad (Shape Flat)
+flat_solid = refl
+
+pub flat_box : command_of (codes "in b rpp 5 5 0 10 0 10") ≡ Bad (Shape Flat)
+flat_box = refl
+
+pub bent_face : command_of (codes "in a arb8 0 0 0 10 0 0 10 10 1 0 10 0 0 0 10 10 0 10 10 10 10 0 10 10") ≡ Bad (Shape (NotPlanar 1))
+bent_face = refl
+
+pub hollow_face : command_of (codes "in a arb8 0 0 0 10 0 0 3 3 0 0 10 0 0 0 10 10 0 10 3 3 10 0 10 10") ≡ Bad (Shape (NotConvex 4))
+hollow_face = refl
+
 pub no_commands : script_of [] ≡ Ok []
 no_commands = refl
 
@@ -152,3 +294,18 @@ two_commands = refl
 -- the first line that names a session is the fault, whatever the lines before it are
 pub a_session : script_of (codes "frob\n#\n@2 frob\n@1 frob\n") ≡ Err (Session 3)
 a_session = refl
+
+-- each line feed ends a line, and what follows the last one is a line where it is not empty
+pub last_line : script_of (codes "ls\nls") ≡ Ok (entry 1 (Query Names) ∷ entry 1 (Query Names) ∷ [])
+last_line = refl
+
+pub nothing_after_the_last_line : script_of (codes "ls\nls\n") ≡ Ok (entry 1 (Query Names) ∷ entry 1 (Query Names) ∷ [])
+nothing_after_the_last_line = refl
+
+-- a comment begins with its pound sign, also behind blanks, and only there
+pub comment_behind_blanks : script_of (codes " \t#ls\nls #\n\r\n") ≡ Ok (entry 1 (Bad Syntax) ∷ [])
+comment_behind_blanks = refl
+
+-- a blank before an at sign makes it a part of a command
+pub at_sign_behind_a_blank : script_of (codes " @2 ls") ≡ Ok (entry 1 (Bad Syntax) ∷ [])
+at_sign_behind_a_blank = refl

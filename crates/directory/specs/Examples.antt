@@ -10,9 +10,9 @@ use Rattle.solid_set.specs.declared.solid.Solid.{Solid as AnySolid}
 use Rattle.comb_tree.specs.Nodes.{Member}
 use Rattle.object_set.specs.Objects.{Parts}
 use Rattle.object_set.specs.declared.object.Body.TheVariants.{Solid, Comb}
-use Rattle.directory.specs.declared.fault.DirFault.TheVariants.{Exists, Missing, Cycle}
+use Rattle.directory.specs.declared.fault.DirFault.TheVariants.{Exists, Missing, Cycle, Deep}
 use Rattle.directory.specs.Walks.{Entries, IsWalk, combinations, HasCycleThrough, depth_within, unbounded, deepest}
-use Rattle.directory.specs.Edits.{appended, put_fault, removed, renamed_all, rename_fault, without_all, references_of}
+use Rattle.directory.specs.Edits.{judged_by, appended, put_fault, removed, renamed_all, rename_fault, without_all, references_of}
 
 abbrev named : ℕ → Name
 named n = n ∷ []
@@ -69,8 +69,28 @@ a_renaming attr p s = refl
 pub refused_too : (attr : Attr) (p : Placement) (s : AnySolid) → rename_fault (three attr p s) (named 2) (named 9) ≡ Some (Cycle (named 9))
 refused_too attr p s = refl
 
-pub the_new_name_first : (attr : Attr) (p : Placement) (s : AnySolid) → rename_fault (three attr p s) (named 8) (named 8) ≡ Some Missing
+pub no_such_name : (attr : Attr) (p : Placement) (s : AnySolid) → rename_fault (three attr p s) (named 8) (named 7) ≡ Some Missing
+no_such_name attr p s = refl
+
+-- the new name is looked for first, also where both names are one
+pub the_new_name_first : (attr : Attr) (p : Placement) (s : AnySolid) → rename_fault (three attr p s) (named 8) (named 3) ≡ Some Exists
 the_new_name_first attr p s = refl
+
+pub both_names_one : (attr : Attr) (p : Placement) (s : AnySolid) → rename_fault (three attr p s) (named 3) (named 3) ≡ Some Exists
+both_names_one attr p s = refl
+
+-- sixteen combinations may lie one in the other, and more than 33 lie in a cycle
+pub sixteen_deep : judged_by 16 (named 1) ≡ None
+sixteen_deep = refl
+
+pub seventeen_deep : judged_by 17 (named 1) ≡ Some (Deep 17)
+seventeen_deep = refl
+
+pub thirty_three_deep : judged_by 33 (named 1) ≡ Some (Deep 33)
+thirty_three_deep = refl
+
+pub in_a_cycle : judged_by 34 (named 1) ≡ Some (Cycle (named 1))
+in_a_cycle = refl
 
 pub two_are_left : (attr : Attr) (p : Placement) (s : AnySolid) → removed (three attr p s) (named 2) ≡ (named 1, of_one attr p 2) ∷ (named 3, lone s) ∷ []
 two_are_left attr p s = refl

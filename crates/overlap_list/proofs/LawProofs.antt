@@ -9,7 +9,7 @@ use Rattle.bool_weave.proofs.Sorted.{Has, has_from_contains, contains_from_has, 
 use Rattle.bool_weave.proofs.Middles.{has_filtered}
 use Rattle.overlap_list.specs.declared.region.RegionClaims.{RegionClaims}
 use Rattle.overlap_list.specs.Winners.{claims_at, or_else, first_without_air, first_with_air, winner_of}
-use Rattle.overlap_list.specs.Runs.{Run, runs_from, runs_below, has_before, is_maximal}
+use Rattle.overlap_list.specs.Runs.{IntervalRun, runs_from, runs_below, has_before, is_maximal}
 use Rattle.overlap_list.specs.Partitions.{is_one_winner, is_won_as, won_runs}
 use Rattle.overlap_list.specs.Steps.{IsEnd}
 use Rattle.overlap_list.specs.Laws.{IsWinner, WinnersAreRight, RunsAreMaximal}
@@ -96,9 +96,9 @@ is_two (Some a) None ne = refl
 is_two (Some a) (Some b) ne = false_from_ne_true (eqb a b) (λ h. ne (ap (λ x. Some x) (sym (eqb-true a b h))))
 
 -- which runs there are
-has_map : (from a n : ℕ) (run : Run) → Has (map (run_of from) (range_with_len a n)) run → (run.from ≡ from) × (a ≤ run.to) × (run.to < a + n)
+has_map : (from a n : ℕ) (run : IntervalRun) → Has (map (run_of from) (range_with_len a n)) run → (run.from ≡ from) × (a ≤ run.to) × (run.to < a + n)
 has_map from a zero run h = absurd h
-has_map from a (suc n) run (inl e) = (sym (ap (λ (r : Run). r.from) e), omega (arith, ap (λ (r : Run). r.to) e), omega (arith, ap (λ (r : Run). r.to) e))
+has_map from a (suc n) run (inl e) = (sym (ap (λ (r : IntervalRun). r.from) e), omega (arith, ap (λ (r : IntervalRun). r.to) e), omega (arith, ap (λ (r : IntervalRun). r.to) e))
 has_map from a (suc n) run (inr h) = let r = has_map from (a + 1) n run h in (r.0, omega (arith, r.1), omega (arith, r.2))
 
 map_has : (from a n to : ℕ) → a ≤ to → to < a + n → Has (map (run_of from) (range_with_len a n)) (run_of from to)
@@ -109,7 +109,7 @@ map_has from a (suc n) to low high =
       | inr apart ↦ inr (map_has from (a + 1) n to (elim (cases_lt a to) [ inl lt ↦ omega (arith, lt) | inr le ↦ absurd (apart (omega (arith, le, low))) ]) (omega (arith, high)))
     ]
 
-has_flat : (count a n : ℕ) (run : Run) → Has (flat_map (runs_from count) (range_with_len a n)) run → (run.from < run.to) × (run.to ≤ count)
+has_flat : (count a n : ℕ) (run : IntervalRun) → Has (flat_map (runs_from count) (range_with_len a n)) run → (run.from < run.to) × (run.to ≤ count)
 has_flat count a zero run h = absurd h
 has_flat count a (suc n) run h =
     elim (has_append_cases (runs_from count a) (flat_map (runs_from count) (range_with_len (a + 1) n)) run h) [
@@ -127,7 +127,7 @@ flat_has count a (suc n) from to low high lt le =
           (flat_has count (a + 1) n from to (elim (cases_lt a from) [ inl m ↦ omega (arith, m) | inr m ↦ absurd (apart (omega (arith, m, low))) ]) (omega (arith, high)) lt le)
     ]
 
-filter_has : {X : Type 0} (p : X → Bool) (xs : List X) (x : X) → p x ≡ true → Has xs x → Has (filter p xs) x
+pub filter_has : {X : Type 0} (p : X → Bool) (xs : List X) (x : X) → p x ≡ true → Has xs x → Has (filter p xs) x
 filter_has p [] x passed h = h
 filter_has p (y ∷ ys) x passed (inl e) = subst (λ l. Has l x) (sym (cond-true (p y) (y ∷ filter p ys) (filter p ys) (ap p e ∙ passed))) (inl e)
 filter_has p (y ∷ ys) x passed (inr h) =
@@ -148,9 +148,9 @@ pub runs_are_maximal : RunsAreMaximal
 runs_are_maximal regions count run = (
   λ c.
       let m = has_from_contains (won_runs regions count) run c in
-      let there = has_flat count 0 count run (has_filtered (λ (r : Run). is_maximal (is_won_as regions r.from) r) (runs_below count) run m) in
+      let there = has_flat count 0 count run (has_filtered (λ (r : IntervalRun). is_maximal (is_won_as regions r.from) r) (runs_below count) run m) in
       let passed : is_maximal (is_won_as regions run.from) run ≡ true =
-      subst (λ (r : Run). is_maximal (is_won_as regions r.from) r ≡ true) c.2 (filter_passes (λ (r : Run). is_maximal (is_won_as regions r.from) r) (runs_below count) c.0 run c.1) in
+      subst (λ (r : IntervalRun). is_maximal (is_won_as regions r.from) r ≡ true) c.2 (filter_passes (λ (r : IntervalRun). is_maximal (is_won_as regions r.from) r) (runs_below count) c.0 run c.1) in
       let parts = and_parts _ _ passed in
       let sides = and_parts _ _ parts.1 in
       let at : (k : ℕ) → run.from ≤ k → k < run.to → is_won_as regions run.from k ≡ true = λ k low high. range_at (is_won_as regions run.from) run.from (run.to - run.from) k parts.0 low (omega (arith, low, high)) in
@@ -172,7 +172,7 @@ runs_are_maximal regions count run = (
         ended = is_two (winner_of regions run.from) (winner_of regions run.to) w.ended;
       } in
       contains_from_has (won_runs regions count) run
-      (filter_has (λ (r : Run). is_maximal (is_won_as regions r.from) r) (runs_below count) run
+      (filter_has (λ (r : IntervalRun). is_maximal (is_won_as regions r.from) r) (runs_below count) run
       (maximal (is_won_as regions run.from) run.from run.to e (before_from (is_won_as regions run.from) run.from (λ k s. is_two (winner_of regions run.from) (winner_of regions k) (w.begun k s))))
       (flat_has count 0 count run.from run.to (omega arith) (omega (arith, w.some, h.1)) w.some h.1)),
 )

@@ -78,7 +78,7 @@ fn add(
     };
     let sound = is_segment(&seg);
     let next = is_next(weave, instance);
-    let few = weave.woven().len() < 100;
+    let few = weave.woven().len() < 10_000;
     assert!(rt; sound);
     assert!(rt; next);
     assert!(rt; few);
@@ -239,8 +239,8 @@ fn partitions_of_small_rays(rt: HostRuntime) -> Result<(), Fail> {
         // The instance of a losing region has the lowest number.
         (
             &[(0, 5, 15), (1, 5, 20)],
-            &[second, PLAIN],
-            &[(0, 5, 20, 0, 1)],
+            &[kind(true, 0, None), second],
+            &[(1, 5, 20, 0, 1)],
         ),
         (
             &[(0, 5, 15), (1, 20, 30)],
@@ -283,7 +283,7 @@ fn check_overlaps(
 #[test]
 fn overlaps_of_small_rays(rt: HostRuntime) -> Result<(), Fail> {
     let second = kind(false, 1, None);
-    let union = kind(false, 0, Some(MaskNode::U));
+    let union = Some(MaskNode::U);
     let cases: [(&[(u32, u32, u32)], &[Row], &[(u32, u32, u32, u32)]); 6] = [
         (&[(0, 5, 15)], &[], &[]),
         (&[(0, 5, 15)], &[PLAIN], &[]),
@@ -299,13 +299,18 @@ fn overlaps_of_small_rays(rt: HostRuntime) -> Result<(), Fail> {
         ),
         // Twice: the first run is told.
         (
-            &[(0, 5, 15), (1, 20, 30)],
-            &[union, union],
+            &[(0, 5, 15), (1, 20, 30), (2, 5, 15), (3, 20, 30)],
+            &[kind(false, 0, union), kind(false, 2, union)],
             &[(0, 1, 5, 15)],
         ),
         (
-            &[(0, 5, 15), (1, 10, 20)],
-            &[PLAIN, second, PLAIN, union],
+            &[(0, 5, 15), (1, 10, 20), (2, 5, 15), (3, 5, 15), (4, 10, 20)],
+            &[
+                PLAIN,
+                second,
+                kind(false, 2, None),
+                kind(false, 3, union),
+            ],
             &[
                 (0, 1, 10, 15),
                 (0, 2, 5, 15),
@@ -319,5 +324,58 @@ fn overlaps_of_small_rays(rt: HostRuntime) -> Result<(), Fail> {
     for (woven, rows, wanted) in cases {
         check_overlaps(&rt, rt.alloc(), woven, rows, wanted)?;
     }
+    Ok(())
+}
+
+/// Weaves in that many boxes, each of a region of its own.
+fn add_boxes(
+    rt: &impl Abort,
+    weave: &mut Weave,
+    rows: &mut Vec<Row>,
+    count: u32,
+    start: u32,
+    end: u32,
+) -> Result<(), Memory> {
+    for _ in 0..count {
+        let few = rows.len() < 10_000;
+        assert!(rt; few);
+        let instance = rows.len() as u32;
+        add(rt, weave, instance, whole(start), whole(end))?;
+        rows.push(kind(false, instance, None))?;
+    }
+    Ok(())
+}
+
+/// How many pairs overlap of so many boxes in front, so many behind them, and so many as long as both together; none where
+/// there are too many.
+fn count_overlaps(
+    rt: &impl Abort,
+    alloc: Global,
+    front: u32,
+    behind: u32,
+    long: u32,
+) -> Result<Option<usize>, Memory> {
+    let mut weave = Weave::new(alloc)?;
+    let mut rows = Vec::new(alloc);
+    add_boxes(rt, &mut weave, &mut rows, front, 5, 15)?;
+    add_boxes(rt, &mut weave, &mut rows, behind, 15, 25)?;
+    add_boxes(rt, &mut weave, &mut rows, long, 5, 25)?;
+    let regions = regions_of(alloc, &weave, &rows)?;
+    let few = regions.len() < 10_000;
+    assert!(rt; few);
+    match overlaps(alloc, &weave, &regions) {
+        Ok(runs) => Ok(Some(runs.len())),
+        Err(CheckFault::TooMany) => Ok(None),
+        Err(CheckFault::Memory) => Err(Memory),
+    }
+}
+
+#[test]
+fn at_most_so_many_pairs(rt: HostRuntime) -> Result<(), Fail> {
+    // Of 2,049 boxes there are 2,098,176 pairs. Those in front overlap none of those behind them: 1,024 pairs fewer, or 1,023.
+    let most = count_overlaps(&rt, rt.alloc(), 32, 32, 1_985)?;
+    assert_eq!(rt; most, Some(2_097_152));
+    let more = count_overlaps(&rt, rt.alloc(), 31, 33, 1_985)?;
+    assert_eq!(rt; more, None);
     Ok(())
 }

@@ -1,17 +1,16 @@
 -- A hit always exists: where the winner changes some claim does, then some leaf of its tree, and there a segment starts or ends.
-use Rattle.std.proofs.Common.{◌≡◌, ◌≢◌, ◌<◌, ◌≤◌, ◌+◌, ◌⊎◌, ℕ, zero, suc, List, [], ◌∷◌, ◌++◌, length, get_or, map, filter, Bool, true, false, not, ◌&&◌, ◌||◌, cond, eqb, nat_le, nat_lt, Option, Some, None, IsSome, IfSome, MatchOption, All, Any, Contains, ap, sym, ◌∙◌, subst, refl, inl, inr, arith}
+use Rattle.std.proofs.Common.{◌≡◌, ◌≢◌, ◌<◌, ◌≤◌, ◌+◌, ◌⊎◌, ℕ, zero, suc, List, [], ◌∷◌, ◌++◌, length, get_or, filter, Bool, true, false, not, ◌&&◌, cond, eqb, nat_le, nat_lt, Option, Some, None, IsSome, IfSome, MatchOption, All, Any, Contains, ap, sym, ◌∙◌, subst, refl, inl, inr, arith}
 use Rattle.std.specs.List.{list_any, position, position_from}
 use Rattle.std.specs.Ordering.{is_lt, is_eq}
 use Rattle.std.specs.List.Sorted.{IsStrictlySortedBy}
-use Rattle.std.specs.declared.cmp.Ordering.TheVariants.{Less, Equal, Greater}
-use Rattle.std.proofs.lemmas.Bool.{cases_lt, cases_eq, cases_order, cases_Bool, and_parts, and_from, and_left, and_right, or_cases, or_left, or_right, not_from_true, not_from_false, not-true, true≢false, leb-true, leb-false, ltb-true, lt-ltb, le-ltb, le-leb, eqb-true, eq-eqb, cond-true, cond-false, false_from_ne_true, true_from_ne_false}
+use Rattle.std.specs.declared.cmp.Ordering.TheVariants.{Less}
+use Rattle.std.proofs.lemmas.Bool.{cases_lt, cases_order, cases_Bool, and_parts, and_from, and_right, or_cases, or_left, or_right, not_from_false, not-true, true≢false, leb-true, leb-false, ltb-true, lt-ltb, le-ltb, le-leb, eqb-true, eq-eqb, cond-true, cond-false, false_from_ne_true, true_from_ne_false}
 use Rattle.std.proofs.lemmas.Cmp.{tied_itself}
 use Rattle.std.proofs.lemmas.List.{get_or-map, get_or_default, get_or_append_left, get_or-append-add, length-append}
 use Rattle.std.proofs.lemmas.List.Elements.{All-map, filter_passes}
 use Rattle.std.proofs.lemmas.List.Folds.{Any-from_list_any, list_any-from_Any, list_any_at}
 use Rattle.std.proofs.lemmas.Map.Keys.{Less-from_sorted}
 use Rattle.std.proofs.lemmas.Iterator.Adapters.{position_from-zero}
-use Rattle.tree_forms.specs.declared.Op.{Op}
 use Rattle.tree_forms.specs.Trees.{Leaf, Join, joined, leaves}
 use Rattle.surd_order.specs.declared.position.Pos.{Pos}
 use Rattle.surd_order.specs.Order.{IsPlace, SamePlace}
@@ -19,23 +18,22 @@ use Rattle.surd_order.specs.PlaceOrder.{place_cmp}
 use Rattle.surd_order.proofs.OrderLaws.{same_refl, same_symm, same_trans}
 use Rattle.surd_order.proofs.PlaceOrderLaws.{place_cmp_total, places_are_compared}
 use Rattle.bool_weave.specs.declared.woven.Woven.{Woven}
-use Rattle.bool_weave.specs.Cuts.{ray_start, IsSegment, IsWoven, cuts_of}
+use Rattle.bool_weave.specs.Cuts.{ray_start, IsWoven, cuts_of}
 use Rattle.bool_weave.specs.Masks.{Mask, mask_holds}
 use Rattle.bool_weave.specs.Claims.{intervals_of, is_before, covers, spans, claims_interval, claims_of}
 use Rattle.bool_weave.specs.Tables.{IsCutAt, interval_at}
 use Rattle.bool_weave.proofs.Sorted.{Has, has_at, has_from_contains, contains_from_has}
 use Rattle.bool_weave.proofs.Middles.{has_filtered}
-use Rattle.bool_weave.proofs.Cutting.{turned, equal_from, place_from, segment_of, cuts_good, cuts_sorted}
+use Rattle.bool_weave.proofs.Cutting.{turned, equal_from, place_from, segment_of, cuts_good}
 use Rattle.bool_weave.proofs.Searching.{later_than}
 use Rattle.bool_weave.proofs.Kept.{is_cut_at}
 use Rattle.bool_weave.proofs.Claimed.{nothing_from_nothing, intervals_length, intervals_at}
 use Rattle.overlap_list.specs.declared.region.RegionClaims.{RegionClaims}
-use Rattle.overlap_list.specs.declared.hit.Hit.{Hit}
 use Rattle.overlap_list.specs.Winners.{claims_at, or_else, winner_of}
 use Rattle.overlap_list.specs.Runs.{IntervalRun, has_before}
 use Rattle.overlap_list.specs.Hits.{is_at, has_end_at, differ, changes_at, is_of, is_candidate, lower, lowest, hit_on, cut_at, hit_of}
 use Rattle.overlap_list.specs.Partitions.{won_runs, or_no_hit, partition_of}
-use Rattle.overlap_list.specs.Laws.{IsWonRun, HasTree, IsOfChange, IsCandidate, IsHit, HasHit, HitsAreThere}
+use Rattle.overlap_list.specs.Laws.{IsWonRun, HasTree, IsCandidate, IsHit, HasHit, HitsAreThere}
 use Rattle.overlap_list.proofs.LawProofs.{filter_has}
 use Rattle.overlap_list.proofs.Ordered.{all_from_has}
 use Rattle.overlap_list.proofs.Parts.{won_run}
@@ -154,8 +152,8 @@ module _ (woven : List Woven) where
   instance_changes region k h lt change =
       elim (leaf_changes h.tree (λ i. has_before (spans_at (region.first + i)) k) (λ i. spans_at (region.first + i) k) region.count h.below) [
         | inl same ↦ absurd (change (
-          ap (λ l. has_before (λ j. get_or l j false) k) h.claims ∙ claimed_before h.tree region.first k lt ∙ same
-          ∙ sym (claimed h.tree region.first k lt) ∙ sym (ap (λ l. get_or l k false) h.claims)))
+            ap (λ l. has_before (λ j. get_or l j false) k) h.claims ∙ claimed_before h.tree region.first k lt ∙ same
+            ∙ sym (claimed h.tree region.first k lt) ∙ sym (ap (λ l. get_or l k false) h.claims)))
         | inr some ↦ some
       ]
 
@@ -255,17 +253,25 @@ module _ (woven : List Woven) (s : IsWoven woven) where
         | inl is ↦
             let w = spanned instance (suc j) is in
             let c = is_cut_at woven w.0 s w.1 in
-            let was : spans_at woven instance j ≡ false = false_from_ne_true _ (λ e. ne (e ∙ sym is)) in
-            (w.0, w.1, w.2, inl (at_cut w.0.seg.start (suc j) c.start
-            (begins_there j c.start.0 c.end.0 (sym (covers_number woven w.0 (suc j) c lt) ∙ w.3)
-            (sym (covers_number woven w.0 j c (omega (arith, lt))) ∙ not_spanned instance j w.0 w.1 w.2 was))))
+            let was : spans_at woven instance j ≡ false = false_from_ne_true _ (λ e. ne (e ∙ sym is)) in (
+              w.0,
+              w.1,
+              w.2,
+              inl (at_cut w.0.seg.start (suc j) c.start
+                  (begins_there j c.start.0 c.end.0 (sym (covers_number woven w.0 (suc j) c lt) ∙ w.3)
+                  (sym (covers_number woven w.0 j c (omega (arith, lt))) ∙ not_spanned instance j w.0 w.1 w.2 was))),
+            )
         | inr is ↦
             let was : spans_at woven instance j ≡ true = true_from_ne_false _ (λ e. ne (e ∙ sym is)) in
             let w = spanned instance j was in
-            let c = is_cut_at woven w.0 s w.1 in
-            (w.0, w.1, w.2, inr (at_cut w.0.seg.end (suc j) c.end
-            (ends_there j c.start.0 c.end.0 (sym (covers_number woven w.0 j c (omega (arith, lt))) ∙ w.3)
-            (sym (covers_number woven w.0 (suc j) c lt) ∙ not_spanned instance (suc j) w.0 w.1 w.2 is))))
+            let c = is_cut_at woven w.0 s w.1 in (
+              w.0,
+              w.1,
+              w.2,
+              inr (at_cut w.0.seg.end (suc j) c.end
+                  (ends_there j c.start.0 c.end.0 (sym (covers_number woven w.0 j c (omega (arith, lt))) ∙ w.3)
+                  (sym (covers_number woven w.0 (suc j) c lt) ∙ not_spanned instance (suc j) w.0 w.1 w.2 is))),
+            )
       ]
 
   cut_place : (k : ℕ) → k < length (cuts_of woven) → IsPlace (cut_at woven k)
@@ -300,11 +306,17 @@ module _ (woven : List Woven) (s : IsWoven woven) where
             | inl e ↦ inl (at_same w.seg.start k (start_place w h) inside e)
             | inr e ↦ inr (at_same w.seg.end k (end_place w h) inside e)
           ];
-          changes = (a.0, a.1, a.2, a.3, record {
-            first = leb-true a.1.first w.instance of.0;
-            last = ltb-true w.instance (a.1.first + a.1.count) of.1;
-            change = differ_to (has_before (claims_at a.1) k) (claims_at a.1 k) both.1;
-          });
+          changes = (
+            a.0,
+            a.1,
+            a.2,
+            a.3,
+            record {
+              first = leb-true a.1.first w.instance of.0;
+              last = ltb-true w.instance (a.1.first + a.1.count) of.1;
+              change = differ_to (has_before (claims_at a.1) k) (claims_at a.1 k) both.1;
+            },
+          );
         }
 
     candidate_from : (w : Woven) → IsCandidate woven regions k w → passes w ≡ true
@@ -316,8 +328,13 @@ module _ (woven : List Woven) (s : IsWoven woven) where
           | inl e ↦ or_left _ _ (same_at w.seg.start k (start_place w h) inside e)
           | inr e ↦ or_right _ _ (same_at w.seg.end k (end_place w h) inside e)
         ])
-        (list_any-from_Any (λ r. is_of r w && changes_at k r) regions (a.0, a.1, a.2, a.3,
-        and_from _ _ (and_from _ _ (le-leb a.1.first w.instance a.4.first) (lt-ltb w.instance (a.1.first + a.1.count) a.4.last)) (differ_from (has_before (claims_at a.1) k) (claims_at a.1 k) a.4.change)))
+        (list_any-from_Any (λ r. is_of r w && changes_at k r) regions (
+          a.0,
+          a.1,
+          a.2,
+          a.3,
+          and_from _ _ (and_from _ _ (le-leb a.1.first w.instance a.4.first) (lt-ltb w.instance (a.1.first + a.1.count) a.4.last)) (differ_from (has_before (claims_at a.1) k) (claims_at a.1 k) a.4.change),
+        ))
 
     -- of candidates, where there is one, the lowest gives the hit
     first_hit : (w : Woven) (o : Option Woven) → IsLowestOf (filter passes woven) o → Has (filter passes woven) w → IsHit woven regions k (or_no_hit (hit_on (cut_at woven k) o))

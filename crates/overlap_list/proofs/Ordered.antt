@@ -1,7 +1,7 @@
 -- Lists of runs and of pairs rise, and what is made of them does.
-use Rattle.std.proofs.Common.{◌≡◌, ◌≢◌, ◌<◌, ◌≤◌, ◌+◌, ◌-◌, ◌⊎◌, ℕ, zero, suc, List, [], ◌∷◌, ◌++◌, length, get_or, map, filter, flat_map, Bool, Option, Some, None, All, AllPairs, ap, sym, ◌∙◌, subst, refl, inl, inr, arith}
+use Rattle.std.proofs.Common.{◌≡◌, ◌<◌, ◌≤◌, ◌+◌, ◌-◌, ◌⊎◌, ℕ, zero, suc, List, [], ◌∷◌, ◌++◌, get_or, map, filter, flat_map, Bool, Option, Some, None, All, AllPairs, ap, sym, ◌∙◌, subst, refl, inl, inr, arith}
 use Rattle.std.specs.List.{range_with_len, filter_map, cons_option}
-use Rattle.std.proofs.lemmas.Bool.{cases_lt, cases_Bool, cond-true, cond-false}
+use Rattle.std.proofs.lemmas.Bool.{cases_Bool, cond-true, cond-false}
 use Rattle.std.proofs.lemmas.List.Kept.{AllPairs-cons}
 use Rattle.bool_weave.proofs.Sorted.{Has, has_at, has_append_cases}
 use Rattle.bool_weave.proofs.Middles.{has_filtered}

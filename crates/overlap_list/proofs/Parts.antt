@@ -1,15 +1,13 @@
 -- The laws of partitions and of overlaps: their order, and who wins them.
-use Rattle.std.proofs.Common.{◌≡◌, ◌≢◌, ◌<◌, ◌≤◌, ◌+◌, ◌-◌, ◌⊎◌, ℕ, List, false, length, get_or, map, filter, find, Option, Some, None, IsSome, MatchOption, All, ap, sym, ◌∙◌, subst, refl, inl, inr, arith}
+use Rattle.std.proofs.Common.{◌≡◌, ◌≢◌, ◌<◌, ◌≤◌, ◌+◌, ◌-◌, ℕ, List, false, length, get_or, map, find, Option, Some, None, IsSome, MatchOption, ap, sym, ◌∙◌, subst, refl, inl, inr, arith}
 use Rattle.std.proofs.lemmas.Bool.{cases_lt, true≢false}
 use Rattle.std.proofs.lemmas.List.Elements.{All-map}
-use Rattle.surd_order.specs.declared.position.Pos.{Pos}
 use Rattle.surd_order.specs.Order.{Precedes, SamePlace}
 use Rattle.surd_order.proofs.OrderLaws.{same_refl}
 use Rattle.bool_weave.specs.declared.woven.Woven.{Woven}
 use Rattle.bool_weave.specs.Cuts.{ray_start, IsWoven, cuts_of}
 use Rattle.bool_weave.specs.Claims.{intervals_of}
 use Rattle.bool_weave.proofs.Sorted.{Has, contains_from_has}
-use Rattle.bool_weave.proofs.Middles.{has_filtered}
 use Rattle.bool_weave.proofs.Cutting.{are_cuts}
 use Rattle.bool_weave.proofs.Claimed.{intervals_length}
 use Rattle.overlap_list.specs.declared.region.RegionClaims.{RegionClaims}
@@ -20,7 +18,7 @@ use Rattle.overlap_list.specs.Runs.{IntervalRun, runs_below, is_maximal}
 use Rattle.overlap_list.specs.Hits.{cut_at}
 use Rattle.overlap_list.specs.Partitions.{is_won_as, won_runs, or_zero, partition_of}
 use Rattle.overlap_list.specs.Overlaps.{RegionPair, pairs_up_to, do_overlap_at, overlap_on, first_overlap, overlaps_of}
-use Rattle.overlap_list.specs.Laws.{IsWinner, IsWonRun, LiesBefore, AreInOrder, PartitionsAreInOrder, IsWonPart, PartitionsAreWon, HasLowerPlaces, AreByPlace, OverlapsAreInOrder}
+use Rattle.overlap_list.specs.Laws.{IsWinner, IsWonRun, LiesBefore, AreInOrder, PartitionsAreInOrder, IsWonPart, PartitionsAreWon, HasLowerPlaces, OverlapsAreInOrder}
 use Rattle.overlap_list.proofs.Running.{run_of}
 use Rattle.overlap_list.proofs.Overlapping.{pair_of}
 use Rattle.overlap_list.proofs.LawProofs.{winners_are_right, runs_are_maximal}

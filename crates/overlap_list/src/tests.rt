@@ -78,7 +78,7 @@ fn add(
     };
     let sound = is_segment(&seg);
     let next = is_next(weave, instance);
-    let few = weave.woven().len() < 10_000;
+    let few = weave.woven().len() < 100;
     assert!(rt; sound);
     assert!(rt; next);
     assert!(rt; few);
@@ -305,12 +305,7 @@ fn overlaps_of_small_rays(rt: HostRuntime) -> Result<(), Fail> {
         ),
         (
             &[(0, 5, 15), (1, 10, 20), (2, 5, 15), (3, 5, 15), (4, 10, 20)],
-            &[
-                PLAIN,
-                second,
-                kind(false, 2, None),
-                kind(false, 3, union),
-            ],
+            &[PLAIN, second, kind(false, 2, None), kind(false, 3, union)],
             &[
                 (0, 1, 10, 15),
                 (0, 2, 5, 15),
@@ -327,26 +322,15 @@ fn overlaps_of_small_rays(rt: HostRuntime) -> Result<(), Fail> {
     Ok(())
 }
 
-/// Weaves in that many boxes, each of a region of its own.
-fn add_boxes(
-    rt: &impl Abort,
-    weave: &mut Weave,
-    rows: &mut Vec<Row>,
-    count: u32,
-    start: u32,
-    end: u32,
-) -> Result<(), Memory> {
+/// That many regions of one box.
+fn add_rows(rows: &mut Vec<Row>, count: u32, row: Row) -> Result<(), Memory> {
     for _ in 0..count {
-        let few = rows.len() < 10_000;
-        assert!(rt; few);
-        let instance = rows.len() as u32;
-        add(rt, weave, instance, whole(start), whole(end))?;
-        rows.push(kind(false, instance, None))?;
+        rows.push(row)?;
     }
     Ok(())
 }
 
-/// How many pairs overlap of so many boxes in front, so many behind them, and so many as long as both together; none where
+/// How many pairs overlap of so many regions in front, so many behind them, and so many as long as both together; none where
 /// there are too many.
 fn count_overlaps(
     rt: &impl Abort,
@@ -355,11 +339,11 @@ fn count_overlaps(
     behind: u32,
     long: u32,
 ) -> Result<Option<usize>, Memory> {
-    let mut weave = Weave::new(alloc)?;
+    let weave = woven_of(rt, alloc, &[(0, 5, 15), (1, 15, 25), (2, 5, 25)])?;
     let mut rows = Vec::new(alloc);
-    add_boxes(rt, &mut weave, &mut rows, front, 5, 15)?;
-    add_boxes(rt, &mut weave, &mut rows, behind, 15, 25)?;
-    add_boxes(rt, &mut weave, &mut rows, long, 5, 25)?;
+    add_rows(&mut rows, front, PLAIN)?;
+    add_rows(&mut rows, behind, kind(false, 1, None))?;
+    add_rows(&mut rows, long, kind(false, 2, None))?;
     let regions = regions_of(alloc, &weave, &rows)?;
     let few = regions.len() < 10_000;
     assert!(rt; few);
@@ -370,12 +354,17 @@ fn count_overlaps(
     }
 }
 
+// Of 2,049 regions there are 2,098,176 pairs. Those in front overlap none of those behind them: 1,024 pairs fewer, or 1,023.
 #[test]
-fn at_most_so_many_pairs(rt: HostRuntime) -> Result<(), Fail> {
-    // Of 2,049 boxes there are 2,098,176 pairs. Those in front overlap none of those behind them: 1,024 pairs fewer, or 1,023.
-    let most = count_overlaps(&rt, rt.alloc(), 32, 32, 1_985)?;
-    assert_eq!(rt; most, Some(2_097_152));
-    let more = count_overlaps(&rt, rt.alloc(), 31, 33, 1_985)?;
-    assert_eq!(rt; more, None);
+fn as_many_pairs_as_are_listed(rt: HostRuntime) -> Result<(), Fail> {
+    let count = count_overlaps(&rt, rt.alloc(), 32, 32, 1_985)?;
+    assert_eq!(rt; count, Some(2_097_152));
+    Ok(())
+}
+
+#[test]
+fn one_pair_too_many(rt: HostRuntime) -> Result<(), Fail> {
+    let count = count_overlaps(&rt, rt.alloc(), 31, 33, 1_985)?;
+    assert_eq!(rt; count, None);
     Ok(())
 }

@@ -36,7 +36,7 @@ use Rattle.overlap_list.specs.Partitions.{won_runs, or_no_hit, partition_of}
 use Rattle.overlap_list.specs.Laws.{IsWonRun, HasTree, IsCandidate, IsHit, HasHit, HitsAreThere}
 use Rattle.overlap_list.proofs.LawProofs.{filter_has}
 use Rattle.overlap_list.proofs.Ordered.{all_from_has}
-use Rattle.overlap_list.proofs.Parts.{won_run}
+use Rattle.overlap_list.proofs.Parts.{won_run, cut_place}
 
 same_or_not : (a b : Bool) → (a ≡ b) ⊎ (a ≢ b)
 same_or_not true true = inl refl
@@ -274,14 +274,11 @@ module _ (woven : List Woven) (s : IsWoven woven) where
             )
       ]
 
-  cut_place : (k : ℕ) → k < length (cuts_of woven) → IsPlace (cut_at woven k)
-  cut_place k lt = place_from _ (cuts_good woven (cut_at woven k) s (has_at (cuts_of woven) (cut_at woven k) ray_start k lt refl)).spelled
-
   at_same : (x : Pos) (k : ℕ) → IsPlace x → k < length (cuts_of woven) → is_at x (cut_at woven k) ≡ true → SamePlace x (cut_at woven k)
-  at_same x k p lt h = (places_are_compared x (cut_at woven k) p (cut_place k lt)).same.0 (equal_from _ h)
+  at_same x k p lt h = (places_are_compared x (cut_at woven k) p (cut_place woven s k lt)).same.0 (equal_from _ h)
 
   same_at : (x : Pos) (k : ℕ) → IsPlace x → k < length (cuts_of woven) → SamePlace x (cut_at woven k) → is_at x (cut_at woven k) ≡ true
-  same_at x k p lt h = ap is_eq ((places_are_compared x (cut_at woven k) p (cut_place k lt)).same.1 h)
+  same_at x k p lt h = ap is_eq ((places_are_compared x (cut_at woven k) p (cut_place woven s k lt)).same.1 h)
 
   start_place : (w : Woven) → Has woven w → IsPlace w.seg.start
   start_place w h = place_from w.seg.start (segment_of woven w s h).start_spelled

@@ -77,12 +77,12 @@ nothing = None
 no_some : IsSome nothing → ⊥
 no_some i = true≢false (sym i)
 
-one_winner : (a b : Option ℕ) → is_one_winner a b ≡ true → (b ≡ a) × IsSome a
+pub one_winner : (a b : Option ℕ) → is_one_winner a b ≡ true → (b ≡ a) × IsSome a
 one_winner None b h = absurd (true≢false (sym h))
 one_winner (Some a) None h = absurd (true≢false (sym h))
 one_winner (Some a) (Some b) h = (ap (λ x. Some x) (sym (eqb-true a b h)), refl)
 
-two_winners : (a b : Option ℕ) → IsSome a → is_one_winner a b ≡ false → b ≢ a
+pub two_winners : (a b : Option ℕ) → IsSome a → is_one_winner a b ≡ false → b ≢ a
 two_winners None b i h e = absurd (no_some i)
 two_winners (Some a) b i h e = true≢false (sym (ap (is_one_winner (Some a)) e ∙ eq-eqb a a refl) ∙ h)
 

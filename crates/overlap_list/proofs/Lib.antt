@@ -5,4 +5,5 @@ pub mod Overlapping
 pub mod LawProofs
 pub mod Ordered
 pub mod Parts
+pub mod Covering
 pub mod Hitting

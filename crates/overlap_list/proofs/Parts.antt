@@ -1,14 +1,14 @@
--- The laws of partitions and of overlaps: their order, and who wins them.
+-- The laws of partitions and of overlaps: their order, and who winner_is them.
 use Rattle.std.proofs.Common.{◌≡◌, ◌≢◌, ◌<◌, ◌≤◌, ◌+◌, ◌-◌, ℕ, List, false, length, get_or, map, find, Option, Some, None, IsSome, MatchOption, ap, sym, ◌∙◌, subst, refl, inl, inr, arith}
 use Rattle.std.proofs.lemmas.Bool.{cases_lt, true≢false}
 use Rattle.std.proofs.lemmas.List.Elements.{All-map}
-use Rattle.surd_order.specs.Order.{Precedes, SamePlace}
+use Rattle.surd_order.specs.Order.{Precedes, SamePlace, IsPlace}
 use Rattle.surd_order.proofs.OrderLaws.{same_refl}
 use Rattle.bool_weave.specs.declared.woven.Woven.{Woven}
 use Rattle.bool_weave.specs.Cuts.{ray_start, IsWoven, cuts_of}
 use Rattle.bool_weave.specs.Claims.{intervals_of}
-use Rattle.bool_weave.proofs.Sorted.{Has, contains_from_has}
-use Rattle.bool_weave.proofs.Cutting.{are_cuts}
+use Rattle.bool_weave.proofs.Sorted.{Has, has_at, contains_from_has}
+use Rattle.bool_weave.proofs.Cutting.{place_from, cuts_good, are_cuts}
 use Rattle.bool_weave.proofs.Claimed.{intervals_length}
 use Rattle.overlap_list.specs.declared.region.RegionClaims.{RegionClaims}
 use Rattle.overlap_list.specs.declared.partition.Partition.{Partition}
@@ -28,7 +28,7 @@ use Rattle.overlap_list.proofs.Ordered.{Rises, IsMadeBefore, all_from_has, pairs
 pub won_run : (regions : List RegionClaims) (count : ℕ) (run : IntervalRun) → Has (won_runs regions count) run → IsWonRun regions run × (run.to ≤ count)
 won_run regions count run h = (runs_are_maximal regions count run).0 (contains_from_has (won_runs regions count) run h)
 
--- of two runs the one ends before the other begins, or just there, and then another region wins
+-- of two runs the one ends before the other begins, or just there, and then another region winner_is
 pub record AreApart (regions : List RegionClaims) (a b : IntervalRun) : Type 0 where
   pub order : a.to ≤ b.from
   pub touching : a.to ≡ b.from → winner_of regions b.from ≢ winner_of regions a.from
@@ -74,9 +74,12 @@ or_zero_apart a b i j ne e = ne (some_of b j ∙ ap (λ n. Some n) (sym e) ∙ s
 pub cut_before : (woven : List Woven) (i j : ℕ) → IsWoven woven → i < j → j ≤ length (intervals_of woven) → Precedes (cut_at woven i) (cut_at woven j)
 cut_before woven i j s lt le = (are_cuts woven s).rising i j ray_start lt (omega (arith, le, lt, intervals_length (cuts_of woven)))
 
-wins : (regions : List RegionClaims) (k r : ℕ) → winner_of regions k ≡ Some r → IsWinner regions k r
-wins regions k r e =
+pub winner_is : (regions : List RegionClaims) (k r : ℕ) → winner_of regions k ≡ Some r → IsWinner regions k r
+winner_is regions k r e =
     subst (λ o. MatchOption o ((s : ℕ) (d : RegionClaims) → s < length regions → claims_at (get_or regions s d) k ≡ false) (IsWinner regions k)) e (winners_are_right regions k)
+
+pub cut_place : (woven : List Woven) → IsWoven woven → (k : ℕ) → k < length (cuts_of woven) → IsPlace (cut_at woven k)
+cut_place woven s k lt = place_from _ (cuts_good woven (cut_at woven k) s (has_at (cuts_of woven) (cut_at woven k) ray_start k lt refl)).spelled
 
 module _ (woven : List Woven) (regions : List RegionClaims) where
   abbrev count : ℕ
@@ -108,7 +111,7 @@ module _ (woven : List Woven) (regions : List RegionClaims) where
     within = within;
     start = refl;
     end = refl;
-    won = λ k low high. wins regions k (or_zero (winner_of regions run.from)) (w.won k low high ∙ some_of (winner_of regions run.from) w.region);
+    won = λ k low high. winner_is regions k (or_zero (winner_of regions run.from)) (w.won k low high ∙ some_of (winner_of regions run.from) w.region);
   }
 
 pub partitions_are_in_order : PartitionsAreInOrder

@@ -65,6 +65,16 @@ pub record IsWonPart (woven : List Woven) (regions : List RegionClaims) (p : Par
 abbrev pub PartitionsAreWon : Type 0
 PartitionsAreWon = (woven : List Woven) (regions : List RegionClaims) → All (IsWonPart woven regions) (partitions_of woven regions)
 
+-- interval k lies in a partition
+pub record LiesIn (woven : List Woven) (k : ℕ) (p : Partition) : Type 0 where
+  pub start : ¬ (Precedes (cut_at woven k) p.start)
+  pub end : ¬ (Precedes p.end (cut_at woven (k + 1)))
+
+-- each interval that a region claims lies in a partition
+abbrev pub ClaimsArePartitioned : Type 0
+ClaimsArePartitioned = (woven : List Woven) (regions : List RegionClaims) → IsWoven woven → All (λ r. length r.claims ≡ length (intervals_of woven)) regions
+    → (k : ℕ) → k < length (intervals_of woven) → Any (λ r. claims_at r k ≡ true) regions → Any (LiesIn woven k) (partitions_of woven regions)
+
 -- a region claims what a tree over its instances does, whose leaves are numbered below their count
 pub record HasTree (woven : List Woven) (region : RegionClaims) : Type 0 where
   pub tree : Mask

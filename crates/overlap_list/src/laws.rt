@@ -1,4 +1,4 @@
-ghost use Rattle.overlap_list.specs.Laws.{WinnersAreRight, RunsAreMaximal, PartitionsAreInOrder, PartitionsAreWon, HitsAreThere, OverlapsAreInOrder};
+ghost use Rattle.overlap_list.specs.Laws.{WinnersAreRight, RunsAreMaximal, PartitionsAreInOrder, PartitionsAreWon, ClaimsArePartitioned, HitsAreThere, OverlapsAreInOrder};
 
 /// Laws of winners, of partitions and of their hits. The function does nothing: its contract is the laws.
 pub fn partition_laws()
@@ -6,6 +6,7 @@ pub fn partition_laws()
     ensures runs { RunsAreMaximal }
     ensures order { PartitionsAreInOrder }
     ensures won { PartitionsAreWon }
+    ensures all { ClaimsArePartitioned }
     ensures hits { HitsAreThere }
 {}
 

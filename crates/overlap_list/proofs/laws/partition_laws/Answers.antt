@@ -1,5 +1,6 @@
 use Rattle.overlap_list.proofs.LawProofs.{winners_are_right, runs_are_maximal}
 use Rattle.overlap_list.proofs.Parts.{partitions_are_in_order, partitions_are_won}
+use Rattle.overlap_list.proofs.Covering.{claims_are_partitioned}
 use Rattle.overlap_list.proofs.Hitting.{hits_are_there}
 use Rattle.overlap_list.proofs.laws.partition_laws.Goals as goal
 
@@ -14,6 +15,9 @@ returns-clause-order c = partitions_are_in_order
 
 pub returns-clause-won : goal.returns-clause-won
 returns-clause-won c = partitions_are_won
+
+pub returns-clause-all : goal.returns-clause-all
+returns-clause-all c = claims_are_partitioned
 
 pub returns-clause-hits : goal.returns-clause-hits
 returns-clause-hits c = hits_are_there

@@ -1,17 +1,15 @@
 -- Each interval that a region claims lies in a run that one region wins, and so in a partition.
 use Rattle.std.proofs.Common.{◌≡◌, ◌≢◌, ◌<◌, ◌≤◌, ◌+◌, ◌-◌, ◌⊎◌, ℕ, zero, suc, List, [], length, get_or, map, true, false, Option, Some, None, IsSome, MatchOption, All, Any, ap, sym, ◌∙◌, subst, refl, inl, inr, arith}
-use Rattle.std.specs.List.{position, position_from}
 use Rattle.std.proofs.lemmas.Bool.{cases_lt, cases_eq, cases_Bool, true≢false}
 use Rattle.std.proofs.lemmas.List.{get_or-map, get_or_past, length-map}
 use Rattle.surd_order.specs.Order.{Precedes, IsPlace}
 use Rattle.surd_order.proofs.OrderLaws.{asymmetric, same_refl}
 use Rattle.bool_weave.specs.declared.woven.Woven.{Woven}
-use Rattle.bool_weave.specs.Cuts.{ray_start, IsWoven, cuts_of}
+use Rattle.bool_weave.specs.Cuts.{IsWoven, cuts_of}
 use Rattle.bool_weave.specs.Claims.{intervals_of}
 use Rattle.bool_weave.proofs.Claimed.{intervals_length}
 use Rattle.bool_weave.proofs.Kept.{two_cuts}
 use Rattle.overlap_list.specs.declared.region.RegionClaims.{RegionClaims}
-use Rattle.overlap_list.specs.declared.partition.Partition.{Partition}
 use Rattle.overlap_list.specs.Winners.{claims_at, winner_of}
 use Rattle.overlap_list.specs.Runs.{IntervalRun}
 use Rattle.overlap_list.specs.Hits.{cut_at}

@@ -24,7 +24,7 @@ use Rattle.bool_weave.specs.Claims.{intervals_of, is_before, covers, spans, clai
 use Rattle.bool_weave.specs.Tables.{IsCutAt, interval_at}
 use Rattle.bool_weave.proofs.Sorted.{Has, has_at, has_from_contains, contains_from_has}
 use Rattle.bool_weave.proofs.Middles.{has_filtered}
-use Rattle.bool_weave.proofs.Cutting.{turned, equal_from, place_from, segment_of, cuts_good}
+use Rattle.bool_weave.proofs.Cutting.{turned, equal_from, place_from, segment_of}
 use Rattle.bool_weave.proofs.Searching.{later_than}
 use Rattle.bool_weave.proofs.Kept.{is_cut_at}
 use Rattle.bool_weave.proofs.Claimed.{nothing_from_nothing, intervals_length, intervals_at}

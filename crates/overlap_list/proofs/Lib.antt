@@ -5,5 +5,6 @@ pub mod Overlapping
 pub mod LawProofs
 pub mod Ordered
 pub mod Parts
+pub mod FirstRuns
 pub mod Covering
 pub mod Hitting

@@ -1,9 +1,9 @@
 -- Lists of runs and of pairs rise, and what is made of them does.
 use Rattle.std.proofs.Common.{◌≡◌, ◌<◌, ◌≤◌, ◌+◌, ◌-◌, ◌⊎◌, ℕ, zero, suc, List, [], ◌∷◌, ◌++◌, get_or, map, filter, flat_map, Bool, Option, Some, None, All, AllPairs, ap, sym, ◌∙◌, subst, refl, inl, inr, arith}
 use Rattle.std.specs.List.{range_with_len, filter_map, cons_option}
-use Rattle.std.proofs.lemmas.Bool.{cases_Bool, cond-true, cond-false}
+use Rattle.std.proofs.lemmas.Bool.{cases_Bool, cases_eq, cases_lt, cond-true, cond-false}
 use Rattle.std.proofs.lemmas.List.Kept.{AllPairs-cons}
-use Rattle.bool_weave.proofs.Sorted.{Has, has_at, has_append_cases}
+use Rattle.bool_weave.proofs.Sorted.{Has, has_at, has_append_left, has_append_right, has_append_cases}
 use Rattle.bool_weave.proofs.Middles.{has_filtered}
 
 -- each element is related to each later one
@@ -57,6 +57,15 @@ pub has_chosen : {X Y : Type 0} (f : X → Option Y) (xs : List X) (y : Y) → H
 has_chosen f [] y h = absurd h
 has_chosen f (x ∷ xs) y h = chosen_go f x xs y (f x) (has_chosen f xs y) refl h
 
+later_has : {X Y : Type 0} (f : X → Option Y) (xs : List X) (y : Y) (o : Option Y) → Has (filter_map f xs) y → Has (cons_option o (filter_map f xs)) y
+later_has f xs y None h = h
+later_has f xs y (Some z) h = inr h
+
+pub chosen_has : {X Y : Type 0} (f : X → Option Y) (xs : List X) (x : X) (y : Y) → f x ≡ Some y → Has xs x → Has (filter_map f xs) y
+chosen_has f [] x y e h = h
+chosen_has f (v ∷ vs) x y e (inl s) = subst (λ o. Has (cons_option o (filter_map f vs)) y) (sym (ap f s ∙ e)) (inl refl)
+chosen_has f (v ∷ vs) x y e (inr h) = later_has f vs y (f v) (chosen_has f vs x y e h)
+
 chosen_rises : {X Y : Type 0} (R : X → X → Type 0) (S : Y → Y → Type 0) (f : X → Option Y) (x : X) (xs : List X) (o : Option Y)
     → ((v w : X) (a b : Y) → R v w → f v ≡ Some a → f w ≡ Some b → S a b) → ((y : X) → Has xs y → R x y) → Rises S (filter_map f xs) → f x ≡ o → Rises S (cons_option o (filter_map f xs))
 chosen_rises R S f x xs None h above rest e = rest
@@ -104,3 +113,21 @@ module _ {X : Type 0} (make : ℕ → ℕ → X) where
 
   pub all_rise : (last : ℕ) → Rises IsMadeBefore (flat_map (row last) (range_with_len 0 last))
   all_rise last = rows_rise last 0 last
+
+  made_has : (one a n t : ℕ) → a ≤ t → t < a + n → Has (map (make one) (range_with_len a n)) (make one t)
+  made_has one a zero t low high = absurd (omega (arith, low, high))
+  made_has one a (suc n) t low high =
+      elim (cases_eq a t) [
+        | inl e ↦ inl (ap (make one) e)
+        | inr apart ↦ inr (made_has one (a + 1) n t (elim (cases_lt a t) [ inl lt ↦ omega (arith, lt) | inr le ↦ absurd (apart (omega (arith, le, low))) ]) (omega (arith, high)))
+      ]
+
+  pub rows_have : (last a n s t : ℕ) → a ≤ s → s < a + n → s < t → t ≤ last → Has (flat_map (row last) (range_with_len a n)) (make s t)
+  rows_have last a zero s t low high lt le = absurd (omega (arith, low, high))
+  rows_have last a (suc n) s t low high lt le =
+      elim (cases_eq a s) [
+        | inl e ↦ has_append_left (row last a) (flat_map (row last) (range_with_len (a + 1) n)) (make s t)
+            (subst (λ b. Has (map (make a) (range_with_len (a + 1) (last - a))) (make b t)) e (made_has a (a + 1) (last - a) t (omega (arith, e, lt)) (omega (arith, e, lt, le))))
+        | inr apart ↦ has_append_right (row last a) (flat_map (row last) (range_with_len (a + 1) n)) (make s t)
+            (rows_have last (a + 1) n s t (elim (cases_lt a s) [ inl m ↦ omega (arith, m) | inr m ↦ absurd (apart (omega (arith, m, low))) ]) (omega (arith, high)) lt le)
+      ]

@@ -39,7 +39,7 @@ range_split a (suc n) m =
     ap (range_with_len a) e ∙ ap (λ l. a ∷ l) (range_split (a + 1) n m ∙ ap (λ b. range_with_len (a + 1) n ++ range_with_len b m) f)
 
 -- no run that begins where the property is missing is maximal
-none_of : (has : ℕ → Bool) (count a n : ℕ) → ((k : ℕ) → a ≤ k → k < a + n → has k ≡ false) → filter (is_maximal has) (flat_map (runs_from count) (range_with_len a n)) ≡ []
+pub none_of : (has : ℕ → Bool) (count a n : ℕ) → ((k : ℕ) → a ≤ k → k < a + n → has k ≡ false) → filter (is_maximal has) (flat_map (runs_from count) (range_with_len a n)) ≡ []
 none_of has count a zero h = refl
 none_of has count a (suc n) h =
     filter-append (is_maximal has) (runs_from count a) (flat_map (runs_from count) (range_with_len (a + 1) n))
@@ -72,7 +72,7 @@ first_run has count from to e within before =
 abbrev pub pair_of : ℕ → ℕ → RegionPair
 pair_of one two = record { one = one; two = two }
 
-slice_at : {X : Type 0} (xs : List X) (i : ℕ) (d : X) → i < length xs → slice_get xs i ≡ Some (get_or xs i d)
+pub slice_at : {X : Type 0} (xs : List X) (i : ℕ) (d : X) → i < length xs → slice_get xs i ≡ Some (get_or xs i d)
 slice_at [] i d lt = absurd (omega (arith, lt))
 slice_at (x ∷ xs) zero d lt = refl
 slice_at (x ∷ xs) (suc i) d lt = slice_at xs i d (omega (arith, lt))

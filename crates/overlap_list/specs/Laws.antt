@@ -14,7 +14,7 @@ use Rattle.overlap_list.specs.Winners.{claims_at, winner_of}
 use Rattle.overlap_list.specs.Runs.{IntervalRun, has_before}
 use Rattle.overlap_list.specs.Hits.{cut_at}
 use Rattle.overlap_list.specs.Partitions.{won_runs, partitions_of}
-use Rattle.overlap_list.specs.Overlaps.{overlaps_of}
+use Rattle.overlap_list.specs.Overlaps.{do_overlap_at, overlaps_of}
 
 -- the region of that place claims the interval, it has no air where one without air claims it, and of those of its kind that
 -- claim it it is the first
@@ -125,3 +125,21 @@ pub record AreByPlace (count : ℕ) (runs : List OverlapRun) : Type 0 where
 
 abbrev pub OverlapsAreInOrder : Type 0
 OverlapsAreInOrder = (woven : List Woven) (regions : List RegionClaims) → AreByPlace (length regions) (overlaps_of woven regions)
+
+-- a region and a later one, neither with air, and the first run of intervals that both claim
+pub record IsFirstOverlap (woven : List Woven) (regions : List RegionClaims) (o : OverlapRun) : Type 0 where
+  pub run : IntervalRun
+  pub order : o.one < o.two
+  pub there : o.two < length regions
+  pub some : run.from < run.to
+  pub within : run.to ≤ length (intervals_of woven)
+  pub start : o.start ≡ cut_at woven run.from
+  pub end : o.end ≡ cut_at woven run.to
+  pub both : (k : ℕ) → run.from ≤ k → k < run.to → do_overlap_at regions (record { one = o.one; two = o.two }) k ≡ true
+  pub first : (k : ℕ) → k < run.from → do_overlap_at regions (record { one = o.one; two = o.two }) k ≡ false
+  pub ended : do_overlap_at regions (record { one = o.one; two = o.two }) run.to ≡ false
+
+-- the overlaps are these and no others
+abbrev pub OverlapsAreFirst : Type 0
+OverlapsAreFirst = (woven : List Woven) (regions : List RegionClaims) → All (λ r. length r.claims ≡ length (intervals_of woven)) regions
+    → (o : OverlapRun) → Contains (overlaps_of woven regions) o ↔ IsFirstOverlap woven regions o

@@ -1,4 +1,4 @@
-ghost use Rattle.overlap_list.specs.Laws.{WinnersAreRight, RunsAreMaximal, PartitionsAreInOrder, PartitionsAreWon, ClaimsArePartitioned, HitsAreThere, OverlapsAreInOrder};
+ghost use Rattle.overlap_list.specs.Laws.{WinnersAreRight, RunsAreMaximal, PartitionsAreInOrder, PartitionsAreWon, ClaimsArePartitioned, HitsAreThere, OverlapsAreInOrder, OverlapsAreFirst};
 
 /// Laws of winners, of partitions and of their hits. The function does nothing: its contract is the laws.
 pub fn partition_laws()
@@ -10,7 +10,8 @@ pub fn partition_laws()
     ensures hits { HitsAreThere }
 {}
 
-/// The law of overlaps. The function does nothing: its contract is the law.
+/// Laws of overlaps. The function does nothing: its contract is the laws.
 pub fn overlap_laws()
-    ensures { OverlapsAreInOrder }
+    ensures order { OverlapsAreInOrder }
+    ensures first { OverlapsAreFirst }
 {}

@@ -41,7 +41,7 @@ pub record IsWonRun (regions : List RegionClaims) (run : IntervalRun) : Type 0 w
 abbrev pub RunsAreMaximal : Type 0
 RunsAreMaximal = (regions : List RegionClaims) (count : ℕ) (run : IntervalRun) → Contains (won_runs regions count) run ↔ (IsWonRun regions run × (run.to ≤ count))
 
--- one partition lies before another: it ends before the other starts, or just there, and then another region has the other
+-- one partition lies before another: it ends before the other starts, or just there, and then their regions differ
 abbrev pub LiesBefore : Partition → Partition → Type 0
 LiesBefore p q = Precedes p.end q.start ⊎ (SamePlace p.end q.start × (p.region ≢ q.region))
 
@@ -50,6 +50,7 @@ pub record AreInOrder (partitions : List Partition) : Type 0 where
   pub forward : All (λ p. Precedes p.start p.end) partitions
   pub apart : AllPairs LiesBefore partitions
 
+-- so partitions are in order and disjoint
 abbrev pub PartitionsAreInOrder : Type 0
 PartitionsAreInOrder = (woven : List Woven) (regions : List RegionClaims) → IsWoven woven → AreInOrder (partitions_of woven regions)
 
@@ -62,6 +63,7 @@ pub record IsWonPart (woven : List Woven) (regions : List RegionClaims) (p : Par
   pub end : p.end ≡ cut_at woven run.to
   pub won : (k : ℕ) → run.from ≤ k → k < run.to → IsWinner regions k p.region
 
+-- so its region claims each of them, and nothing without air is hidden by air
 abbrev pub PartitionsAreWon : Type 0
 PartitionsAreWon = (woven : List Woven) (regions : List RegionClaims) → All (IsWonPart woven regions) (partitions_of woven regions)
 
@@ -103,14 +105,14 @@ pub record IsHit (woven : List Woven) (regions : List RegionClaims) (k : ℕ) (h
   pub start_face : SamePlace one.seg.start (cut_at woven k) → hit.face ≡ one.seg.start_face
   pub end_face : SamePlace one.seg.end (cut_at woven k) → hit.face ≡ one.seg.end_face
 
--- the partition starts with interval k, and has the hit there
+-- a partition starts with some interval, and its hit is what is hit there
 pub record HasHit (woven : List Woven) (regions : List RegionClaims) (p : Partition) : Type 0 where
   pub k : ℕ
   pub within : k < length (intervals_of woven)
   pub start : p.start ≡ cut_at woven k
   pub hit : IsHit woven regions k p.hit
 
--- a hit always exists
+-- where regions claim what trees do, each partition has a hit
 abbrev pub HitsAreThere : Type 0
 HitsAreThere = (woven : List Woven) (regions : List RegionClaims) → IsWoven woven → All (HasTree woven) regions → All (HasHit woven regions) (partitions_of woven regions)
 
@@ -123,6 +125,7 @@ pub record AreByPlace (count : ℕ) (runs : List OverlapRun) : Type 0 where
   pub pairs : All (λ r. (r.one < r.two) × (r.two < count)) runs
   pub rising : AllPairs HasLowerPlaces runs
 
+-- so overlaps are in the order of their pairs
 abbrev pub OverlapsAreInOrder : Type 0
 OverlapsAreInOrder = (woven : List Woven) (regions : List RegionClaims) → AreByPlace (length regions) (overlaps_of woven regions)
 
@@ -139,7 +142,7 @@ pub record IsFirstOverlap (woven : List Woven) (regions : List RegionClaims) (o 
   pub first : (k : ℕ) → k < run.from → do_overlap_at regions (record { one = o.one; two = o.two }) k ≡ false
   pub ended : do_overlap_at regions (record { one = o.one; two = o.two }) run.to ≡ false
 
--- the overlaps are these and no others
+-- the overlaps are exactly these
 abbrev pub OverlapsAreFirst : Type 0
 OverlapsAreFirst = (woven : List Woven) (regions : List RegionClaims) → All (λ r. length r.claims ≡ length (intervals_of woven)) regions
     → (o : OverlapRun) → Contains (overlaps_of woven regions) o ↔ IsFirstOverlap woven regions o

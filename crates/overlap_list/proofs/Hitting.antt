@@ -1,12 +1,12 @@
 -- A hit always exists: where the winner changes some claim does, then some leaf of its tree, and there a segment starts or ends.
-use Rattle.std.proofs.Common.{◌≡◌, ◌≢◌, ◌<◌, ◌≤◌, ◌+◌, ◌⊎◌, ℕ, zero, suc, List, [], ◌∷◌, ◌++◌, length, get_or, filter, Bool, true, false, not, ◌&&◌, cond, eqb, nat_le, nat_lt, Option, Some, None, IsSome, IfSome, MatchOption, All, Any, Contains, ap, sym, ◌∙◌, subst, refl, inl, inr, arith}
+use Rattle.std.proofs.Common.{◌≡◌, ◌≢◌, ◌<◌, ◌≤◌, ◌+◌, ◌⊎◌, ℕ, zero, suc, List, [], ◌∷◌, length, get_or, filter, Bool, true, false, not, ◌&&◌, cond, eqb, nat_le, nat_lt, Option, Some, None, IsSome, IfSome, MatchOption, All, Any, Contains, ap, sym, ◌∙◌, subst, refl, inl, inr, arith}
 use Rattle.std.specs.List.{list_any, position, position_from}
 use Rattle.std.specs.Ordering.{is_lt, is_eq}
 use Rattle.std.specs.List.Sorted.{IsStrictlySortedBy}
 use Rattle.std.specs.declared.cmp.Ordering.TheVariants.{Less}
 use Rattle.std.proofs.lemmas.Bool.{cases_lt, cases_order, cases_Bool, and_parts, and_from, and_right, or_cases, or_left, or_right, not_from_false, not-true, true≢false, leb-true, leb-false, ltb-true, lt-ltb, le-ltb, le-leb, eqb-true, eq-eqb, cond-true, cond-false, false_from_ne_true, true_from_ne_false}
 use Rattle.std.proofs.lemmas.Cmp.{tied_itself}
-use Rattle.std.proofs.lemmas.List.{get_or-map, get_or_default, get_or_append_left, get_or-append-add, length-append}
+use Rattle.std.proofs.lemmas.List.{get_or-map, get_or_default}
 use Rattle.std.proofs.lemmas.List.Elements.{All-map, filter_passes}
 use Rattle.std.proofs.lemmas.List.Folds.{Any-from_list_any, list_any-from_Any, list_any_at}
 use Rattle.std.proofs.lemmas.Map.Keys.{Less-from_sorted}
@@ -36,6 +36,7 @@ use Rattle.overlap_list.specs.Partitions.{won_runs, or_no_hit, partition_of}
 use Rattle.overlap_list.specs.Laws.{IsWonRun, HasTree, IsCandidate, IsHit, HasHit, HitsAreThere}
 use Rattle.overlap_list.proofs.LawProofs.{filter_has}
 use Rattle.overlap_list.proofs.Ordered.{all_from_has}
+use Rattle.overlap_list.proofs.Trees.{all_left, all_right}
 use Rattle.overlap_list.proofs.Parts.{won_run, cut_place}
 
 same_or_not : (a b : Bool) → (a ≡ b) ⊎ (a ≢ b)
@@ -109,12 +110,6 @@ some_change regions run w =
           let at = contains_from_has regions r h in
           true≢false (sym (list_any_at (changes_at run.from) regions at.0 r at.1 (ap (changes_at run.from) at.2 ∙ c)) ∙ none))))))
     ]
-
-all_left : {X : Type 0} (P : X → Type 0) (xs ys : List X) → All P (xs ++ ys) → All P xs
-all_left P xs ys all k d lt = subst P (get_or_append_left xs ys d k lt) (all k d (omega (arith, lt, length-append xs ys)))
-
-all_right : {X : Type 0} (P : X → Type 0) (xs ys : List X) → All P (xs ++ ys) → All P ys
-all_right P xs ys all k d lt = subst P (get_or-append-add xs ys k d) (all (length xs + k) d (omega (arith, lt, length-append xs ys)))
 
 -- a tree that holds for one of two values has a leaf at which they differ
 leaf_changes : (t : Mask) (f g : ℕ → Bool) (bound : ℕ) → All (λ leaf. IfSome leaf (λ i. i < bound)) (leaves t) → (mask_holds t f ≡ mask_holds t g) ⊎ ((i : ℕ) × (i < bound) × (f i ≢ g i))

@@ -7,4 +7,5 @@ pub mod Ordered
 pub mod Parts
 pub mod FirstRuns
 pub mod Covering
+pub mod Trees
 pub mod Hitting

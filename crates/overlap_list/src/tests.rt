@@ -1,9 +1,12 @@
-ghost use Rattle.std.specs.Prelude.{◌≡◌, ◌<◌, IsTrue, IsFalse, IfOk, All, length};
+ghost use Rattle.std.specs.Prelude.{◌≡◌, ◌<◌, IsTrue, IsFalse, IfOk, All, length, cond, is_some};
 ghost use Rattle.surd_order.specs.Order.{Precedes};
 ghost use Rattle.surd_order.specs.Range.{IsInRange};
 ghost use Rattle.surd_order.specs.Spelling.{IsSpelled};
 ghost use Rattle.bool_weave.specs.Cuts.{IsSegment};
+ghost use Rattle.bool_weave.specs.Masks.{mask_nodes};
 ghost use Rattle.bool_weave.specs.Claims.{intervals_of};
+ghost use Rattle.bool_weave.specs.Tables.{AreLeavesBelow};
+ghost use Rattle.overlap_list.specs.Laws.{HasTree};
 
 use crate::*;
 use bool_weave::{MaskNode, MaskTree, Weave, claims};
@@ -101,13 +104,17 @@ struct Row {
     op: Option<MaskNode>,
 }
 
-fn one_leaf(alloc: Global) -> Result<MaskTree, Memory> {
+fn one_leaf(alloc: Global) -> Result<MaskTree, Memory>
+    ensures { IfOk result (λ t. AreLeavesBelow 1 (mask_nodes t)) }
+{
     let mut nodes = Vec::new(alloc);
     nodes.push(MaskNode::Leaf(0))?;
     Ok(MaskTree::of_nodes(nodes))
 }
 
-fn union_of_two(alloc: Global) -> Result<MaskTree, Memory> {
+fn union_of_two(alloc: Global) -> Result<MaskTree, Memory>
+    ensures { IfOk result (λ t. AreLeavesBelow 2 (mask_nodes t)) }
+{
     let mut nodes = Vec::new(alloc);
     nodes.push(MaskNode::Leaf(0))?;
     nodes.push(MaskNode::Leaf(1))?;
@@ -115,7 +122,9 @@ fn union_of_two(alloc: Global) -> Result<MaskTree, Memory> {
     Ok(MaskTree::of_nodes(nodes))
 }
 
-fn difference_of_two(alloc: Global) -> Result<MaskTree, Memory> {
+fn difference_of_two(alloc: Global) -> Result<MaskTree, Memory>
+    ensures { IfOk result (λ t. AreLeavesBelow 2 (mask_nodes t)) }
+{
     let mut nodes = Vec::new(alloc);
     nodes.push(MaskNode::Leaf(0))?;
     nodes.push(MaskNode::Leaf(1))?;
@@ -123,7 +132,15 @@ fn difference_of_two(alloc: Global) -> Result<MaskTree, Memory> {
     Ok(MaskTree::of_nodes(nodes))
 }
 
-fn tree_of(alloc: Global, op: Option<MaskNode>) -> Result<MaskTree, Memory> {
+fn count_of(op: Option<MaskNode>) -> u32
+    ensures { result ≡ cond (is_some op) 2 1 }
+{
+    if op.is_some() { 2 } else { 1 }
+}
+
+fn tree_of(alloc: Global, op: Option<MaskNode>) -> Result<MaskTree, Memory>
+    ensures { IfOk result (λ t. AreLeavesBelow (cond (is_some op) 2 1) (mask_nodes t)) }
+{
     match op {
         Some(MaskNode::U) => union_of_two(alloc),
         Some(_) => difference_of_two(alloc),
@@ -132,20 +149,22 @@ fn tree_of(alloc: Global, op: Option<MaskNode>) -> Result<MaskTree, Memory> {
 }
 
 fn region_of(alloc: Global, weave: &Weave, row: Row) -> Result<RegionClaims, Memory>
-    ensures { IfOk result (λ r. length r.claims ≡ length (intervals_of weave.now)) }
+    ensures tree { IfOk result (λ r. HasTree weave.now r) }
+    ensures len { IfOk result (λ r. length r.claims ≡ length (intervals_of weave.now)) }
 {
     let tree = tree_of(alloc, row.op)?;
     let claimed = claims(alloc, weave, &tree, row.first)?;
     Ok(RegionClaims {
         air: row.air,
         first: row.first,
-        count: if row.op.is_some() { 2 } else { 1 },
+        count: count_of(row.op),
         claims: claimed,
     })
 }
 
 fn regions_of(alloc: Global, weave: &Weave, rows: &[Row]) -> Result<Vec<RegionClaims>, Memory>
-    ensures { IfOk result (λ v. All (λ r. length r.claims ≡ length (intervals_of weave.now)) v.items) }
+    ensures trees { IfOk result (λ v. All (HasTree weave.now) v.items) }
+    ensures rows { IfOk result (λ v. All (λ r. length r.claims ≡ length (intervals_of weave.now)) v.items) }
 {
     let mut regions = Vec::new(alloc);
     for row in rows {

@@ -1,19 +1,20 @@
 -- The laws of winners and runs.
-use Rattle.std.proofs.Common.{◌≡◌, ◌≢◌, ◌<◌, ◌≤◌, ◌+◌, ◌-◌, ℕ, zero, suc, List, [], ◌∷◌, length, get_or, map, filter, flat_map, Bool, true, false, not, ◌&&◌, eqb, Option, Some, None, IsSome, MatchOption, ap, sym, ◌∙◌, subst, refl, inl, inr, arith}
-use Rattle.std.specs.List.{range_with_len, position, position_from}
-use Rattle.std.proofs.lemmas.Bool.{cases_lt, cases_eq, cases_Bool, and_parts, and_from, eqb-true, eq-eqb, true≢false, not-true, not_from_false, cond-true, cond-false, false_from_ne_true}
+use Rattle.std.proofs.Common.{◌≡◌, ◌≢◌, ◌<◌, ◌≤◌, ◌+◌, ◌-◌, ℕ, zero, suc, List, [], ◌∷◌, length, get_or, filter, Bool, true, false, not, ◌&&◌, eqb, Option, Some, None, IsSome, MatchOption, ap, sym, ◌∙◌, subst, refl, inl, inr, arith}
+use Rattle.std.specs.List.{position, position_from}
+use Rattle.std.proofs.lemmas.Bool.{cases_lt, cases_Bool, and_parts, and_from, eqb-true, eq-eqb, true≢false, not-true, not_from_false, cond-true, cond-false, false_from_ne_true}
 use Rattle.std.proofs.lemmas.List.Quantifiers.{position-Some}
 use Rattle.std.proofs.lemmas.List.Elements.{filter_passes}
 use Rattle.std.proofs.lemmas.Iterator.Adapters.{position_from-zero}
-use Rattle.bool_weave.proofs.Sorted.{Has, has_from_contains, contains_from_has, has_append_left, has_append_right, has_append_cases}
+use Rattle.bool_weave.proofs.Sorted.{Has, has_from_contains, contains_from_has}
 use Rattle.bool_weave.proofs.Middles.{has_filtered}
 use Rattle.overlap_list.specs.declared.region.RegionClaims.{RegionClaims}
 use Rattle.overlap_list.specs.Winners.{claims_at, or_else, first_without_air, first_with_air, winner_of}
-use Rattle.overlap_list.specs.Runs.{Run, runs_from, runs_below, has_before, is_maximal}
+use Rattle.overlap_list.specs.Runs.{IntervalRun, runs_below, has_before, is_maximal}
 use Rattle.overlap_list.specs.Partitions.{is_one_winner, is_won_as, won_runs}
 use Rattle.overlap_list.specs.Steps.{IsEnd}
 use Rattle.overlap_list.specs.Laws.{IsWinner, WinnersAreRight, RunsAreMaximal}
 use Rattle.overlap_list.proofs.Running.{run_of, maximal, range_at}
+use Rattle.overlap_list.proofs.Ordered.{has_rows, rows_have}
 
 some_none : (n : ℕ) → ◌≡◌ {A = Option ℕ} (Some n) None → ⊥
 some_none n e = cc e
@@ -77,12 +78,12 @@ nothing = None
 no_some : IsSome nothing → ⊥
 no_some i = true≢false (sym i)
 
-one_winner : (a b : Option ℕ) → is_one_winner a b ≡ true → (b ≡ a) × IsSome a
+pub one_winner : (a b : Option ℕ) → is_one_winner a b ≡ true → (b ≡ a) × IsSome a
 one_winner None b h = absurd (true≢false (sym h))
 one_winner (Some a) None h = absurd (true≢false (sym h))
 one_winner (Some a) (Some b) h = (ap (λ x. Some x) (sym (eqb-true a b h)), refl)
 
-two_winners : (a b : Option ℕ) → IsSome a → is_one_winner a b ≡ false → b ≢ a
+pub two_winners : (a b : Option ℕ) → IsSome a → is_one_winner a b ≡ false → b ≢ a
 two_winners None b i h e = absurd (no_some i)
 two_winners (Some a) b i h e = true≢false (sym (ap (is_one_winner (Some a)) e ∙ eq-eqb a a refl) ∙ h)
 
@@ -95,39 +96,7 @@ is_two None b ne = refl
 is_two (Some a) None ne = refl
 is_two (Some a) (Some b) ne = false_from_ne_true (eqb a b) (λ h. ne (ap (λ x. Some x) (sym (eqb-true a b h))))
 
--- which runs there are
-has_map : (from a n : ℕ) (run : Run) → Has (map (run_of from) (range_with_len a n)) run → (run.from ≡ from) × (a ≤ run.to) × (run.to < a + n)
-has_map from a zero run h = absurd h
-has_map from a (suc n) run (inl e) = (sym (ap (λ (r : Run). r.from) e), omega (arith, ap (λ (r : Run). r.to) e), omega (arith, ap (λ (r : Run). r.to) e))
-has_map from a (suc n) run (inr h) = let r = has_map from (a + 1) n run h in (r.0, omega (arith, r.1), omega (arith, r.2))
-
-map_has : (from a n to : ℕ) → a ≤ to → to < a + n → Has (map (run_of from) (range_with_len a n)) (run_of from to)
-map_has from a zero to low high = absurd (omega (arith, low, high))
-map_has from a (suc n) to low high =
-    elim (cases_eq a to) [
-      | inl e ↦ inl (ap (run_of from) e)
-      | inr apart ↦ inr (map_has from (a + 1) n to (elim (cases_lt a to) [ inl lt ↦ omega (arith, lt) | inr le ↦ absurd (apart (omega (arith, le, low))) ]) (omega (arith, high)))
-    ]
-
-has_flat : (count a n : ℕ) (run : Run) → Has (flat_map (runs_from count) (range_with_len a n)) run → (run.from < run.to) × (run.to ≤ count)
-has_flat count a zero run h = absurd h
-has_flat count a (suc n) run h =
-    elim (has_append_cases (runs_from count a) (flat_map (runs_from count) (range_with_len (a + 1) n)) run h) [
-      | inl m ↦ let r = has_map a (a + 1) (count - a) run m in (omega (arith, r.0, r.1), omega (arith, r.0, r.1, r.2))
-      | inr m ↦ has_flat count (a + 1) n run m
-    ]
-
-flat_has : (count a n from to : ℕ) → a ≤ from → from < a + n → from < to → to ≤ count → Has (flat_map (runs_from count) (range_with_len a n)) (run_of from to)
-flat_has count a zero from to low high lt le = absurd (omega (arith, low, high))
-flat_has count a (suc n) from to low high lt le =
-    elim (cases_eq a from) [
-      | inl e ↦ has_append_left (runs_from count a) (flat_map (runs_from count) (range_with_len (a + 1) n)) (run_of from to)
-          (subst (λ b. Has (map (run_of a) (range_with_len (a + 1) (count - a))) (run_of b to)) e (map_has a (a + 1) (count - a) to (omega (arith, e, lt)) (omega (arith, e, lt, le))))
-      | inr apart ↦ has_append_right (runs_from count a) (flat_map (runs_from count) (range_with_len (a + 1) n)) (run_of from to)
-          (flat_has count (a + 1) n from to (elim (cases_lt a from) [ inl m ↦ omega (arith, m) | inr m ↦ absurd (apart (omega (arith, m, low))) ]) (omega (arith, high)) lt le)
-    ]
-
-filter_has : {X : Type 0} (p : X → Bool) (xs : List X) (x : X) → p x ≡ true → Has xs x → Has (filter p xs) x
+pub filter_has : {X : Type 0} (p : X → Bool) (xs : List X) (x : X) → p x ≡ true → Has xs x → Has (filter p xs) x
 filter_has p [] x passed h = h
 filter_has p (y ∷ ys) x passed (inl e) = subst (λ l. Has l x) (sym (cond-true (p y) (y ∷ filter p ys) (filter p ys) (ap p e ∙ passed))) (inl e)
 filter_has p (y ∷ ys) x passed (inr h) =
@@ -148,21 +117,24 @@ pub runs_are_maximal : RunsAreMaximal
 runs_are_maximal regions count run = (
   λ c.
       let m = has_from_contains (won_runs regions count) run c in
-      let there = has_flat count 0 count run (has_filtered (λ (r : Run). is_maximal (is_won_as regions r.from) r) (runs_below count) run m) in
+      let made = has_rows run_of count 0 count run (has_filtered (λ (r : IntervalRun). is_maximal (is_won_as regions r.from) r) (runs_below count) run m) in
+      let from : run.from ≡ made.0 = ap (λ (r : IntervalRun). r.from) made.2 in
+      let to : run.to ≡ made.1 = ap (λ (r : IntervalRun). r.to) made.2 in
+      let some_there : run.from < run.to = omega (arith, from, to, made.4) in
       let passed : is_maximal (is_won_as regions run.from) run ≡ true =
-      subst (λ (r : Run). is_maximal (is_won_as regions r.from) r ≡ true) c.2 (filter_passes (λ (r : Run). is_maximal (is_won_as regions r.from) r) (runs_below count) c.0 run c.1) in
+      subst (λ (r : IntervalRun). is_maximal (is_won_as regions r.from) r ≡ true) c.2 (filter_passes (λ (r : IntervalRun). is_maximal (is_won_as regions r.from) r) (runs_below count) c.0 run c.1) in
       let parts = and_parts _ _ passed in
       let sides = and_parts _ _ parts.1 in
       let at : (k : ℕ) → run.from ≤ k → k < run.to → is_won_as regions run.from k ≡ true = λ k low high. range_at (is_won_as regions run.from) run.from (run.to - run.from) k parts.0 low (omega (arith, low, high)) in
-      let some : IsSome (winner_of regions run.from) = (one_winner (winner_of regions run.from) (winner_of regions run.from) (at run.from (omega arith) there.0)).1 in (
+      let some : IsSome (winner_of regions run.from) = (one_winner (winner_of regions run.from) (winner_of regions run.from) (at run.from (omega arith) some_there)).1 in (
         record {
-          some = there.0;
+          some = some_there;
           region = some;
           won = λ k low high. (one_winner (winner_of regions run.from) (winner_of regions k) (at k low high)).0;
           begun = λ k e. two_winners (winner_of regions run.from) (winner_of regions k) some (before_at (is_won_as regions run.from) run.from k e (not-true _ sides.0));
           ended = two_winners (winner_of regions run.from) (winner_of regions run.to) some (not-true _ sides.1);
         },
-        there.1,
+        omega (arith, to, made.5),
       ),
   λ h.
       let w = h.0 in
@@ -172,7 +144,7 @@ runs_are_maximal regions count run = (
         ended = is_two (winner_of regions run.from) (winner_of regions run.to) w.ended;
       } in
       contains_from_has (won_runs regions count) run
-      (filter_has (λ (r : Run). is_maximal (is_won_as regions r.from) r) (runs_below count) run
+      (filter_has (λ (r : IntervalRun). is_maximal (is_won_as regions r.from) r) (runs_below count) run
       (maximal (is_won_as regions run.from) run.from run.to e (before_from (is_won_as regions run.from) run.from (λ k s. is_two (winner_of regions run.from) (winner_of regions k) (w.begun k s))))
-      (flat_has count 0 count run.from run.to (omega arith) (omega (arith, w.some, h.1)) w.some h.1)),
+      (rows_have run_of count 0 count run.from run.to (omega arith) (omega (arith, w.some, h.1)) w.some h.1)),
 )

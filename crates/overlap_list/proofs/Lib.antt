@@ -3,3 +3,9 @@ pub mod Winning
 pub mod Settling
 pub mod Overlapping
 pub mod LawProofs
+pub mod Ordered
+pub mod Parts
+pub mod FirstRuns
+pub mod Covering
+pub mod Trees
+pub mod Hitting

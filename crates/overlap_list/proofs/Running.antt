@@ -6,18 +6,18 @@ use Rattle.std.proofs.lemmas.List.{map-id, append-nil}
 use Rattle.std.proofs.lemmas.List.FromFn.{map-range_with_len_more}
 use Rattle.std.proofs.lemmas.List.Concat.{flat_map-append}
 use Rattle.std.proofs.lemmas.List.Elements.{filter-append}
-use Rattle.overlap_list.specs.Runs.{Run, runs_from, has_before, is_maximal}
+use Rattle.overlap_list.specs.Runs.{IntervalRun, runs_from, has_before, is_maximal}
 use Rattle.overlap_list.specs.Steps.{IsEnd, passes}
 
-abbrev pub run_of : ℕ → ℕ → Run
+abbrev pub run_of : ℕ → ℕ → IntervalRun
 run_of from to = record { from = from; to = to }
 
-none_pass : (p : Run → Bool) (from a n : ℕ) → ((t : ℕ) → a ≤ t → p (run_of from t) ≡ false) → filter p (map (λ to. run_of from to) (range_with_len a n)) ≡ []
+none_pass : (p : IntervalRun → Bool) (from a n : ℕ) → ((t : ℕ) → a ≤ t → p (run_of from t) ≡ false) → filter p (map (λ to. run_of from to) (range_with_len a n)) ≡ []
 none_pass p from a zero none = refl
 none_pass p from a (suc n) none =
     cond-false (p (run_of from a)) _ _ (none a (omega arith)) ∙ none_pass p from (a + 1) n (λ t le. none t (omega (arith, le)))
 
-one_pass : (p : Run → Bool) (from a n to : ℕ) → a ≤ to → to < a + n → p (run_of from to) ≡ true → ((t : ℕ) → a ≤ t → (t ≡ to → ⊥) → p (run_of from t) ≡ false)
+one_pass : (p : IntervalRun → Bool) (from a n to : ℕ) → a ≤ to → to < a + n → p (run_of from to) ≡ true → ((t : ℕ) → a ≤ t → (t ≡ to → ⊥) → p (run_of from t) ≡ false)
     → filter p (map (λ to. run_of from to) (range_with_len a n)) ≡ run_of from to ∷ []
 one_pass p from a zero to low high passed none = absurd (omega (arith, low, high))
 one_pass p from a (suc n) to low high passed none =

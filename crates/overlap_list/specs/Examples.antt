@@ -1,7 +1,7 @@
 -- Partitions and overlaps of small rays, proved by computation.
 use Rattle.std.specs.Prelude.{◌≡◌, refl, ℕ, pos, Bool, true, false, List, [], ◌∷◌}
 use Rattle.surd_order.specs.declared.position.Pos.{Pos}
-use Rattle.surd_order.specs.declared.position.Pos.TheVariants.{Frac}
+use Rattle.surd_order.specs.declared.position.Pos.TheVariants.{Frac, Surd}
 use Rattle.surd_order.specs.PlaceOrder.{place_cmp}
 use Rattle.bool_weave.specs.declared.woven.Woven.{Woven}
 use Rattle.overlap_list.specs.declared.region.RegionClaims.{RegionClaims}
@@ -76,8 +76,8 @@ whole_ray : partitions_of (from_to 0 0 15 ∷ from_to 1 15 1048576 ∷ []) (regi
 unfolding place_cmp
 whole_ray = refl
 
--- both boxes start at 5: the region of the second place loses, and its instance is hit, since it has the lower number
-loser_hit : partitions_of (from_to 0 5 15 ∷ from_to 1 5 20 ∷ []) (region false 1 1 (false ∷ true ∷ true ∷ false ∷ []) ∷ region false 0 1 (false ∷ true ∷ false ∷ false ∷ []) ∷ []) ≡ part 0 5 20 0 1 ∷ []
+-- both boxes start at 5: the region with air loses, and its instance is hit, since it has the lower number
+loser_hit : partitions_of (from_to 0 5 15 ∷ from_to 1 5 20 ∷ []) (region true 0 1 (false ∷ true ∷ false ∷ false ∷ []) ∷ region false 1 1 (false ∷ true ∷ true ∷ false ∷ []) ∷ []) ≡ part 1 5 20 0 1 ∷ []
 unfolding place_cmp
 loser_hit = refl
 
@@ -87,12 +87,34 @@ unfolding place_cmp
 apart = refl
 
 -- two regions overlap twice, and the first of the runs is told
-first_of_two_overlaps : overlaps_of (from_to 0 5 15 ∷ from_to 1 20 30 ∷ []) (region false 0 2 (false ∷ true ∷ false ∷ true ∷ false ∷ []) ∷ region false 0 2 (false ∷ true ∷ false ∷ true ∷ false ∷ []) ∷ []) ≡ run 0 1 5 15 ∷ []
+first_of_two_overlaps : overlaps_of (from_to 0 5 15 ∷ from_to 1 20 30 ∷ from_to 2 5 15 ∷ from_to 3 20 30 ∷ [])
+    (region false 0 2 (false ∷ true ∷ false ∷ true ∷ false ∷ []) ∷ region false 2 2 (false ∷ true ∷ false ∷ true ∷ false ∷ []) ∷ []) ≡ run 0 1 5 15 ∷ []
 unfolding place_cmp
 first_of_two_overlaps = refl
 
 -- of three regions in one place each pair is told, by the lower place and then the higher one
-three_pairs : overlaps_of (from_to 0 5 15 ∷ []) (region false 0 1 (false ∷ true ∷ false ∷ []) ∷ region false 0 1 (false ∷ true ∷ false ∷ []) ∷ region false 0 1 (false ∷ true ∷ false ∷ []) ∷ [])
+three_pairs : overlaps_of (from_to 0 5 15 ∷ from_to 1 5 15 ∷ from_to 2 5 15 ∷ [])
+    (region false 0 1 (false ∷ true ∷ false ∷ []) ∷ region false 1 1 (false ∷ true ∷ false ∷ []) ∷ region false 2 1 (false ∷ true ∷ false ∷ []) ∷ [])
     ≡ run 0 1 5 15 ∷ run 0 2 5 15 ∷ run 1 2 5 15 ∷ []
 unfolding place_cmp
 three_pairs = refl
+
+-- a ball that is met at 10-sqrt(23) and left at 10+sqrt(23)
+abbrev ball : Woven
+ball = record { instance = 0; seg = record { start = Surd (pos 10) false 23; start_face = 1; end = Surd (pos 10) true 23; end_face = 1 } }
+
+-- a half-space that the ray begins in and leaves at a fraction
+abbrev half_until : ℕ → ℕ → Woven
+half_until p q = record { instance = 1; seg = record { start = whole 0; start_face = 0; end = Frac (pos p) (pos q); end_face = 1 } }
+
+-- it is taken from the ball: it ends before the ball at 26/5, since 23 times 25 is below 24 times 24
+ball_less_half_before : partitions_of (ball ∷ half_until 26 5 ∷ []) (region false 0 2 (false ∷ false ∷ true ∷ false ∷ []) ∷ [])
+    ≡ record { region = 0; start = Surd (pos 10) false 23; end = Surd (pos 10) true 23; hit = record { instance = 0; face = 1 } } ∷ []
+unfolding place_cmp
+ball_less_half_before = refl
+
+-- at 27/5 it ends inside, and its end is hit
+ball_less_half_inside : partitions_of (ball ∷ half_until 27 5 ∷ []) (region false 0 2 (false ∷ false ∷ true ∷ false ∷ []) ∷ [])
+    ≡ record { region = 0; start = Frac (pos 27) (pos 5); end = Surd (pos 10) true 23; hit = record { instance = 1; face = 1 } } ∷ []
+unfolding place_cmp
+ball_less_half_inside = refl

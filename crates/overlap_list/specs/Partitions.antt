@@ -6,7 +6,7 @@ use Rattle.overlap_list.specs.declared.region.RegionClaims.{RegionClaims}
 use Rattle.overlap_list.specs.declared.hit.Hit.{Hit}
 use Rattle.overlap_list.specs.declared.partition.Partition.{Partition}
 use Rattle.overlap_list.specs.Winners.{winner_of}
-use Rattle.overlap_list.specs.Runs.{Run, runs_below, is_maximal}
+use Rattle.overlap_list.specs.Runs.{IntervalRun, runs_below, is_maximal}
 use Rattle.overlap_list.specs.Hits.{cut_at, hit_of}
 
 abbrev pub is_one_winner : Option ℕ → Option ℕ → Bool
@@ -19,7 +19,7 @@ abbrev pub is_won_as : List RegionClaims → ℕ → ℕ → Bool
 is_won_as regions from k = is_one_winner (winner_of regions from) (winner_of regions k)
 
 -- the maximal runs of intervals with one winner
-abbrev pub won_runs : List RegionClaims → ℕ → List Run
+abbrev pub won_runs : List RegionClaims → ℕ → List IntervalRun
 won_runs regions count = filter (λ run. is_maximal (is_won_as regions run.from) run) (runs_below count)
 
 abbrev pub or_zero : Option ℕ → ℕ
@@ -31,7 +31,7 @@ or_no_hit None = record { instance = 0; face = 0 }
 or_no_hit (Some hit) = hit
 
 -- a run has a winner and a hit
-abbrev pub partition_of : List Woven → List RegionClaims → Run → Partition
+abbrev pub partition_of : List Woven → List RegionClaims → IntervalRun → Partition
 partition_of woven regions run = record {
   region = or_zero (winner_of regions run.from);
   start = cut_at woven run.from;

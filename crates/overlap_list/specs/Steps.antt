@@ -3,7 +3,7 @@ use Rattle.std.specs.Prelude.{◌≡◌, ◌<◌, ◌≤◌, ◌⊎◌, ℕ, Lis
 use Rattle.overlap_list.specs.declared.region.RegionClaims.{RegionClaims}
 use Rattle.overlap_list.specs.declared.overlap.Stretch.{Stretch}
 use Rattle.overlap_list.specs.Winners.{claims_at}
-use Rattle.overlap_list.specs.Runs.{Run, has_before, is_maximal}
+use Rattle.overlap_list.specs.Runs.{IntervalRun, has_before, is_maximal}
 use Rattle.overlap_list.specs.Partitions.{is_one_winner}
 
 abbrev pub winner_at : List (Option ℕ) → ℕ → Option ℕ
@@ -45,5 +45,5 @@ abbrev pub do_overlap : RegionClaims → RegionClaims → ℕ → Bool
 do_overlap one two k = (not one.air && claims_at one k) && (not two.air && claims_at two k)
 
 -- whether a run is maximal for a property that may depend on where it begins
-abbrev pub passes : (ℕ → ℕ → Bool) → Run → Bool
+abbrev pub passes : (ℕ → ℕ → Bool) → IntervalRun → Bool
 passes test run = is_maximal (test run.from) run

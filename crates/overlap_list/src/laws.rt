@@ -1,7 +1,17 @@
-ghost use Rattle.overlap_list.specs.Laws.{WinnersAreRight, RunsAreMaximal};
+ghost use Rattle.overlap_list.specs.Laws.{WinnersAreRight, RunsAreMaximal, PartitionsAreInOrder, PartitionsAreWon, ClaimsArePartitioned, HitsAreThere, OverlapsAreInOrder, OverlapsAreFirst};
 
-/// Laws of winners and of the runs that they win. The function does nothing: its contract is the laws.
+/// Laws of winners, of partitions and of their hits. The function does nothing: its contract is the laws.
 pub fn partition_laws()
     ensures winners { WinnersAreRight }
     ensures runs { RunsAreMaximal }
+    ensures order { PartitionsAreInOrder }
+    ensures won { PartitionsAreWon }
+    ensures all { ClaimsArePartitioned }
+    ensures hits { HitsAreThere }
+{}
+
+/// Laws of overlaps. The function does nothing: its contract is the laws.
+pub fn overlap_laws()
+    ensures order { OverlapsAreInOrder }
+    ensures first { OverlapsAreFirst }
 {}

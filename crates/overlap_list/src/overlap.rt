@@ -2,8 +2,7 @@ ghost use Rattle.std.specs.Prelude.{◌≡◌, ◌<◌, ◌≤◌, ◌+◌, ◌-
 ghost use Rattle.std.specs.List.{filter_map};
 ghost use Rattle.bool_weave.specs.Cuts.{cuts_of};
 ghost use Rattle.bool_weave.specs.Claims.{intervals_of};
-ghost use Rattle.overlap_list.specs.Runs.{runs_from};
-ghost use Rattle.overlap_list.specs.Overlaps.{first_overlap, overlaps_of, IsTooMany, IsCheckFault};
+ghost use Rattle.overlap_list.specs.Overlaps.{pairs_from, first_overlap, overlaps_of, IsTooMany, IsCheckFault};
 ghost use Rattle.overlap_list.specs.Steps.{do_both, IsFirst, IsEnd, IsFirstRun, do_overlap};
 
 use crate::region::RegionClaims;
@@ -96,8 +95,8 @@ fn add_overlap(
     requires one { one < length regions.now }
     requires two { two < length regions.now }
     requires rows { All (λ r. length r.claims ≡ length (intervals_of weave.now)) regions.now }
-    ensures added { IfOk result (λ _. runs.new.items ≡ runs.old.items ++ filter_map (first_overlap weave.now regions.now) (record { from = one; to = two } ∷ [])) }
-    ensures many { IfErr result (IsTooMany (length runs.old.items + length (filter_map (first_overlap weave.now regions.now) (record { from = one; to = two } ∷ [])))) }
+    ensures added { IfOk result (λ _. runs.new.items ≡ runs.old.items ++ filter_map (first_overlap weave.now regions.now) (record { one = one; two = two } ∷ [])) }
+    ensures many { IfErr result (IsTooMany (length runs.old.items + length (filter_map (first_overlap weave.now regions.now) (record { one = one; two = two } ∷ [])))) }
     ensures most { IfOk result (λ _. length runs.old.items ≤ MOST_PAIRS → length runs.new.items ≤ MOST_PAIRS) }
 {
     let Some(stretch) = first_stretch(&regions[one as usize], &regions[two as usize]) else {
@@ -129,8 +128,8 @@ fn add_overlaps(
     requires few { length regions.now < 2 ^ 31 }
     requires one { one < length regions.now }
     requires rows { All (λ r. length r.claims ≡ length (intervals_of weave.now)) regions.now }
-    ensures added { IfOk result (λ _. runs.new.items ≡ runs.old.items ++ filter_map (first_overlap weave.now regions.now) (runs_from (length regions.now - 1) one)) }
-    ensures many { IfErr result (IsTooMany (length runs.old.items + length (filter_map (first_overlap weave.now regions.now) (runs_from (length regions.now - 1) one)))) }
+    ensures added { IfOk result (λ _. runs.new.items ≡ runs.old.items ++ filter_map (first_overlap weave.now regions.now) (pairs_from (length regions.now - 1) one)) }
+    ensures many { IfErr result (IsTooMany (length runs.old.items + length (filter_map (first_overlap weave.now regions.now) (pairs_from (length regions.now - 1) one)))) }
     ensures most { IfOk result (λ _. length runs.old.items ≤ MOST_PAIRS → length runs.new.items ≤ MOST_PAIRS) }
 {
     for two in one + 1..regions.len() as u32 {

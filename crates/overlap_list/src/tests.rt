@@ -1,9 +1,12 @@
-ghost use Rattle.std.specs.Prelude.{◌≡◌, ◌<◌, IsTrue, IsFalse, IfOk, All, length};
+ghost use Rattle.std.specs.Prelude.{◌≡◌, ◌<◌, IsTrue, IsFalse, IfOk, All, length, cond, is_some};
 ghost use Rattle.surd_order.specs.Order.{Precedes};
 ghost use Rattle.surd_order.specs.Range.{IsInRange};
 ghost use Rattle.surd_order.specs.Spelling.{IsSpelled};
 ghost use Rattle.bool_weave.specs.Cuts.{IsSegment};
+ghost use Rattle.bool_weave.specs.Masks.{mask_nodes};
 ghost use Rattle.bool_weave.specs.Claims.{intervals_of};
+ghost use Rattle.bool_weave.specs.Tables.{AreLeavesBelow};
+ghost use Rattle.overlap_list.specs.Laws.{HasTree};
 
 use crate::*;
 use bool_weave::{MaskNode, MaskTree, Weave, claims};
@@ -101,13 +104,17 @@ struct Row {
     op: Option<MaskNode>,
 }
 
-fn one_leaf(alloc: Global) -> Result<MaskTree, Memory> {
+fn one_leaf(alloc: Global) -> Result<MaskTree, Memory>
+    ensures { IfOk result (λ t. AreLeavesBelow 1 (mask_nodes t)) }
+{
     let mut nodes = Vec::new(alloc);
     nodes.push(MaskNode::Leaf(0))?;
     Ok(MaskTree::of_nodes(nodes))
 }
 
-fn union_of_two(alloc: Global) -> Result<MaskTree, Memory> {
+fn union_of_two(alloc: Global) -> Result<MaskTree, Memory>
+    ensures { IfOk result (λ t. AreLeavesBelow 2 (mask_nodes t)) }
+{
     let mut nodes = Vec::new(alloc);
     nodes.push(MaskNode::Leaf(0))?;
     nodes.push(MaskNode::Leaf(1))?;
@@ -115,7 +122,9 @@ fn union_of_two(alloc: Global) -> Result<MaskTree, Memory> {
     Ok(MaskTree::of_nodes(nodes))
 }
 
-fn difference_of_two(alloc: Global) -> Result<MaskTree, Memory> {
+fn difference_of_two(alloc: Global) -> Result<MaskTree, Memory>
+    ensures { IfOk result (λ t. AreLeavesBelow 2 (mask_nodes t)) }
+{
     let mut nodes = Vec::new(alloc);
     nodes.push(MaskNode::Leaf(0))?;
     nodes.push(MaskNode::Leaf(1))?;
@@ -123,7 +132,15 @@ fn difference_of_two(alloc: Global) -> Result<MaskTree, Memory> {
     Ok(MaskTree::of_nodes(nodes))
 }
 
-fn tree_of(alloc: Global, op: Option<MaskNode>) -> Result<MaskTree, Memory> {
+fn count_of(op: Option<MaskNode>) -> u32
+    ensures { result ≡ cond (is_some op) 2 1 }
+{
+    if op.is_some() { 2 } else { 1 }
+}
+
+fn tree_of(alloc: Global, op: Option<MaskNode>) -> Result<MaskTree, Memory>
+    ensures { IfOk result (λ t. AreLeavesBelow (cond (is_some op) 2 1) (mask_nodes t)) }
+{
     match op {
         Some(MaskNode::U) => union_of_two(alloc),
         Some(_) => difference_of_two(alloc),
@@ -132,20 +149,22 @@ fn tree_of(alloc: Global, op: Option<MaskNode>) -> Result<MaskTree, Memory> {
 }
 
 fn region_of(alloc: Global, weave: &Weave, row: Row) -> Result<RegionClaims, Memory>
-    ensures { IfOk result (λ r. length r.claims ≡ length (intervals_of weave.now)) }
+    ensures tree { IfOk result (λ r. HasTree weave.now r) }
+    ensures len { IfOk result (λ r. length r.claims ≡ length (intervals_of weave.now)) }
 {
     let tree = tree_of(alloc, row.op)?;
     let claimed = claims(alloc, weave, &tree, row.first)?;
     Ok(RegionClaims {
         air: row.air,
         first: row.first,
-        count: if row.op.is_some() { 2 } else { 1 },
+        count: count_of(row.op),
         claims: claimed,
     })
 }
 
 fn regions_of(alloc: Global, weave: &Weave, rows: &[Row]) -> Result<Vec<RegionClaims>, Memory>
-    ensures { IfOk result (λ v. All (λ r. length r.claims ≡ length (intervals_of weave.now)) v.items) }
+    ensures trees { IfOk result (λ v. All (HasTree weave.now) v.items) }
+    ensures rows { IfOk result (λ v. All (λ r. length r.claims ≡ length (intervals_of weave.now)) v.items) }
 {
     let mut regions = Vec::new(alloc);
     for row in rows {
@@ -239,8 +258,8 @@ fn partitions_of_small_rays(rt: HostRuntime) -> Result<(), Fail> {
         // The instance of a losing region has the lowest number.
         (
             &[(0, 5, 15), (1, 5, 20)],
-            &[second, PLAIN],
-            &[(0, 5, 20, 0, 1)],
+            &[kind(true, 0, None), second],
+            &[(1, 5, 20, 0, 1)],
         ),
         (
             &[(0, 5, 15), (1, 20, 30)],
@@ -283,7 +302,7 @@ fn check_overlaps(
 #[test]
 fn overlaps_of_small_rays(rt: HostRuntime) -> Result<(), Fail> {
     let second = kind(false, 1, None);
-    let union = kind(false, 0, Some(MaskNode::U));
+    let union = Some(MaskNode::U);
     let cases: [(&[(u32, u32, u32)], &[Row], &[(u32, u32, u32, u32)]); 6] = [
         (&[(0, 5, 15)], &[], &[]),
         (&[(0, 5, 15)], &[PLAIN], &[]),
@@ -299,13 +318,13 @@ fn overlaps_of_small_rays(rt: HostRuntime) -> Result<(), Fail> {
         ),
         // Twice: the first run is told.
         (
-            &[(0, 5, 15), (1, 20, 30)],
-            &[union, union],
+            &[(0, 5, 15), (1, 20, 30), (2, 5, 15), (3, 20, 30)],
+            &[kind(false, 0, union), kind(false, 2, union)],
             &[(0, 1, 5, 15)],
         ),
         (
-            &[(0, 5, 15), (1, 10, 20)],
-            &[PLAIN, second, PLAIN, union],
+            &[(0, 5, 15), (1, 10, 20), (2, 5, 15), (3, 5, 15), (4, 10, 20)],
+            &[PLAIN, second, kind(false, 2, None), kind(false, 3, union)],
             &[
                 (0, 1, 10, 15),
                 (0, 2, 5, 15),
@@ -319,5 +338,52 @@ fn overlaps_of_small_rays(rt: HostRuntime) -> Result<(), Fail> {
     for (woven, rows, wanted) in cases {
         check_overlaps(&rt, rt.alloc(), woven, rows, wanted)?;
     }
+    Ok(())
+}
+
+/// That many regions of one box.
+fn add_rows(rows: &mut Vec<Row>, count: u32, row: Row) -> Result<(), Memory> {
+    for _ in 0..count {
+        rows.push(row)?;
+    }
+    Ok(())
+}
+
+/// How many pairs overlap of so many regions in front, so many behind them, and so many as long as both together; none where
+/// there are too many.
+fn count_overlaps(
+    rt: &impl Abort,
+    alloc: Global,
+    front: u32,
+    behind: u32,
+    long: u32,
+) -> Result<Option<usize>, Memory> {
+    let weave = woven_of(rt, alloc, &[(0, 5, 15), (1, 15, 25), (2, 5, 25)])?;
+    let mut rows = Vec::new(alloc);
+    add_rows(&mut rows, front, PLAIN)?;
+    add_rows(&mut rows, behind, kind(false, 1, None))?;
+    add_rows(&mut rows, long, kind(false, 2, None))?;
+    let regions = regions_of(alloc, &weave, &rows)?;
+    let few = regions.len() < 10_000;
+    assert!(rt; few);
+    match overlaps(alloc, &weave, &regions) {
+        Ok(runs) => Ok(Some(runs.len())),
+        Err(CheckFault::TooMany) => Ok(None),
+        Err(CheckFault::Memory) => Err(Memory),
+    }
+}
+
+// Of 2,049 regions there are 2,098,176 pairs. Those in front overlap none of those behind them: 1,024 pairs fewer, or 1,023.
+#[test]
+fn as_many_pairs_as_are_listed(rt: HostRuntime) -> Result<(), Fail> {
+    let count = count_overlaps(&rt, rt.alloc(), 32, 32, 1_985)?;
+    assert_eq!(rt; count, Some(2_097_152));
+    Ok(())
+}
+
+#[test]
+fn one_pair_too_many(rt: HostRuntime) -> Result<(), Fail> {
+    let count = count_overlaps(&rt, rt.alloc(), 31, 33, 1_985)?;
+    assert_eq!(rt; count, None);
     Ok(())
 }

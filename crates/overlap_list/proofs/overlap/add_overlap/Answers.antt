@@ -7,9 +7,8 @@ use Rattle.overlap_list.specs.declared.region.RegionClaims.{RegionClaims}
 use Rattle.overlap_list.specs.declared.overlap.OverlapRun.{OverlapRun}
 use Rattle.overlap_list.specs.Hits.{cut_at}
 use Rattle.overlap_list.specs.Overlaps.{first_overlap}
-use Rattle.overlap_list.proofs.Running.{run_of}
 use Rattle.overlap_list.proofs.Settling.{count_is, cut_is}
-use Rattle.overlap_list.proofs.Overlapping.{no_overlap, some_overlap}
+use Rattle.overlap_list.proofs.Overlapping.{pair_of, no_overlap, some_overlap}
 use Rattle.overlap_list.proofs.overlap.add_overlap.Goals as goal
 
 pub returns-in_default-clause-added : goal.returns-in_default-clause-added
@@ -20,7 +19,7 @@ returns-in_default-clause-added c =
 pub returns-then-len-ge-MOST_PAIRS-clause-many : goal.returns-then-len-ge-MOST_PAIRS-clause-many
 returns-then-len-ge-MOST_PAIRS-clause-many c =
     let row : length c.index-regions-one.result.claims ≡ length (intervals_of c.args.weave.now) = ap (λ (r : RegionClaims). length r.claims) c.index-regions-one.is ∙ c.requires.rows c.args.one c.index-regions-one.result c.requires.one in
-    let one : length (cons_option (first_overlap c.args.weave.now c.args.regions.now (run_of c.args.one c.args.two)) []) ≡ 1 =
+    let one : length (cons_option (first_overlap c.args.weave.now c.args.regions.now (pair_of c.args.one c.args.two)) []) ≡ 1 =
     ap (λ (o : Option OverlapRun). length (cons_option o []))
     (some_overlap c.args.weave.now c.args.regions.now c.args.one c.args.two c.index-regions-one.result c.index-regions-two.result c.requires.one c.requires.two c.index-regions-one.is c.index-regions-two.is
     c.in-Some.stretch.from c.in-Some.stretch.to c.in-Some.ensures.0 (omega (arith, c.in-Some.ensures.1, row)) c.in-Some.ensures.2) in

@@ -1,0 +1,9 @@
+use Rattle.overlap_list.proofs.Parts.{overlaps_are_in_order}
+use Rattle.overlap_list.proofs.FirstRuns.{overlaps_are_first}
+use Rattle.overlap_list.proofs.laws.overlap_laws.Goals as goal
+
+pub returns-clause-order : goal.returns-clause-order
+returns-clause-order c = overlaps_are_in_order
+
+pub returns-clause-first : goal.returns-clause-first
+returns-clause-first c = overlaps_are_first

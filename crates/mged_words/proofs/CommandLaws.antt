@@ -1,5 +1,5 @@
 -- What a reading gives where a part of the line is refused.
-use Rattle.std.proofs.Common.{◌≡◌, ◌<◌, ◌≤◌, ◌+◌, ◌-◌, ◌==◌, ◌∷◌, [], ◌∙◌, ℕ, Bool, true, false, cond, List, length, get_or, drop, take, map, zero, suc, length-drop, Option, Some, None, Result, Ok, Err, is_ok, is_some, arith, ap, sym, refl, subst}
+use Rattle.std.proofs.Common.{◌≡◌, ◌<◌, ◌+◌, ◌-◌, ◌==◌, ◌∷◌, [], ◌∙◌, ℕ, Bool, true, false, List, length, get_or, drop, take, map, zero, suc, length-drop, Option, Some, None, Result, Ok, Err, is_ok, is_some, arith, ap, sym, refl, subst}
 use Rattle.std.proofs.lemmas.Bool.{cond-true}
 use Rattle.std.specs.Borrow.{Bor}
 use Rattle.std.specs.Result.{IsErr, IsErrAnd}

@@ -1,5 +1,5 @@
 -- Names, and lists of operators and members, among the words of a line.
-use Rattle.std.proofs.Common.{◌≡◌, ◌<◌, ◌≤◌, ◌+◌, ◌++◌, ◌==◌, ◌∷◌, [], ◌∙◌, ℕ, Bool, true, false, cond, List, take, length, get_or, drop, map, Option, Some, None, is_some, is_ok, All, arith, ap, sym, refl, subst, eqb-true, length-drop, append_assoc}
+use Rattle.std.proofs.Common.{◌≡◌, ◌<◌, ◌≤◌, ◌+◌, ◌++◌, ◌==◌, ◌∷◌, [], ◌∙◌, ℕ, Bool, true, false, cond, List, take, length, get_or, drop, map, Option, Some, None, is_some, is_ok, arith, ap, sym, refl, eqb-true, length-drop, append_assoc}
 use Rattle.std.specs.Borrow.{Bor}
 use Rattle.std.specs.Option.{option_map}
 use Rattle.std.specs.Coded.{le_prop}
@@ -9,7 +9,6 @@ use Rattle.std.proofs.lemmas.List.{drop_more, take_more, map-append, append-nil}
 use Rattle.std.proofs.lemmas.List.Elements.{All-cons, All-append}
 use Rattle.std.proofs.lemmas.Int.{ints}
 use Rattle.lattice_core.specs.declared.turn.Turn.{Turn}
-use Rattle.lattice_core.specs.declared.vector.V3.{V3}
 use Rattle.lattice_core.specs.declared.placement.Placement.{Placement}
 use Rattle.lattice_core.specs.declared.limit.TheConstants.{COORD}
 use Rattle.lattice_core.specs.Limits.{IsWithin}

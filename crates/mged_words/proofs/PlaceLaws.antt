@@ -1,5 +1,5 @@
 -- Reading a placement of members.
-use Rattle.std.proofs.Common.{◌≡◌, ◌≢◌, ◌+◌, ◌∷◌, [], ◌==◌, ◌∙◌, ℕ, ℤ, Bool, true, false, cond, List, length, map, Option, Some, None, is_some, is_ok, Result, Ok, Err, ap, sym, refl, eq-eqb, ne_eqb}
+use Rattle.std.proofs.Common.{◌≡◌, ◌+◌, ◌∷◌, [], ◌==◌, ◌∙◌, ℕ, ℤ, Bool, true, false, cond, List, length, map, Option, Some, None, is_some, is_ok, Result, Err, ap, sym, refl, eq-eqb, ne_eqb}
 use Rattle.std.specs.Borrow.{Bor}
 use Rattle.std.specs.Option.{option_map}
 use Rattle.std.proofs.lemmas.Bool.{cond-true, cond-false}
@@ -7,12 +7,11 @@ use Rattle.std.proofs.lemmas.List.{length-map}
 use Rattle.lattice_core.specs.declared.placement.Placement.{Placement}
 use Rattle.name_core.specs.NameText.{read_name}
 use Rattle.command_set.specs.declared.command.Command.{Command}
-use Rattle.command_set.specs.declared.command.Command.TheVariants.{Bad, Edit}
-use Rattle.command_set.specs.declared.command.Edit.TheVariants.{Place}
+use Rattle.command_set.specs.declared.command.Command.TheVariants.{Bad}
 use Rattle.command_set.specs.declared.refusal.Refusal.{Refusal}
-use Rattle.command_set.specs.declared.refusal.Refusal.TheVariants.{Syntax, Name, Number}
+use Rattle.command_set.specs.declared.refusal.Refusal.TheVariants.{Syntax, Number}
 use Rattle.mged_words.specs.Matrices.{all_numbers, placement_in, placement_of_all, placement_read}
-use Rattle.mged_words.specs.Commands.{name_fault, names_fault, number_fault, group_fault, matrix_fault, placement_or, placement_given, placed_command, sixteen_command, unless_refused, view_number}
+use Rattle.mged_words.specs.Commands.{name_fault, names_fault, number_fault, matrix_fault, placement_or, placement_given, placed_command, sixteen_command, unless_refused, view_number}
 use Rattle.mged_words.proofs.ListLaws.{unnamed}
 use Rattle.mged_words.proofs.CommandLaws.{bad_first, bad_rest, good_first}
 use Rattle.mged_words.proofs.MatrixLaws.{all_there}

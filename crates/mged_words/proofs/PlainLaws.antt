@@ -1,5 +1,5 @@
 -- The command of a line has names and refusals that stand on one line.
-use Rattle.std.proofs.Common.{zero, suc, get_or, ◌/◌, ◌%◌, nat_lt, is_some, is_none, ◌≡◌, ◌<◌, ◌≤◌, ◌+◌, ◌++◌, ◌^◌, ◌==◌, ◌&&◌, ℕ, ℤ, Bool, true, false, cond, List, [], ◌∷◌, All, Option, Some, None, Result, Ok, Err, is_ok, length, map, codes, decimal, bytes_eq, refl, sym, subst, arith, true≢false, eqb-true}
+use Rattle.std.proofs.Common.{zero, suc, get_or, ◌/◌, ◌%◌, nat_lt, is_some, is_none, ◌≡◌, ◌<◌, ◌≤◌, ◌+◌, ◌++◌, ◌==◌, ◌&&◌, ℕ, ℤ, Bool, true, false, cond, List, [], ◌∷◌, All, Option, Some, None, Result, Ok, Err, is_ok, length, map, codes, decimal, bytes_eq, refl, sym, subst, arith, true≢false}
 use Rattle.std.proofs.lemmas.Bool.{and_parts, leb-true}
 use Rattle.std.proofs.lemmas.Int.{ints}
 use Rattle.std.specs.Int.RustNames.{unsigned_abs}
@@ -24,7 +24,6 @@ use Rattle.plane_geom.specs.declared.fault.ShapeFault.{ShapeFault}
 use Rattle.plane_geom.specs.declared.fault.ShapeFault.TheVariants.{Flat, NotPlanar, NotConvex, Radius, ZeroNormal}
 use Rattle.solid_set.specs.declared.solid.Solid.{Solid}
 use Rattle.mged_words.specs.declared.solid.SolidKind.{SolidKind}
-use Rattle.mged_words.specs.declared.solid.SolidKind.TheVariants.{Half, Rpp, Arb8, Sphere}
 use Rattle.mged_words.specs.Solids.{kind_of, number_count, solid_made, vector_at}
 use Rattle.command_set.specs.Refusals.{shape_text}
 use Rattle.command_set.specs.declared.refusal.ViewFault.TheVariants.{World}

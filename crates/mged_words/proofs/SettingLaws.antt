@@ -1,5 +1,5 @@
 -- Keys and values of attributes.
-use Rattle.std.proofs.Common.{◌≡◌, ◌↔◌, ◌∙◌, ℕ, Bool, true, false, List, codes, bytes_eq, Option, Some, None, is_none, Result, Ok, Err, is_ok, IfOk, IsTrue, ap, sym, refl, subst}
+use Rattle.std.proofs.Common.{◌≡◌, ◌↔◌, ◌∙◌, ℕ, Bool, true, false, List, codes, bytes_eq, Option, Some, None, is_none, Result, Ok, Err, is_ok, IfOk, IsTrue, ap, sym, refl}
 use Rattle.std.specs.Option.{IsNone}
 use Rattle.std.specs.Result.{IsOk}
 use Rattle.std.proofs.lemmas.Bool.{cond-false}

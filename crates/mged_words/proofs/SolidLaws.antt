@@ -1,5 +1,5 @@
 -- Solids that are made of numbers.
-use Rattle.std.proofs.Common.{◌≡◌, ◌∙◌, ℕ, ℤ, List, [], ◌∷◌, Result, Ok, Err, sym, ap, arith, All}
+use Rattle.std.proofs.Common.{◌≡◌, ◌∙◌, ℤ, List, [], ◌∷◌, Result, Ok, Err, sym, ap, arith, All}
 use Rattle.std.proofs.lemmas.List.Elements.{All-cons}
 use Rattle.lattice_core.specs.declared.vector.V3.{V3}
 use Rattle.plane_geom.specs.declared.fault.ShapeFault.{ShapeFault}

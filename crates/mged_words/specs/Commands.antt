@@ -1,6 +1,6 @@
 -- Which command a line is, or the refusal that it is answered as it stands. All of a line's form is looked at first, then
 -- its names, its numbers, the ray, and the solid.
-use Rattle.std.specs.Prelude.{ℕ, ℤ, Bool, true, false, ◌&&◌, ◌==◌, ◌+◌, ◌-◌, List, [], ◌∷◌, Option, Some, None, Result, Ok, Err, is_ok, is_some, is_none, map, length, codes, bytes_eq, nat_le, unwrap_or, if◌then◌else◌}
+use Rattle.std.specs.Prelude.{ℕ, ℤ, Bool, ◌&&◌, ◌==◌, ◌+◌, ◌-◌, List, [], ◌∷◌, Option, Some, None, Result, Ok, Err, is_ok, is_some, is_none, map, length, codes, bytes_eq, nat_le, unwrap_or, if◌then◌else◌}
 use Rattle.std.specs.List.{slice_range}
 use Rattle.std.specs.Option.{option_map}
 use Rattle.std.specs.Int.RustNames.{unsigned_abs}

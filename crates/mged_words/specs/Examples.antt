@@ -1,5 +1,5 @@
 -- Small scripts and lines, and what the definitions make of them.
-use Rattle.std.specs.Prelude.{◌≡◌, refl, ℕ, pos, List, [], ◌∷◌, Ok, Err, codes, replicate}
+use Rattle.std.specs.Prelude.{◌≡◌, refl, pos, [], ◌∷◌, Ok, Err, codes}
 use Rattle.lattice_core.specs.declared.ray.Dir.TheVariants.{MinusX}
 use Rattle.plane_geom.specs.declared.fault.ShapeFault.TheVariants.{Flat, NotPlanar, NotConvex, Radius, ZeroNormal}
 use Rattle.tree_forms.specs.declared.Op.TheVariants.{U, Minus}
@@ -10,7 +10,7 @@ use Rattle.command_set.specs.declared.command.Edit.TheVariants.{Make, Region, Gr
 use Rattle.command_set.specs.declared.command.Query.TheVariants.{Names, Shot}
 use Rattle.command_set.specs.declared.refusal.Refusal.TheVariants.{Syntax, Name, Number, View, Shape}
 use Rattle.command_set.specs.declared.refusal.ViewFault.TheVariants.{World}
-use Rattle.mged_words.specs.declared.script.ScriptFlaw.TheVariants.{Size, Session}
+use Rattle.mged_words.specs.declared.script.ScriptFlaw.TheVariants.{Session}
 use Rattle.mged_words.specs.Commands.{command_of, entry_of, ray_of, solid_object}
 use Rattle.mged_words.specs.Matrices.{identity}
 use Rattle.mged_words.specs.Scripts.{script_of}

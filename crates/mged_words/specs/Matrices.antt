@@ -1,5 +1,5 @@
 -- The placement that sixteen numbers are the matrix of, given row by row.
-use Rattle.std.specs.Prelude.{◌≡◌, ◌+◌, ◌==◌, ◌&&◌, ℕ, ℤ, pos, negsuc, Bool, true, false, refl, nat_lt, nat_le, List, [], ◌∷◌, length, find, Option, Some, None, if◌then◌else◌}
+use Rattle.std.specs.Prelude.{◌≡◌, ◌+◌, ◌==◌, ◌&&◌, ℕ, ℤ, pos, Bool, true, false, refl, nat_lt, nat_le, List, [], ◌∷◌, length, find, Option, Some, None, if◌then◌else◌}
 use Rattle.std.specs.List.{range_with_len}
 use Rattle.std.specs.Option.{option_map}
 use Rattle.std.specs.Ordering.{int_eq}

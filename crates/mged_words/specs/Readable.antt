@@ -1,6 +1,6 @@
 -- Commands of which each answer stands on lines of its own, and is told from want of memory. A ray starts in the
 -- world.
-use Rattle.std.specs.Prelude.{◌≡◌, ℕ, List, bytes_eq, codes, false}
+use Rattle.std.specs.Prelude.{◌≡◌, List, bytes_eq, codes, false}
 use Rattle.std.specs.List.{AllByRecursion}
 use Rattle.lattice_core.specs.declared.ray.Ray.{Ray}
 use Rattle.lattice_core.specs.declared.limit.TheConstants.{WORLD}

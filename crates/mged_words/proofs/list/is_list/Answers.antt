@@ -1,4 +1,4 @@
-use Rattle.std.proofs.Common.{◌≡◌, ◌≤◌, ◌+◌, ◌∙◌, ℕ, List, [], Option, None, length, is_some, sym, arith}
+use Rattle.std.proofs.Common.{◌∙◌, ℕ, List, [], sym, arith}
 use Rattle.std.specs.Borrow.{Bor}
 use Rattle.mged_words.proofs.ListLaws.{known_operator, unknown_operator, some_operator, none_operator, last_left}
 use Rattle.mged_words.proofs.list.is_list.Goals as goal

@@ -1,9 +1,9 @@
-use Rattle.std.proofs.Common.{rules, ◌≡◌, ◌<◌, ◌+◌, ◌++◌, ◌∷◌, ◌∙◌, ℕ, List, [], Option, Some, None, length, arith, ap, sym, subst, drop, map}
+use Rattle.std.proofs.Common.{rules, ◌≡◌, ◌+◌, ◌++◌, ◌∷◌, ◌∙◌, ℕ, List, [], Option, arith, ap, sym, subst, drop, map}
 use Rattle.std.specs.Borrow.{Bor}
 use Rattle.std.specs.Option.{option_map}
 use Rattle.comb_tree.specs.declared.node.ListEntry.{ListEntry}
 use Rattle.command_set.specs.Lawful.{AreNear}
-use Rattle.mged_words.specs.Commands.{entries_of, members_fault, entry_of}
+use Rattle.mged_words.specs.Commands.{entries_of, entry_of}
 use Rattle.mged_words.proofs.ListLaws.{known_operator, entries_more, entries_end, fault_more, fault_found, fault_end, near_more, all_left}
 use Rattle.mged_words.proofs.CommandLaws.{fault_refused}
 use Rattle.mged_words.proofs.list.read_entries.Goals as goal

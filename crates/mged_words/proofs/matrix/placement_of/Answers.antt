@@ -1,4 +1,4 @@
-use Rattle.std.proofs.Common.{◌∙◌, ap, sym, subst, ◌↔◌}
+use Rattle.std.proofs.Common.{◌∙◌, sym, subst, ◌↔◌}
 use Rattle.std.specs.Option.{IsSome}
 use Rattle.lattice_core.specs.declared.placement.Placement.{Placement}
 use Rattle.std.specs.Prelude.{Option}

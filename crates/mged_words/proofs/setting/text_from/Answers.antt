@@ -1,4 +1,4 @@
-use Rattle.std.proofs.Common.{arith, ◌<◌, length}
+use Rattle.std.proofs.Common.{arith}
 use Rattle.mged_words.proofs.TokenLaws.{last_behind, last_within}
 use Rattle.mged_words.proofs.setting.text_from.Goals as goal
 

@@ -1,6 +1,6 @@
 -- What the calls on a directory answer, in the words of the edits.
-use Rattle.std.proofs.Common.{◌≡◌, ◌≤◌, ◌<◌, ◌∙◌, ℕ, List, [], ◌∷◌, ◌++◌, length, Bool, true, false, not, Option, Some, None, IsSome, Result, Ok, Err, inl, inr, refl, ap, sym, subst, arith, Bor}
-use Rattle.std.specs.Prelude.{◌≢◌, ◌⊎◌, ◌&&◌, nat_le, nat_lt, is_some, is_none, unwrap_or}
+use Rattle.std.proofs.Common.{◌≡◌, ◌≤◌, ◌∙◌, ℕ, List, [], ◌∷◌, ◌++◌, length, Bool, true, false, not, Option, Some, None, IsSome, Result, Ok, Err, inl, inr, refl, ap, sym, subst, arith, Bor}
+use Rattle.std.specs.Prelude.{◌≢◌, ◌⊎◌, ◌&&◌, nat_le, nat_lt, is_some, is_none}
 use Rattle.std.specs.Option.{option_map, option_copied}
 use Rattle.std.specs.List.{Contains, IsDistinct}
 use Rattle.std.specs.Map.{keys_of}
@@ -30,10 +30,10 @@ use Rattle.directory.proofs.WalkLemmas.{same_or_apart}
 use Rattle.directory.proofs.EditLemmas.{same_away, IsWithin, within_sound, replace_there, replace_other, length-replaced}
 use Rattle.directory.proofs.TellLemmas.{judged_cycle, judged_deep, replace_rest}
 use Rattle.edit_core.specs.ListForms.{list_of}
-use Rattle.edit_core.specs.Edits.{object_at, own_list, change_object, set_object, extended, tree_at, made}
+use Rattle.edit_core.specs.Edits.{object_at, own_list, set_object, extended, tree_at, made}
 use Rattle.edit_core.specs.Refused.{first_refusal, when, is_solid, over_members, full, too_deep, of_judgement, refusal_of, unless, edited}
 use Rattle.edit_core.specs.Outcomes.{IsApplied, Tells}
-use Rattle.edit_core.specs.Steps.{directory_refusal, directory_answer, IsEarly, IsCause, Answers, list_or_empty, names_in, IsLess, remove_refusal, place_refusal, extension, new_attr, change_of_attr, extension_refusal, set_refusal, with_object, Changes, Exchanges, Becomes}
+use Rattle.edit_core.specs.Steps.{directory_refusal, directory_answer, Answers, list_or_empty, names_in, IsLess, remove_refusal, place_refusal, extension, new_attr, change_of_attr, extension_refusal, set_refusal, with_object, Changes, Exchanges, Becomes}
 
 pub same_listing : (a b : Listing) → a.title ≡ b.title → a.objects ≡ b.objects → a ≡ b
 same_listing a b t o =

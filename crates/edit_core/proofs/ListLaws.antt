@@ -1,5 +1,5 @@
 -- The list that is read off a tree is the tree's list, and each tree that a list gives has it.
-use Rattle.std.proofs.Common.{◌≡◌, List, [], ◌∷◌, ◌++◌, Option, Some, None, Bool, true, false, cond, refl, ap, sym, ◌∙◌, append_assoc, subst}
+use Rattle.std.proofs.Common.{◌≡◌, List, [], ◌∷◌, ◌++◌, Option, Some, None, false, cond, refl, ap, sym, ◌∙◌, append_assoc, subst}
 use Rattle.std.proofs.lemmas.List.{append-nil}
 use Rattle.tree_forms.specs.declared.Op.{Op}
 use Rattle.tree_forms.specs.declared.Op.TheVariants.{U, N, Minus}

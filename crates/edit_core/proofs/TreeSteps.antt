@@ -1,6 +1,6 @@
 -- What the calls on trees answer, in the words of the edits.
 use Rattle.std.proofs.Common.{◌≡◌, ◌≤◌, ◌<◌, ◌+◌, ◌∙◌, ℕ, zero, suc, List, [], ◌∷◌, ◌++◌, length, map, filter, Bool, true, false, not, cond, Option, Some, None, Result, Ok, Err, inl, inr, All, refl, ap, sym, subst, arith}
-use Rattle.std.specs.Prelude.{◌||◌, nat_lt, nat_eq, is_none, unwrap_or}
+use Rattle.std.specs.Prelude.{◌||◌, is_none, unwrap_or}
 use Rattle.std.specs.Option.{option_map}
 use Rattle.std.specs.List.{Contains, list_any}
 use Rattle.std.proofs.lemmas.List.{length-map, get_or-map, map-append}
@@ -16,16 +16,16 @@ use Rattle.comb_tree.specs.declared.node.ListEntry.{ListEntry}
 use Rattle.comb_tree.specs.declared.fault.TreeFault.{TreeFault}
 use Rattle.comb_tree.specs.declared.fault.TreeFault.TheVariants as fault
 use Rattle.comb_tree.specs.Nodes.{Comb, Member, members}
-use Rattle.comb_tree.specs.Lists.{member, tree_of_list, from_u, HasListForm, HasList}
+use Rattle.comb_tree.specs.Lists.{member, tree_of_list, HasListForm, HasList}
 use Rattle.comb_tree.specs.Changes.{map_members, placed, stays, without, is_among, first_absent, first_lost_head}
-use Rattle.comb_tree.specs.Outcomes.{IsTreeOfList, IsAppended, IsRemoved}
+use Rattle.comb_tree.specs.Outcomes.{IsAppended, IsRemoved}
 use Rattle.comb_tree.proofs.Written.{members_of_list}
 use Rattle.command_set.specs.Lawful.{AreNear}
 use Rattle.command_set.specs.declared.refusal.Refusal.{Refusal}
-use Rattle.command_set.specs.declared.refusal.Refusal.TheVariants.{NotList, Absent, Heads, Members, Memory}
+use Rattle.command_set.specs.declared.refusal.Refusal.TheVariants.{NotList, Absent, Heads, Members}
 use Rattle.edit_core.specs.ListForms.{list_of}
 use Rattle.edit_core.specs.Refused.{first_refusal, when, over_members}
-use Rattle.edit_core.specs.Steps.{tree_refusal, tree_answer, Answers, list_or_empty, names_in, IsLawful, IsTree, IsLess, append_refusal, remove_refusal, place_refusal}
+use Rattle.edit_core.specs.Steps.{tree_answer, Answers, list_or_empty, names_in, IsLawful, IsTree, IsLess, append_refusal, remove_refusal, place_refusal}
 use Rattle.edit_core.proofs.ListLaws.{list_is, list_back}
 
 abbrev pub Near : Member → Type 0

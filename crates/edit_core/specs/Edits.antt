@@ -1,7 +1,6 @@
 -- What an edit makes of a directory.
-use Rattle.std.specs.Prelude.{ℕ, List, [], ◌∷◌, ◌++◌, Bool, true, cond, Option, None, Some, is_some, unwrap_or, Result, Ok, Err}
+use Rattle.std.specs.Prelude.{List, [], ◌++◌, true, cond, Option, None, Some, is_some, unwrap_or, Result, Ok, Err}
 use Rattle.name_core.specs.declared.name.Name.{Name}
-use Rattle.lattice_core.specs.declared.placement.Placement.{Placement}
 use Rattle.region_attr.specs.declared.attr.Attr.{Attr}
 use Rattle.region_attr.specs.declared.attr.AttrFault.{AttrFault}
 use Rattle.region_attr.specs.Attrs.{region_attr, group_attr, set_attr}
@@ -9,7 +8,6 @@ use Rattle.comb_tree.specs.declared.node.ListEntry.{ListEntry}
 use Rattle.comb_tree.specs.Nodes.{Comb as Tree}
 use Rattle.comb_tree.specs.Lists.{tree_of_list}
 use Rattle.comb_tree.specs.Changes.{map_members, placed, without, is_among}
-use Rattle.object_set.specs.declared.kept.KeptAttr.{KeptAttr}
 use Rattle.object_set.specs.declared.object.Body.{Body}
 use Rattle.object_set.specs.declared.object.Body.TheVariants.{Solid, Comb}
 use Rattle.object_set.specs.Objects.{Parts}

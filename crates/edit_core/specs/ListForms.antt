@@ -1,6 +1,5 @@
 -- The list of a tree, read off the tree.
 use Rattle.std.specs.Prelude.{List, [], ◌∷◌, ◌++◌, Option, Some, None}
-use Rattle.std.specs.Option.{option_map}
 use Rattle.tree_forms.specs.declared.Op.{Op}
 use Rattle.tree_forms.specs.declared.Op.TheVariants.{U, N, Minus}
 use Rattle.tree_forms.specs.Trees.{Tree, Leaf, Join}

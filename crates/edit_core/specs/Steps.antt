@@ -1,5 +1,5 @@
 -- The words of the code: an edit step by step.
-use Rattle.std.specs.Prelude.{◌≡◌, ◌≤◌, ◌⊎◌, ℕ, List, [], ◌∷◌, ◌++◌, length, map, Bool, true, false, not, ◌&&◌, nat_le, Option, None, Some, IsSome, is_some, is_none, unwrap_or, Result, Ok, Err}
+use Rattle.std.specs.Prelude.{◌≡◌, ◌≤◌, ◌⊎◌, List, [], ◌∷◌, ◌++◌, length, map, Bool, true, false, not, ◌&&◌, nat_le, Option, None, Some, IsSome, is_some, is_none, unwrap_or, Result, Ok, Err}
 use Rattle.std.specs.Option.{option_map}
 use Rattle.std.specs.List.{All, Contains, list_any}
 use Rattle.name_core.specs.declared.name.Name.{Name}

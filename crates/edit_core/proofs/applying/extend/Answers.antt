@@ -1,9 +1,3 @@
-use Rattle.std.proofs.Common.{rules, ◌≡◌, find, not, ℕ, ◌+◌, ◌-◌, ◌*◌, ◌<◌, ◌≤◌, length, ◌/◌, ◌%◌, Bool, true, false, nat_eq, nat_lt, List, [], ◌∷◌, ◌++◌, slice_index_or, slice_set, bit_and, bit_or, Fits, w8, w32, w64, Bor, MutBor}
-use Rattle.command_set.specs.declared.command.Edit.TheVariants.{Make, Remove, Kill, RenameAll, Place, Title, Keep, Set}
-use Rattle.edit_core.specs.Edits.{made}
-use Rattle.edit_core.specs.Refused.{is_there}
-use Rattle.edit_core.specs.Outcomes.{IsApplied, Tells}
-use Rattle.edit_core.specs.Steps.{extension}
 use Rattle.edit_core.proofs.Answered.{extension_applied, extension_tells}
 use Rattle.edit_core.proofs.applying.extend.Goals as goal
 

@@ -1,10 +1,7 @@
-use Rattle.std.proofs.Common.{rules, ◌≡◌, find, not, ℕ, ◌+◌, ◌-◌, ◌*◌, ◌<◌, ◌≤◌, length, ◌/◌, ◌%◌, Bool, true, false, nat_eq, nat_lt, List, [], ◌∷◌, ◌++◌, slice_index_or, slice_set, bit_and, bit_or, Fits, w8, w32, w64, Bor, MutBor}
-use Rattle.command_set.specs.declared.command.Edit.TheVariants.{Make, Remove, Kill, RenameAll, Place, Title, Keep, Set}
-use Rattle.edit_core.specs.Edits.{made}
-use Rattle.edit_core.specs.Refused.{is_there}
+use Rattle.std.proofs.Common.{◌≡◌}
+use Rattle.command_set.specs.declared.command.Edit.TheVariants.{Make}
 use Rattle.edit_core.specs.Outcomes.{IsApplied, Tells}
-use Rattle.edit_core.specs.Steps.{extension}
-use Rattle.std.proofs.Common.{subst, sym, refl, ap, Result}
+use Rattle.std.proofs.Common.{subst, sym, refl, Result}
 use Rattle.object_set.specs.Objects.{Parts}
 use Rattle.command_set.specs.declared.refusal.Refusal.{Refusal}
 use Rattle.directory.specs.Edits.{appended, put_fault, Follows}

@@ -2,7 +2,6 @@ use Rattle.std.proofs.Common.{◌≡◌, true, false, subst, sym, ◌∙◌, Res
 use Rattle.std.specs.Prelude.{is_some}
 use Rattle.command_set.specs.declared.refusal.Refusal.{Refusal}
 use Rattle.directory.specs.Walks.{object_of}
-use Rattle.directory.specs.Edits.{appended, replaced}
 use Rattle.edit_core.specs.Edits.{set_object}
 use Rattle.edit_core.specs.Outcomes.{Tells}
 use Rattle.edit_core.specs.Steps.{Becomes, set_refusal}

@@ -1,13 +1,4 @@
-use Rattle.std.proofs.Common.{rules, ◌≡◌, ◌≤◌, IfOk, IsSome, Some, ℕ, ◌+◌, ◌-◌, ◌*◌, ◌<◌, length, ◌/◌, ◌%◌, Bool, true, false, nat_eq, nat_lt, List, [], ◌∷◌, ◌++◌, slice_index_or, slice_set, bit_and, bit_or, Fits, w8, w32, w64, Bor, MutBor}
-use Rattle.std.specs.List.{Contains}
-use Rattle.name_core.specs.declared.name.Name.{Name}
-use Rattle.region_attr.specs.Ranges.{HasRanges}
-use Rattle.object_set.specs.Keeping.{kept_after}
-use Rattle.command_set.specs.declared.command.Edit.TheVariants.{Remove, Place, Keep, Set}
-use Rattle.directory.specs.Walks.{members_of, comb_weight}
-use Rattle.edit_core.specs.Edits.{object_at, setting_attr}
-use Rattle.edit_core.specs.Refused.{refusal_of}
-use Rattle.edit_core.specs.Steps.{Answers, Changes, Exchanges}
+use Rattle.edit_core.specs.Steps.{Exchanges}
 use Rattle.std.proofs.Common.{subst, sym, Result}
 use Rattle.command_set.specs.declared.refusal.Refusal.{Refusal}
 use Rattle.edit_core.proofs.Answered.{less_fault, exchanges}

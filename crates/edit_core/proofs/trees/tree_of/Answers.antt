@@ -1,10 +1,7 @@
-use Rattle.std.proofs.Common.{rules, ◌∷◌, [], ◌++◌, length, ◌≡◌, ℕ, ◌+◌, ◌-◌, ◌*◌, ◌<◌, ◌≤◌, ◌/◌, ◌%◌, Bool, true, false, nat_eq, nat_lt, List, slice_index_or, slice_set, bit_and, bit_or, Fits, w8, w32, w64, Bor, MutBor}
+use Rattle.std.proofs.Common.{length, ◌≡◌, ◌≤◌, List}
 use Rattle.comb_tree.specs.Lists.{tree_of_list}
-use Rattle.comb_tree.specs.Changes.{map_members, placed, without, is_among}
-use Rattle.edit_core.specs.Refused.{first_refusal, over_members}
-use Rattle.edit_core.specs.Steps.{Answers, list_or_empty, IsLawful, IsTree, IsLess, append_refusal, remove_refusal, place_refusal}
-use Rattle.edit_core.proofs.TreeSteps.{append_answers, remove_answers, placed_fits, place_absent, place_there, made_tree, few_only}
-use Rattle.std.proofs.Common.{subst, ap, sym, ◌∙◌, List}
+use Rattle.edit_core.proofs.TreeSteps.{made_tree, few_only}
+use Rattle.std.proofs.Common.{subst, ap, ◌∙◌, List}
 use Rattle.comb_tree.specs.declared.node.ListEntry.{ListEntry}
 use Rattle.command_set.specs.Lawful.{AreNear}
 use Rattle.edit_core.proofs.trees.tree_of.Goals as goal

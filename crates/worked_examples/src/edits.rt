@@ -39,7 +39,7 @@ fn check_accepted(
 }
 
 #[test]
-fn edits_are_refused(rt: HostRuntime) -> Result<(), Fail> {
+fn edits_look_names_up(rt: HostRuntime) -> Result<(), Fail> {
     let table = [
         // The name that is to be new is there.
         ("a solid of that name", "in s sph 0 0 0 5", "exists s"),
@@ -85,6 +85,16 @@ fn edits_are_refused(rt: HostRuntime) -> Result<(), Fail> {
         ),
         ("shot at nothing", "nirt 0 0 0 +x z", "missing z"),
         ("shot at a dangling name", "nirt 0 0 0 +x x", "missing x"),
+    ];
+    for (name, line, refusal) in table {
+        check_refused(&rt, name, line, refusal)?;
+    }
+    Ok(())
+}
+
+#[test]
+fn edits_look_at_members(rt: HostRuntime) -> Result<(), Fail> {
+    let table = [
         // A solid where a combination is wanted.
         ("region of a solid", "r s u t", "not-comb s"),
         ("group of a solid", "g s t", "not-comb s"),
@@ -137,7 +147,16 @@ fn edits_are_refused(rt: HostRuntime) -> Result<(), Fail> {
         ("head of the second product", "rm c x", "heads x"),
         ("head beside a tail", "rm c x t", "heads x"),
         ("the first head in the list", "rm c x s", "heads s"),
-        // Cycles.
+    ];
+    for (name, line, refusal) in table {
+        check_refused(&rt, name, line, refusal)?;
+    }
+    Ok(())
+}
+
+#[test]
+fn edits_make_no_cycle(rt: HostRuntime) -> Result<(), Fail> {
+    let table = [
         ("member of itself", "g a a", "cycle a"),
         ("region of itself", "r a u s - a", "cycle a"),
         ("longer by itself", "g c c", "cycle c"),
@@ -153,10 +172,10 @@ fn edits_are_refused(rt: HostRuntime) -> Result<(), Fail> {
     Ok(())
 }
 
+/// Too few or too many words, unknown operators, and groups.
 #[test]
-fn lines_of_edits_are_refused(rt: HostRuntime) -> Result<(), Fail> {
+fn lists_have_their_form(rt: HostRuntime) -> Result<(), Fail> {
     let table = [
-        // Too few or too many words, unknown operators and keys, and groups.
         ("region alone", "r", "syntax"),
         ("region of nothing", "r a", "syntax"),
         ("operator alone", "r a u", "syntax"),
@@ -179,6 +198,17 @@ fn lines_of_edits_are_refused(rt: HostRuntime) -> Result<(), Fail> {
         ("renaming alone", "mvall", "syntax"),
         ("renaming to nothing", "mvall s", "syntax"),
         ("renaming to two", "mvall s a b", "syntax"),
+    ];
+    for (name, line, refusal) in table {
+        check_refused(&rt, name, line, refusal)?;
+    }
+    Ok(())
+}
+
+/// Too few or too many words, unknown keys, and groups.
+#[test]
+fn matrices_and_settings_have_their_form(rt: HostRuntime) -> Result<(), Fail> {
+    let table = [
         ("placing alone", "place", "syntax"),
         ("placing nothing", "place c", "syntax"),
         ("placing nowhere", "place c s", "syntax"),
@@ -218,7 +248,16 @@ fn lines_of_edits_are_refused(rt: HostRuntime) -> Result<(), Fail> {
         ("names of some", "ls s", "syntax"),
         ("listing in capitals", "LS", "syntax"),
         ("two names in a shot", "nirt 0 0 0 +x s t", "syntax"),
-        // What stands under all lines that aren't read yet.
+    ];
+    for (name, line, refusal) in table {
+        check_refused(&rt, name, line, refusal)?;
+    }
+    Ok(())
+}
+
+#[test]
+fn some_lines_are_not_read_yet(rt: HostRuntime) -> Result<(), Fail> {
+    let table = [
         ("objects are not printed yet", "l c", "syntax"),
         ("trees are not printed yet", "tree c", "syntax"),
         ("objects are not put yet", "put a comb tree {l s}", "syntax"),
@@ -229,6 +268,16 @@ fn lines_of_edits_are_refused(rt: HostRuntime) -> Result<(), Fail> {
         ),
         ("no title yet", "title {Cup}", "syntax"),
         ("nothing is saved yet", "save a.asc", "syntax"),
+    ];
+    for (name, line, refusal) in table {
+        check_refused(&rt, name, line, refusal)?;
+    }
+    Ok(())
+}
+
+#[test]
+fn lines_have_names(rt: HostRuntime) -> Result<(), Fail> {
+    let table = [
         // The form of a line before its names.
         ("operator before a name", "r a/ x s", "syntax"),
         ("number of words before a name", "mvall s/", "syntax"),
@@ -276,7 +325,16 @@ fn lines_of_edits_are_refused(rt: HostRuntime) -> Result<(), Fail> {
             "name 2",
         ),
         ("name before value", "cattr c/ id x", "name 2"),
-        // Matrices.
+    ];
+    for (name, line, refusal) in table {
+        check_refused(&rt, name, line, refusal)?;
+    }
+    Ok(())
+}
+
+#[test]
+fn matrices_are_placements(rt: HostRuntime) -> Result<(), Fail> {
+    let table = [
         (
             "last number",
             "place c s 1 0 0 0 0 1 0 0 0 0 1 0 0 0 0 x",
@@ -337,7 +395,16 @@ fn lines_of_edits_are_refused(rt: HostRuntime) -> Result<(), Fail> {
             "place c s 2 0 0 0 0 1 0 0 0 0 1 0 0 0 0 1.5",
             "number 19",
         ),
-        // Values of attributes.
+    ];
+    for (name, line, refusal) in table {
+        check_refused(&rt, name, line, refusal)?;
+    }
+    Ok(())
+}
+
+#[test]
+fn attributes_have_their_values(rt: HostRuntime) -> Result<(), Fail> {
+    let table = [
         ("no truth", "cattr c region maybe", "number 4"),
         ("two truths", "cattr c region yes no", "number 4"),
         ("truth with blanks", "cattr c region { yes }", "number 4"),
@@ -355,7 +422,16 @@ fn lines_of_edits_are_refused(rt: HostRuntime) -> Result<(), Fail> {
         ("slashes with blanks", "cattr c rgb 1 / 2 / 3", "number 4"),
         ("comment after a value", "cattr c id 5 # five", "number 4"),
         ("empty value", "cattr c id {}", "number 4"),
-        // The line before the directory.
+    ];
+    for (name, line, refusal) in table {
+        check_refused(&rt, name, line, refusal)?;
+    }
+    Ok(())
+}
+
+#[test]
+fn lines_are_looked_at_before_the_directory(rt: HostRuntime) -> Result<(), Fail> {
+    let table = [
         ("name before missing", "rm z/ s", "name 2"),
         ("number before a solid", "cattr s id x", "number 4"),
         (

@@ -1,0 +1,5 @@
+pub mod BoxesAlike
+pub mod Boxing
+pub mod Between
+pub mod Landing
+pub mod Picking

@@ -57,7 +57,7 @@ hull_by a b P none one both =
         | inl more ↦ subst P (sym (cond-true (has_points a) _ (tidy b) some ∙ cond-true (has_points b) (hull_span a b) a more)) (both ((has_points_tells a).0 some) ((has_points_tells b).0 more))
         | inr bare ↦ subst P (sym (cond-true (has_points a) _ (tidy b) some ∙ cond-false (has_points b) (hull_span a b) a bare)) (one ((has_points_tells a).0 some) bare)
       ]
-      | inr bare ↦ subst P (sym (cond-false (has_points a) _ (tidy b) no)) (none no)
+      | inr bare ↦ subst P (sym (cond-false (has_points a) _ (tidy b) bare)) (none bare)
     ]
 
 pub are_hull_and_meet : AreHullAndMeet

@@ -74,3 +74,73 @@ in_the_plane_between_boxes : lit_of (single 1 0 (box (pos 0) (pos 10) (pos 0) (p
     ≡ lit 1 (whole 5) (whole 15) 1 1 255 ∷ []
 unfolding place_cmp
 in_the_plane_between_boxes = refl
+
+abbrev first_box : Instance
+first_box = box (pos 0) (pos 10) (pos 0) (pos 10) (pos 0) (pos 10)
+
+-- two boxes that touch are one partition
+touching_boxes : lit_of (region 1 0 (Join U (leaf 0) (leaf 1)) (first_box ∷ box (pos 10) (pos 20) (pos 0) (pos 10) (pos 0) (pos 10) ∷ []) ∷ []) (ray (negsuc 4) (pos 5) (pos 5))
+    ≡ lit 0 (whole 5) (whole 25) 0 1 255 ∷ []
+unfolding place_cmp
+touching_boxes = refl
+
+-- a box, united with a second one less a third
+union_less : lit_of (region 1 0 (Join U (leaf 0) (Join Minus (leaf 1) (leaf 2))) (first_box ∷ box (pos 20) (pos 30) (pos 0) (pos 10) (pos 0) (pos 10) ∷ box (pos 5) (pos 25) (pos 0) (pos 10) (pos 0) (pos 10) ∷ []) ∷ []) (ray (negsuc 4) (pos 5) (pos 5))
+    ≡ lit 0 (whole 5) (whole 15) 0 1 255 ∷ lit 0 (whole 30) (whole 35) 2 2 255 ∷ []
+unfolding place_cmp
+union_less = refl
+
+-- the same as two regions: the second one's instances are numbered after the first one's
+two_regions : lit_of (single 1 0 first_box ∷ region 2 0 (Join Minus (leaf 0) (leaf 1)) (box (pos 20) (pos 30) (pos 0) (pos 10) (pos 0) (pos 10) ∷ box (pos 5) (pos 25) (pos 0) (pos 10) (pos 0) (pos 10) ∷ []) ∷ []) (ray (negsuc 4) (pos 5) (pos 5))
+    ≡ lit 0 (whole 5) (whole 15) 0 1 255 ∷ lit 1 (whole 30) (whole 35) 2 2 255 ∷ []
+unfolding place_cmp
+two_regions = refl
+
+abbrev overlapping : ℕ → List Region
+overlapping air = single 1 air first_box ∷ single 2 0 (box (pos 5) (pos 15) (pos 0) (pos 10) (pos 0) (pos 10)) ∷ []
+
+overlapping_regions : lit_of (overlapping 0) (ray (negsuc 4) (pos 5) (pos 5)) ≡ lit 0 (whole 5) (whole 15) 0 1 255 ∷ lit 1 (whole 15) (whole 20) 0 2 255 ∷ []
+unfolding place_cmp
+overlapping_regions = refl
+
+their_overlap : overlaps_on (overlapping 0) (ray (negsuc 4) (pos 5) (pos 5)) ≡ record { one = 0; two = 1; start = whole 10; end = whole 15 } ∷ []
+unfolding place_cmp
+their_overlap = refl
+
+-- with air in the first one the second wins, and their overlap is not told
+beside_air : lit_of (overlapping 1) (ray (negsuc 4) (pos 5) (pos 5)) ≡ lit 0 (whole 5) (whole 10) 0 1 255 ∷ lit 1 (whole 10) (whole 20) 1 1 255 ∷ []
+unfolding place_cmp
+beside_air = refl
+
+no_overlap_with_air : overlaps_on (overlapping 1) (ray (negsuc 4) (pos 5) (pos 5)) ≡ []
+unfolding place_cmp
+no_overlap_with_air = refl
+
+-- the ray misses the second box's box
+one_box_met : met_count (single 1 0 first_box ∷ single 2 0 (box (pos 0) (pos 10) (pos 50) (pos 60) (pos 0) (pos 10)) ∷ []) (ray (negsuc 4) (pos 5) (pos 5)) ≡ 1
+one_box_met = refl
+
+-- missing members count for the size, and take no number of an instance
+sizes_and_numbers : size_of_all (region 1 0 (Join U (Leaf None) (leaf 0)) (first_box ∷ []) ∷ region 2 0 (Leaf None) [] ∷ single 3 0 first_box ∷ []) ≡ 4
+sizes_and_numbers = refl
+
+numbers_of_first_instances : firsts_from 0 (region 1 0 (Join U (Leaf None) (leaf 0)) (first_box ∷ []) ∷ region 2 0 (Leaf None) [] ∷ single 3 0 first_box ∷ []) ≡ 0 ∷ 1 ∷ 1 ∷ []
+numbers_of_first_instances = refl
+
+abbrev two_boxes : List Box3
+two_boxes = span (pos 0) (pos 10) (pos 0) (pos 10) (pos 0) (pos 10) ∷ span (pos 20) (pos 30) (pos 5) (pos 25) (pos 0) (pos 10) ∷ []
+
+box_of_a_union : tree_box two_boxes (Join U (leaf 0) (leaf 1)) ≡ span (pos 0) (pos 30) (pos 0) (pos 25) (pos 0) (pos 10)
+box_of_a_union = refl
+
+box_of_an_intersection : tree_box two_boxes (Join N (leaf 0) (leaf 1)) ≡ Empty
+box_of_an_intersection = refl
+
+box_of_a_difference : tree_box two_boxes (Join Minus (leaf 0) (leaf 1)) ≡ span (pos 0) (pos 10) (pos 0) (pos 10) (pos 0) (pos 10)
+box_of_a_difference = refl
+
+box_beside_a_missing_member : tree_box two_boxes (Join U (Leaf None) (leaf 1)) ≡ span (pos 20) (pos 30) (pos 5) (pos 25) (pos 0) (pos 10)
+box_beside_a_missing_member = refl
+
+box_of_a_missing_member : tree_box two_boxes (Leaf None) ≡ Empty
+box_of_a_missing_member = refl

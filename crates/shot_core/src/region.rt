@@ -39,7 +39,7 @@ impl Model for PrepRegion {
     ghost invariant = { λ s. IsPrepared s.tree (map instance_of s.solids.items) s.size s.bounds };
 }
 
-ghost use Rattle.std.specs.Prelude.{◌≡◌, ◌<◌, ◌^◌, length, filter, true, Bool};
+ghost use Rattle.std.specs.Prelude.{◌≡◌, ◌<◌, ◌^◌, length, filter};
 ghost use Rattle.shot_core.specs.Steps.{is_leaf};
 
 fn is_leaf(node: &MaskNode) -> bool
@@ -63,8 +63,7 @@ fn leaf_count(nodes: &[MaskNode]) -> u32
 }
 
 impl PrepRegion {
-    ghost use Rattle.std.specs.Prelude.{◌≡◌, ◌<◌, ◌^◌, IfOk, All, length, map, vec_len};
-    ghost use Rattle.solid_set.specs.Surfaces.{HoldsInside};
+    ghost use Rattle.std.specs.Prelude.{◌≡◌, ◌<◌, ◌^◌, IfOk, length, map, vec_len};
     ghost use Rattle.tree_forms.specs.Trees.{leaves};
     ghost use Rattle.shot_core.specs.Regions.{size_of, HasLeavesBelow};
     ghost use Rattle.shot_core.specs.Prepared.{instance_of, boxes_of};

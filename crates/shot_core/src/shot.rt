@@ -1,11 +1,10 @@
-ghost use Rattle.std.specs.Prelude.{◌≡◌, ◌<◌, IfOk, IfErr, All, length, map};
+ghost use Rattle.std.specs.Prelude.{◌≡◌, ◌<◌, ◌≤◌, IfOk, IfErr, All, length, map};
+ghost use Rattle.overlap_list.specs.declared.overlap.TheConstants.{MOST_PAIRS};
 ghost use Rattle.lattice_core.specs.declared.limit.TheConstants.{WORLD};
 ghost use Rattle.lattice_core.specs.Limits.{IsWithin};
-ghost use Rattle.bool_weave.specs.Claims.{intervals_of};
 ghost use Rattle.overlap_list.specs.Overlaps.{IsTooMany};
-ghost use Rattle.shot_core.specs.Regions.{instances_of};
 ghost use Rattle.shot_core.specs.MetBoxes.{met_count};
-ghost use Rattle.shot_core.specs.Shots.{woven_of, level_of_hit, lit_by, lit_of, overlaps_on};
+ghost use Rattle.shot_core.specs.Shots.{level_of_hit, lit_by, lit_of, overlaps_on};
 ghost use Rattle.shot_core.specs.Steps.{numbered_claims, HasRisen, IsHitOn, renumbered, renumbered_run};
 
 use crate::meet::weave_scene;
@@ -177,6 +176,7 @@ fn check_uncounted<L: Ledger>(
     requires some { 0 < blank.parts }
     requires origin { IsWithin WORLD ray.now.origin }
     ensures runs { IfOk result (λ v. v.items ≡ overlaps_on scene.now ray.now) }
+    ensures most { IfOk result (λ v. length v.items ≤ MOST_PAIRS) }
     ensures fault { IfErr result (IsTooMany (length (overlaps_on scene.now ray.now))) }
 {
     let mut steps: Steps<L> = Steps::new(blank);
@@ -199,6 +199,7 @@ fn check_uncounted<L: Ledger>(
 pub fn check_ray(alloc: Global, scene: &Scene, ray: &Ray) -> Result<Vec<OverlapRun>, CheckFault>
     requires { IsWithin WORLD ray.now.origin }
     ensures runs { IfOk result (λ v. v.items ≡ overlaps_on scene.now ray.now) }
+    ensures most { IfOk result (λ v. length v.items ≤ MOST_PAIRS) }
     ensures fault { IfErr result (IsTooMany (length (overlaps_on scene.now ray.now))) }
 {
     check_uncounted::<Brand>(Blank::new(1), alloc, scene, ray)

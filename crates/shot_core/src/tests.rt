@@ -79,7 +79,9 @@ fn placed_of(alloc: Global, shapes: &[Shape]) -> Result<Vec<Placed>, Fail> {
 type Row<'a> = (u32, &'a [MaskNode], &'a [Shape]);
 
 const ONE: &[MaskNode] = &[MaskNode::Leaf(0)];
+
 const LESS: &[MaskNode] = &[MaskNode::Leaf(0), MaskNode::Leaf(1), MaskNode::Minus];
+
 const BOTH: &[MaskNode] = &[MaskNode::Leaf(0), MaskNode::Leaf(1), MaskNode::U];
 
 fn body_of(alloc: Global, row: Row) -> Result<PrepRegion, Fail> {
@@ -147,6 +149,7 @@ fn check_shot(
 }
 
 const A: Shape = Shape::Rpp(0, 10, 0, 10, 0, 10);
+
 const BALL: Shape = Shape::Ball(0, 0, 0, 5);
 
 #[test]

@@ -77,11 +77,7 @@ fn run_on(alloc: Global, nodes: &[MaskNode], solids: &[Placed]) -> Result<Vec<Bo
 }
 
 /// The box of the tree of these nodes.
-pub(crate) fn tree_box(
-    alloc: Global,
-    nodes: &[MaskNode],
-    solids: &[Placed],
-) -> Result<Box3, Memory>
+pub(crate) fn tree_box(alloc: Global, nodes: &[MaskNode], solids: &[Placed]) -> Result<Box3, Memory>
     requires { IsMask nodes.now }
     ensures { IfOk result (λ b. b ≡ tree_box (boxes_of (map instance_of solids.now)) (mask_of nodes.now)) }
 {

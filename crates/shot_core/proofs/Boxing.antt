@@ -81,3 +81,13 @@ met_tells (Span xlo xhi ylo yhi zlo zhi) ray =
           let k = is.1 m in
           and_from _ _ ((tells xlo xhi ray.origin.x (unit_of ray.dir).x).1 k.0) (and_from _ _ ((tells ylo yhi ray.origin.y (unit_of ray.dir).y).1 k.1) ((tells zlo zhi ray.origin.z (unit_of ray.dir).z).1 k.2)),
     )
+
+same_bool : (a b : Bool) → (a ≡ true → b ≡ true) → (b ≡ true → a ≡ true) → a ≡ b
+same_bool true true f g = refl
+same_bool true false f g = sym (f refl)
+same_bool false true f g = g refl
+same_bool false false f g = refl
+
+-- what tells whether a ray meets a box is the test
+pub met_is : (b : Box3) (ray : Ray) (r : Bool) → (IsTrue r ↔ MeetsRay b ray) → r ≡ meets_ray b ray
+met_is b ray r is = same_bool r (meets_ray b ray) (λ h. (met_tells b ray).1 (is.0 h)) (λ h. is.1 ((met_tells b ray).0 h))

@@ -1,5 +1,5 @@
 -- Regions that were prepared, and the scene that they make.
-use Rattle.std.specs.Prelude.{◌≤◌, ◌<◌, ◌+◌, ◌==◌, ℕ, List, [], ◌∷◌, Bool, not, IfSome, All, AllPairs, length, map, flat_map}
+use Rattle.std.specs.Prelude.{◌≢◌, ◌≤◌, ◌<◌, ◌+◌, ◌==◌, ℕ, List, [], ◌∷◌, Bool, not, IfSome, All, AllPairs, length, map, flat_map}
 use Rattle.lattice_core.specs.declared.boxes.Box3.{Box3}
 use Rattle.region_attr.specs.declared.attr.Rgb.{Rgb}
 use Rattle.tree_forms.specs.Trees.{leaves}
@@ -20,6 +20,10 @@ pub record RegionBody : Type 0 where
   pub rgb : Rgb
   pub tree : Mask
   pub instances : List Instance
+
+-- a report prints a path on one line, so it has no line feed
+abbrev pub IsPathText : List ℕ → Type 0
+IsPathText path = All (λ byte. byte ≢ 10) path
 
 -- a body with its place in a scene and the path of names that leads to it
 pub record Region : Type 0 where

@@ -148,7 +148,7 @@ impl PrepRegion {
 }
 
 /// A region of a scene: its place, which is counted from 1, the path of names that leads to it, and what it is. Contracts
-/// see it as these three.
+/// see it as these three. The path has no line feed, since a report prints it on one line.
 #[derive(Debug, Drop)]
 pub struct SceneRegion {
     place: u32,
@@ -158,7 +158,7 @@ pub struct SceneRegion {
 
 impl Model for SceneRegion {
     ghost use Rattle.std.specs.Arc.{arc_value};
-    ghost use Rattle.shot_core.specs.Regions.{Region};
+    ghost use Rattle.shot_core.specs.Regions.{Region, IsPathText};
     ghost use Rattle.shot_core.specs.Prepared.{region_code};
 
     ghost Value = { Region };
@@ -166,14 +166,18 @@ impl Model for SceneRegion {
     ghost coded = { region_code };
 
     ghost view = { λ s. record { place = s.place; path = arc_value s.path; body = arc_value s.body } };
+
+    ghost invariant = { λ s. IsPathText (arc_value s.path) };
 }
 
 impl SceneRegion {
     ghost use Rattle.std.specs.Prelude.{◌≡◌};
     ghost use Rattle.std.specs.Arc.{arc_value};
+    ghost use Rattle.shot_core.specs.Regions.{IsPathText};
 
-    /// The region of that place.
+    /// The region of that place. Its path has no line feed.
     pub fn new(place: u32, path: Arc<PathText>, body: Arc<PrepRegion>) -> SceneRegion
+        requires { IsPathText (arc_value path) }
         ensures { result ≡ record { place = place; path = arc_value path; body = arc_value body } }
     {
         SceneRegion { place, path, body }
@@ -186,9 +190,10 @@ impl SceneRegion {
         self.place
     }
 
-    /// The path of names that leads to it.
+    /// The path of names that leads to it, which has no line feed.
     pub fn path(&self) -> &Arc<PathText>
-        ensures { arc_value result.now ≡ self.now.path }
+        ensures value { arc_value result.now ≡ self.now.path }
+        ensures line { IsPathText self.now.path }
     {
         &self.path
     }

@@ -5,3 +5,5 @@ pub mod Landing
 pub mod Nodes
 pub mod Numbering
 pub mod Picking
+pub mod Weaving
+pub mod Claiming

@@ -1,13 +1,13 @@
-ghost use Rattle.std.specs.Prelude.{◌≡◌, ◌<◌, ◌≤◌, ◌+◌, ◌++◌, ◌^◌, [], IfOk, All, length, map};
+ghost use Rattle.std.specs.Prelude.{◌≡◌, ◌<◌, ◌≤◌, ◌+◌, ◌++◌, ◌∷◌, ◌^◌, [], IfOk, All, cond, length, map};
 ghost use Rattle.std.specs.List.{list_any};
 ghost use Rattle.lattice_core.specs.declared.limit.TheConstants.{WORLD};
 ghost use Rattle.lattice_core.specs.Limits.{IsWithin};
 ghost use Rattle.solid_set.specs.Segments.{segment_of};
 ghost use Rattle.bool_weave.specs.declared.woven.Woven.{Woven};
 ghost use Rattle.shot_core.specs.declared.limit.TheConstants.{MOST_LEAVES};
-ghost use Rattle.shot_core.specs.Regions.{instances_of, firsts_from};
+ghost use Rattle.shot_core.specs.Regions.{instances_of, IsScene, HaveInstances};
 ghost use Rattle.shot_core.specs.Prepared.{instance_of};
-ghost use Rattle.shot_core.specs.MetBoxes.{meets_ray};
+ghost use Rattle.shot_core.specs.MetBoxes.{meets_ray, met_count};
 ghost use Rattle.shot_core.specs.Shots.{woven_if, woven_from};
 ghost use Rattle.shot_core.specs.Steps.{is_some, has_segment, hit_from, one_if, met_among, HasRisen};
 
@@ -71,6 +71,16 @@ fn weave_region<L: Ledger>(
     Ok(is_hit)
 }
 
+/// Adds the number of a region where it is hit.
+fn add_hit(hit: &mut Vec<u32>, number: u32, is_hit: bool) -> Result<(), Memory>
+    ensures { IfOk result (λ _. hit.new.items ≡ hit.old.items ++ cond is_hit (number ∷ []) []) }
+{
+    if is_hit {
+        hit.push(number)?;
+    }
+    Ok(())
+}
+
 /// Weaves in the segments of all instances of a scene, and answers the numbers of the regions that are hit.
 pub(crate) fn weave_scene<L: Ledger>(
     alloc: Global,
@@ -83,15 +93,16 @@ pub(crate) fn weave_scene<L: Ledger>(
     requires origin { IsWithin WORLD ray.now.origin }
     ensures woven { IfOk result (λ _. weave.new ≡ woven_from ray.now 0 (instances_of scene.now)) }
     ensures hit { IfOk result (λ hit. hit.items ≡ hit_from ray.now 0 scene.now) }
-    ensures steps { HasRisen (met_among ray.now (instances_of scene.now)) steps.old steps.new }
+    ensures steps { HasRisen (met_count scene.now ray.now) steps.old steps.new }
+    ensures sound { IsScene scene.now }
+    ensures leaves { HaveInstances scene.now }
 {
     let mut hit = Vec::new(alloc);
     let mut first = 0;
     for (i, region) in scene.regions().iter().enumerate() {
         let solids = region.body().solids();
-        if weave_region(weave, first, solids, ray, steps)? {
-            hit.push(i as u32)?;
-        }
+        let is_hit = weave_region(weave, first, solids, ray, steps)?;
+        add_hit(&mut hit, i as u32, is_hit)?;
         first += solids.len() as u32;
     }
     Ok(hit)

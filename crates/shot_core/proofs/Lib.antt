@@ -7,3 +7,5 @@ pub mod Numbering
 pub mod Picking
 pub mod Weaving
 pub mod Claiming
+pub mod PickingOverlaps
+pub mod Shooting

@@ -141,18 +141,14 @@ pub fn shoot<L: Ledger>(
     lit_by_all(alloc, scene, &numbers, &partitions, ray)
 }
 
-/// The overlap of two regions of a scene from one of two of the regions of these numbers.
-fn renumbered(numbers: &[u32], run: &OverlapRun) -> OverlapRun
-    requires one { run.now.one < length numbers.now }
-    requires two { run.now.two < length numbers.now }
-    ensures { result ≡ renumbered_run numbers.now run.now }
+/// Makes an overlap of two of the regions of these numbers one of two regions of the scene.
+fn renumber(numbers: &[u32], run: &mut OverlapRun)
+    requires one { run.old.one < length numbers.now }
+    requires two { run.old.two < length numbers.now }
+    ensures { run.new ≡ renumbered_run numbers.now run.old }
 {
-    OverlapRun {
-        one: numbers[run.one as usize],
-        two: numbers[run.two as usize],
-        start: run.start,
-        end: run.end,
-    }
+    run.one = numbers[run.one as usize];
+    run.two = numbers[run.two as usize];
 }
 
 fn renumber_all(numbers: &[u32], runs: &mut Vec<OverlapRun>)
@@ -160,7 +156,7 @@ fn renumber_all(numbers: &[u32], runs: &mut Vec<OverlapRun>)
     ensures { runs.new.items ≡ map (renumbered_run numbers.now) runs.old.items }
 {
     for run in runs.iter_mut() {
-        *run = renumbered(numbers, run);
+        renumber(numbers, run);
     }
 }
 

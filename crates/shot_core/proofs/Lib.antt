@@ -1,0 +1,11 @@
+pub mod BoxesAlike
+pub mod Boxing
+pub mod Between
+pub mod Landing
+pub mod Nodes
+pub mod Numbering
+pub mod Picking
+pub mod Weaving
+pub mod Claiming
+pub mod PickingOverlaps
+pub mod Shooting

@@ -1,0 +1,71 @@
+use Rattle.std.proofs.Common.{rules, ◌≡◌, ◌<◌, ◌∙◌, ℕ, List, [], ◌∷◌, All, length, map, ap, sym, subst, refl}
+use Rattle.std.proofs.lemmas.Result.{IfOk-weaker}
+use Rattle.bool_weave.specs.Claims.{intervals_of}
+use Rattle.overlap_list.specs.declared.region.RegionClaims.{RegionClaims}
+use Rattle.overlap_list.specs.declared.partition.Partition.{Partition}
+use Rattle.overlap_list.specs.Partitions.{partitions_of}
+use Rattle.shot_core.specs.Shots.{lit_by, lit_of}
+use Rattle.shot_core.specs.Steps.{numbered_claims, IsHitOn, renumbered}
+use Rattle.shot_core.proofs.Shooting.{empty_from, lit_none, lit_picked, rows, few, parts_within, hits_on, numbers_below}
+use Rattle.shot_core.proofs.shot.shoot.Goals as goal
+
+pub returns-then-is_empty-clause-lit : goal.returns-then-is_empty-clause-lit
+returns-then-is_empty-clause-lit g c =
+    let none : length c.woven.result.now ≡ 0 = search rules in
+    c.new-then-is_empty.ensures.items
+    ∙ lit_none c.args.scene.now c.args.ray.now c.weave_scene.new.weave c.in_ok-numbers.ensures.woven c.in_ok-numbers.ensures.leaves
+    (sym c.woven.ensures.woven ∙ empty_from c.woven.result.now none)
+
+pub claims_of_all-requires : goal.claims_of_all-requires
+claims_of_all-requires g c =
+    subst (All (λ n. n < length c.args.scene.now)) (sym c.deref.ensures.value)
+    (numbers_below c.args.scene.now c.args.ray.now c.weave_scene.new.weave c.in_ok-numbers.numbers.items (map (numbered_claims c.weave_scene.new.weave c.args.scene.now) c.in_ok-numbers.numbers.items)
+    c.in_ok-numbers.ensures.woven c.in_ok-numbers.ensures.hit refl c.in_ok-numbers.ensures.leaves)
+
+pub settle-requires-clause-few : goal.settle-requires-clause-few
+settle-requires-clause-few g c =
+    let regions_are : c.in_ok-regions.regions.items ≡ map (numbered_claims c.weave_scene.new.weave c.args.scene.now) c.in_ok-numbers.numbers.items =
+    c.in_ok-regions.ensures ∙ ap (map (numbered_claims c.weave_scene.new.weave c.args.scene.now)) c.deref.ensures.value in
+    subst (λ (l : List RegionClaims). length l < 2147483648) (sym c.deref-2.ensures.value)
+    (few c.args.scene.now c.args.ray.now c.weave_scene.new.weave c.in_ok-numbers.numbers.items c.in_ok-regions.regions.items c.in_ok-numbers.ensures.woven c.in_ok-numbers.ensures.hit regions_are c.in_ok-numbers.ensures.leaves
+    c.in_ok-numbers.ensures.sound)
+
+pub settle-requires-clause-rows : goal.settle-requires-clause-rows
+settle-requires-clause-rows g c =
+    let regions_are : c.in_ok-regions.regions.items ≡ map (numbered_claims c.weave_scene.new.weave c.args.scene.now) c.in_ok-numbers.numbers.items =
+    c.in_ok-regions.ensures ∙ ap (map (numbered_claims c.weave_scene.new.weave c.args.scene.now)) c.deref.ensures.value in
+    subst (All (λ (r : RegionClaims). length r.claims ≡ length (intervals_of c.weave_scene.new.weave))) (sym c.deref-2.ensures.value)
+    (rows c.args.scene.now c.args.ray.now c.weave_scene.new.weave c.in_ok-numbers.numbers.items c.in_ok-regions.regions.items c.in_ok-numbers.ensures.woven c.in_ok-numbers.ensures.hit regions_are c.in_ok-numbers.ensures.leaves)
+
+pub lit_by_all-requires-clause-regions : goal.lit_by_all-requires-clause-regions
+lit_by_all-requires-clause-regions g c =
+    let regions_are : c.in_ok-regions.regions.items ≡ map (numbered_claims c.weave_scene.new.weave c.args.scene.now) c.in_ok-numbers.numbers.items =
+    c.in_ok-regions.ensures ∙ ap (map (numbered_claims c.weave_scene.new.weave c.args.scene.now)) c.deref.ensures.value in
+    let parts : c.deref-4.result.now ≡ partitions_of c.weave_scene.new.weave c.in_ok-regions.regions.items =
+    c.deref-4.ensures.value ∙ c.in_ok-partitions.ensures ∙ ap (partitions_of c.weave_scene.new.weave) c.deref-2.ensures.value in
+    subst (λ (ns : List ℕ). All (λ (p : Partition). p.region < length ns) c.deref-4.result.now) (sym c.deref-3.ensures.value)
+    (subst (All (λ (p : Partition). p.region < length c.in_ok-numbers.numbers.items)) (sym parts)
+    (parts_within c.args.scene.now c.args.ray.now c.weave_scene.new.weave c.in_ok-numbers.numbers.items c.in_ok-regions.regions.items c.in_ok-numbers.ensures.woven c.in_ok-numbers.ensures.hit regions_are c.in_ok-numbers.ensures.leaves))
+
+pub lit_by_all-requires-clause-hits : goal.lit_by_all-requires-clause-hits
+lit_by_all-requires-clause-hits g c =
+    let regions_are : c.in_ok-regions.regions.items ≡ map (numbered_claims c.weave_scene.new.weave c.args.scene.now) c.in_ok-numbers.numbers.items =
+    c.in_ok-regions.ensures ∙ ap (map (numbered_claims c.weave_scene.new.weave c.args.scene.now)) c.deref.ensures.value in
+    let parts : c.deref-4.result.now ≡ partitions_of c.weave_scene.new.weave c.in_ok-regions.regions.items =
+    c.deref-4.ensures.value ∙ c.in_ok-partitions.ensures ∙ ap (partitions_of c.weave_scene.new.weave) c.deref-2.ensures.value in
+    subst (All (λ (p : Partition). IsHitOn c.args.scene.now c.args.ray.now p.hit)) (sym parts)
+    (hits_on c.args.scene.now c.args.ray.now c.weave_scene.new.weave c.in_ok-numbers.numbers.items c.in_ok-regions.regions.items c.in_ok-numbers.ensures.woven c.in_ok-numbers.ensures.hit regions_are c.in_ok-numbers.ensures.leaves
+    c.woven.ensures.sound)
+
+pub returns-clause-lit : goal.returns-clause-lit
+returns-clause-lit g c =
+    let regions_are : c.in_ok-regions.regions.items ≡ map (numbered_claims c.weave_scene.new.weave c.args.scene.now) c.in_ok-numbers.numbers.items =
+    c.in_ok-regions.ensures ∙ ap (map (numbered_claims c.weave_scene.new.weave c.args.scene.now)) c.deref.ensures.value in
+    let parts : c.deref-4.result.now ≡ partitions_of c.weave_scene.new.weave c.in_ok-regions.regions.items =
+    c.deref-4.ensures.value ∙ c.in_ok-partitions.ensures ∙ ap (partitions_of c.weave_scene.new.weave) c.deref-2.ensures.value in
+    let whole : map (λ (p : Partition). lit_by c.args.scene.now c.args.ray.now (renumbered c.deref-3.result.now p)) c.deref-4.result.now ≡ lit_of c.args.scene.now c.args.ray.now =
+    ap (λ ns. map (λ (p : Partition). lit_by c.args.scene.now c.args.ray.now (renumbered ns p)) c.deref-4.result.now) c.deref-3.ensures.value
+    ∙ ap (map (λ (p : Partition). lit_by c.args.scene.now c.args.ray.now (renumbered c.in_ok-numbers.numbers.items p))) parts
+    ∙ lit_picked c.args.scene.now c.args.ray.now c.weave_scene.new.weave c.in_ok-numbers.numbers.items c.in_ok-regions.regions.items c.in_ok-numbers.ensures.woven c.in_ok-numbers.ensures.hit regions_are c.in_ok-numbers.ensures.leaves in
+    IfOk-weaker c.lit_by_all.result (λ v. v.items ≡ map (λ (p : Partition). lit_by c.args.scene.now c.args.ray.now (renumbered c.deref-3.result.now p)) c.deref-4.result.now) (λ v. v.items ≡ lit_of c.args.scene.now c.args.ray.now)
+    (λ v h. h ∙ whole) c.lit_by_all.ensures

@@ -1,0 +1,7 @@
+pub mod Regions
+pub mod TreeBoxes
+pub mod MetBoxes
+pub mod Shots
+pub mod Prepared
+pub mod Steps
+pub mod Examples

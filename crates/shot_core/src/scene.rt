@@ -1,0 +1,105 @@
+use crate::limit::MOST_LEAVES;
+use crate::region::SceneRegion;
+use memory_core::Memory;
+use solid_set::Placed;
+use std::alloc::Global;
+use std::marker::Model;
+
+/// The regions of a list of names, in the order of their places, with the number of each region's first instance. Contracts
+/// see it as the list of regions.
+#[derive(Debug, Drop)]
+pub struct Scene {
+    regions: Vec<SceneRegion>,
+    firsts: Vec<u32>,
+}
+
+impl Model for Scene {
+    ghost use Rattle.std.specs.Prelude.{List};
+    ghost use Rattle.std.specs.Coded.{coded_list};
+    ghost use Rattle.shot_core.specs.Regions.{Region};
+    ghost use Rattle.shot_core.specs.Prepared.{region_code, IsNumbered};
+
+    ghost Value = { List Region };
+
+    ghost coded = { coded_list region_code };
+
+    ghost view = { λ s. s.regions.items };
+
+    ghost invariant = { λ s. IsNumbered s.regions.items s.firsts.items };
+}
+
+ghost use Rattle.std.specs.Prelude.{◌≡◌, ◌≤◌, true, false, nat_le, length, IfOk};
+ghost use Rattle.shot_core.specs.declared.limit.TheConstants.{MOST_LEAVES};
+ghost use Rattle.std.specs.List.Sorted.{IsPartitionPoint};
+ghost use Rattle.shot_core.specs.Regions.{firsts_from, instances_of, HaveInstances};
+ghost use Rattle.shot_core.specs.Steps.{IsRising};
+
+/// The number of each region's first instance.
+fn firsts_of(alloc: Global, regions: &[SceneRegion]) -> Result<Vec<u32>, Memory>
+    requires { length (instances_of regions.now) ≤ MOST_LEAVES }
+    ensures firsts { IfOk result (λ v. v.items ≡ firsts_from 0 regions.now) }
+    ensures leaves { IfOk result (λ _. HaveInstances regions.now) }
+{
+    let mut firsts = Vec::new(alloc);
+    let mut first = 0;
+    for region in regions {
+        firsts.push(first)?;
+        first += region.body().solids().len() as u32;
+    }
+    Ok(firsts)
+}
+
+/// How many of the rising numbers are at most a number.
+fn count_up_to(firsts: &[u32], number: u32) -> usize
+    requires { IsRising firsts.now }
+    ensures within { result ≤ length firsts.now }
+    ensures parted { IsPartitionPoint (λ f. nat_le f number ≡ true) (λ f. nat_le f number ≡ false) firsts.now result }
+{
+    firsts.partition_point(|first| *first <= number)
+}
+
+impl Scene {
+    ghost use Rattle.std.specs.Prelude.{◌≡◌, ◌<◌, ◌≤◌, ◌^◌, IfOk, length, slice_get, slice_index_or};
+    ghost use Rattle.std.specs.Option.{option_map, option_copied};
+    ghost use Rattle.shot_core.specs.Regions.{IsScene, HaveInstances, instances_of, firsts_from};
+    ghost use Rattle.shot_core.specs.Prepared.{instance_of};
+
+    /// The scene of regions whose places rise from at least 1, and whose bodies together have a size of at most
+    /// `MOST_LEAVES` and at most as many solids.
+    pub fn new(alloc: Global, regions: Vec<SceneRegion>) -> Result<Scene, Memory>
+        requires { IsScene regions.items }
+        ensures { IfOk result (λ s. s ≡ regions.items) }
+    {
+        let firsts = firsts_of(alloc, &regions)?;
+        Ok(Scene { regions, firsts })
+    }
+
+    /// The regions, in the order of their places.
+    pub fn regions(&self) -> &[SceneRegion]
+        ensures value { result.now ≡ self.now }
+        ensures sound { IsScene self.now }
+        ensures leaves { HaveInstances self.now }
+    {
+        &self.regions
+    }
+
+    /// The number of a region's first instance. Instances are numbered from 0 over all regions.
+    pub fn first(&self, region: u32) -> u32
+        requires { region < length self.now }
+        ensures { result ≡ slice_index_or (firsts_from 0 self.now) region 0 }
+    {
+        self.firsts[region as usize]
+    }
+
+    /// The solid of that number, or `None` where there are fewer.
+    pub fn instance(&self, number: u32) -> Option<&Placed>
+        ensures { option_map instance_of (option_copied result) ≡ slice_get (instances_of self.now) number }
+    {
+        let count = count_up_to(&self.firsts, number);
+        if count == 0 {
+            return None;
+        }
+        let solids = self.regions[count - 1].body().solids();
+        solids.get((number - self.firsts[count - 1]) as usize)
+    }
+}

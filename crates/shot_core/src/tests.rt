@@ -1,0 +1,315 @@
+ghost use Rattle.std.specs.Prelude.{pos};
+ghost use Rattle.lattice_core.specs.Limits.{IsAtMost, IsWithin};
+
+use crate::*;
+use bool_weave::{MaskNode, MaskTree};
+use item_list::Items;
+use lattice_core::{Box3, Dir, Placement, Ray, Side, V3};
+use memory_core::Memory;
+use overlap_list::{Hit, OverlapRun};
+use prim_half::Half;
+use prim_sphere::Sphere;
+use region_attr::Rgb;
+use solid_set::{Placed, Solid};
+use std::alloc::Global;
+use std::marker::Brand;
+use std::process::Abort;
+use std::sync::Arc;
+use std::sync::ledger::{Blank, Ledger};
+use std::test::Fail;
+use step_counter::Steps;
+use surd_order::Pos;
+
+/// A coordinate of a test: all of them are at most 1000 in size.
+fn near(x: i64) -> i64
+    ensures { IsAtMost (pos 1000) result }
+{
+    x.clamp(-1000, 1000)
+}
+
+fn at(x: i64, y: i64, z: i64) -> V3
+    ensures { IsWithin (pos 1000) result }
+{
+    V3 {
+        x: near(x),
+        y: near(y),
+        z: near(z),
+    }
+}
+
+fn ray(x: i64, y: i64, z: i64) -> Ray {
+    Ray {
+        origin: at(x, y, z),
+        dir: Dir::PlusX,
+    }
+}
+
+/// A box by its least and greatest x, y and z, a sphere by its centre and radius, a half-space by its normal and distance.
+#[derive(Clone, Copy)]
+enum Shape {
+    Rpp(i64, i64, i64, i64, i64, i64),
+    Ball(i64, i64, i64, i64),
+    Half(i64, i64, i64, i64),
+}
+
+fn solid_of(shape: Shape) -> Result<Solid, Fail> {
+    match shape {
+        Shape::Rpp(a, b, c, d, e, f) => Ok(Solid::rpp(
+            near(a),
+            near(b),
+            near(c),
+            near(d),
+            near(e),
+            near(f),
+        )?),
+        Shape::Ball(x, y, z, r) => Ok(Solid::Sphere(Sphere::new(at(x, y, z), near(r))?)),
+        Shape::Half(x, y, z, d) => Ok(Solid::Half(Half::new(at(x, y, z), near(d))?)),
+    }
+}
+
+fn placed_of(alloc: Global, shapes: &[Shape]) -> Result<Vec<Placed>, Fail> {
+    let mut placed = Vec::new(alloc);
+    for shape in shapes {
+        placed.push(solid_of(*shape)?.placed(&Placement::identity()))?;
+    }
+    Ok(placed)
+}
+
+/// A region of a test: its air, the nodes of its tree, and its solids.
+type Row<'a> = (u32, &'a [MaskNode], &'a [Shape]);
+
+const ONE: &[MaskNode] = &[MaskNode::Leaf(0)];
+
+const LESS: &[MaskNode] = &[MaskNode::Leaf(0), MaskNode::Leaf(1), MaskNode::Minus];
+
+const BOTH: &[MaskNode] = &[MaskNode::Leaf(0), MaskNode::Leaf(1), MaskNode::U];
+
+fn body_of(alloc: Global, row: Row) -> Result<PrepRegion, Fail> {
+    let (air, nodes, shapes) = row;
+    let tree = MaskTree::of_nodes(Vec::from_slice(alloc, nodes)?);
+    let solids = placed_of(alloc, shapes)?;
+    let rgb = Rgb { r: 1, g: 2, b: 3 };
+    Ok(PrepRegion::new(alloc, 1000, air, rgb, tree, solids)?)
+}
+
+fn scene_of(alloc: Global, rows: &[Row]) -> Result<Scene, Fail> {
+    let mut regions = Vec::new(alloc);
+    for (i, row) in rows.iter().enumerate() {
+        let path = Items::of_vec(Vec::from_slice(alloc, b"/r")?);
+        let body = body_of(alloc, *row)?;
+        regions.push(SceneRegion::new(
+            i as u32 + 1,
+            Arc::new(alloc, path)?,
+            Arc::new(alloc, body)?,
+        ))?;
+    }
+    Ok(Scene::new(alloc, regions)?)
+}
+
+fn shot<L: Ledger>(
+    blank: Blank,
+    alloc: Global,
+    scene: &Scene,
+    ray: &Ray,
+) -> Result<Vec<Lit>, Memory> {
+    let mut steps: Steps<L> = Steps::new(blank);
+    shoot(alloc, scene, ray, &mut steps)
+}
+
+/// Region, start, end, instance, face and level.
+type Wanted = (u32, Pos, Pos, u32, u8, u8);
+
+fn whole(n: i128) -> Pos {
+    Pos::frac(n, 1)
+}
+
+fn check_shot(
+    rt: &impl Abort,
+    alloc: Global,
+    rows: &[Row],
+    ray: &Ray,
+    wanted: &[Wanted],
+) -> Result<(), Fail> {
+    let scene = scene_of(alloc, rows)?;
+    let lit = shot::<Brand>(Blank::new(1), alloc, &scene, ray)?;
+    assert_eq!(rt; lit.len(), wanted.len());
+    for (i, one) in lit.iter().enumerate() {
+        let (region, start, end, instance, face, level) = wanted[i];
+        let hit = Hit { instance, face };
+        let all = Lit {
+            region,
+            start,
+            end,
+            hit,
+            level,
+        };
+        assert_eq!(rt; *one, all, "{i}");
+    }
+    Ok(())
+}
+
+const A: Shape = Shape::Rpp(0, 10, 0, 10, 0, 10);
+
+const BALL: Shape = Shape::Ball(0, 0, 0, 5);
+
+#[test]
+fn a_ball_less_a_half_space(rt: HostRuntime) -> Result<(), Fail> {
+    let far = Pos::surd(10, true, 23);
+    // The half-space ends at 26/5, before the ball begins; then at 27/5, inside it.
+    let cases = [
+        (-24, Pos::surd(10, false, 23), 0, 1, 239),
+        (-23, Pos::frac(27, 5), 1, 1, 255),
+    ];
+    for (d, start, instance, face, level) in cases {
+        check_shot(
+            &rt,
+            rt.alloc(),
+            &[(0, LESS, &[BALL, Shape::Half(5, 0, 0, d)])],
+            &ray(-10, 1, 1),
+            &[(0, start, far, instance, face, level)],
+        )?;
+    }
+    Ok(())
+}
+
+#[test]
+fn shots_of_boxes(rt: HostRuntime) -> Result<(), Fail> {
+    let b = Shape::Rpp(0, 10, 10, 20, 0, 10);
+    // A ray in the plane in which two boxes touch belongs to the second.
+    check_shot(
+        &rt,
+        rt.alloc(),
+        &[(0, ONE, &[A]), (0, ONE, &[b])],
+        &ray(-5, 10, 5),
+        &[(1, whole(5), whole(15), 1, 1, 255)],
+    )?;
+    // Two boxes that touch make one partition.
+    let c = Shape::Rpp(10, 20, 0, 10, 0, 10);
+    check_shot(
+        &rt,
+        rt.alloc(),
+        &[(0, BOTH, &[A, c])],
+        &ray(-5, 5, 5),
+        &[(0, whole(5), whole(25), 0, 1, 255)],
+    )?;
+    let s2 = Shape::Rpp(20, 30, 0, 10, 0, 10);
+    let s3 = Shape::Rpp(5, 25, 0, 10, 0, 10);
+    let union_less = &[
+        MaskNode::Leaf(0),
+        MaskNode::Leaf(1),
+        MaskNode::Leaf(2),
+        MaskNode::Minus,
+        MaskNode::U,
+    ];
+    check_shot(
+        &rt,
+        rt.alloc(),
+        &[(0, union_less, &[A, s2, s3])],
+        &ray(-5, 5, 5),
+        &[
+            (0, whole(5), whole(15), 0, 1, 255),
+            (0, whole(30), whole(35), 2, 2, 255),
+        ],
+    )?;
+    // The same walked as two regions, of which the second's instances are numbered after the first's.
+    check_shot(
+        &rt,
+        rt.alloc(),
+        &[(0, ONE, &[A]), (0, LESS, &[s2, s3])],
+        &ray(-5, 5, 5),
+        &[
+            (0, whole(5), whole(15), 0, 1, 255),
+            (1, whole(30), whole(35), 2, 2, 255),
+        ],
+    )
+}
+
+fn check_overlaps(
+    rt: &impl Abort,
+    alloc: Global,
+    rows: &[Row],
+    ray: &Ray,
+    wanted: &[(u32, u32, i128, i128)],
+) -> Result<(), Fail> {
+    let scene = scene_of(alloc, rows)?;
+    let Ok(runs) = check_ray(alloc, &scene, ray) else {
+        return Err("no memory")?;
+    };
+    assert_eq!(rt; runs.len(), wanted.len());
+    for (i, run) in runs.iter().enumerate() {
+        let (one, two, start, end) = wanted[i];
+        let all = OverlapRun {
+            one,
+            two,
+            start: whole(start),
+            end: whole(end),
+        };
+        assert_eq!(rt; *run, all, "{i}");
+    }
+    Ok(())
+}
+
+#[test]
+fn overlapping_regions_with_and_without_air(rt: HostRuntime) -> Result<(), Fail> {
+    let b = Shape::Rpp(5, 15, 0, 10, 0, 10);
+    let away = Shape::Rpp(0, 10, 50, 60, 0, 10);
+    let through = ray(-5, 5, 5);
+    let plain: &[Row] = &[(0, ONE, &[away]), (0, ONE, &[A]), (0, ONE, &[b])];
+    let airy: &[Row] = &[(0, ONE, &[away]), (1, ONE, &[A]), (0, ONE, &[b])];
+    check_shot(
+        &rt,
+        rt.alloc(),
+        plain,
+        &through,
+        &[
+            (1, whole(5), whole(15), 1, 1, 255),
+            (2, whole(15), whole(20), 1, 2, 255),
+        ],
+    )?;
+    check_shot(
+        &rt,
+        rt.alloc(),
+        airy,
+        &through,
+        &[
+            (1, whole(5), whole(10), 1, 1, 255),
+            (2, whole(10), whole(20), 2, 1, 255),
+        ],
+    )?;
+    check_overlaps(&rt, rt.alloc(), plain, &through, &[(1, 2, 10, 15)])?;
+    check_overlaps(&rt, rt.alloc(), airy, &through, &[])
+}
+
+#[test]
+fn boxes_of_trees(rt: HostRuntime) -> Result<(), Fail> {
+    let c = Shape::Rpp(20, 30, 5, 25, 0, 10);
+    let within = &[MaskNode::Leaf(0), MaskNode::Leaf(1), MaskNode::N];
+    let never = &[MaskNode::Never];
+    let or_never = &[MaskNode::Leaf(0), MaskNode::Never, MaskNode::U];
+    let span = |xhi: i64, yhi: i64| Box3::Span {
+        xlo: Side::At(0),
+        xhi: Side::At(xhi),
+        ylo: Side::At(0),
+        yhi: Side::At(yhi),
+        zlo: Side::At(0),
+        zhi: Side::At(10),
+    };
+    let cases: [(&[MaskNode], &[Shape], Box3, u32); 6] = [
+        (ONE, &[A], span(10, 10), 1),
+        (BOTH, &[A, c], span(30, 25), 2),
+        (LESS, &[A, c], span(10, 10), 2),
+        (within, &[A, c], Box3::Empty, 2),
+        (never, &[], Box3::Empty, 1),
+        (or_never, &[A], span(10, 10), 2),
+    ];
+    for (i, (nodes, shapes, bounds, size)) in cases.iter().enumerate() {
+        let body = body_of(rt.alloc(), (0, *nodes, *shapes))?;
+        assert_eq!(rt; body.bounds(), *bounds, "{i}");
+        assert_eq!(rt; body.size(), *size, "{i}");
+        assert_eq!(rt; body.tree().nodes(), *nodes, "{i}");
+        assert_eq!(rt; body.solids().len(), shapes.len(), "{i}");
+        assert!(rt; body.id() == 1000 && body.air() == 0);
+        assert_eq!(rt; body.rgb(), Rgb { r: 1, g: 2, b: 3 });
+    }
+    Ok(())
+}

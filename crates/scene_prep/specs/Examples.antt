@@ -22,7 +22,7 @@ use Rattle.object_set.specs.declared.object.Body.TheVariants.{Solid, Comb}
 use Rattle.directory.specs.Walks.{Entries}
 use Rattle.scene_prep.specs.declared.fault.PrepFault.TheVariants.{Missing, TooMany}
 use Rattle.scene_prep.specs.Records.{Instance, RegionBody, Region}
-use Rattle.scene_prep.specs.Solids.{PlacedSolid, Expanded, numbered, in_world, point_under, surface_under, bounds_under, box_of_points}
+use Rattle.scene_prep.specs.Solids.{PlacedSolid, Expanded, numbered, in_world, point_under, surface_under, box_under}
 use Rattle.scene_prep.specs.Regions.{NamedRegion, regions_of, regions_of_name}
 use Rattle.scene_prep.specs.Scenes.{white, colour_under, path_text, body_of, scene_of}
 use Rattle.scene_prep.specs.Sizes.{size_of, size_of_name, told_size}
@@ -305,6 +305,6 @@ shifted_then_turned = refl
 turned_then_shifted : surface_under (shifted ∷ turned ∷ []) (Ball (vector (pos 1) (pos 2) (pos 3)) (pos 5)) ≡ Ball (vector (pos 9) (pos 3) (negsuc 1)) (pos 5)
 turned_then_shifted = refl
 
-its_box : box_of_points (map (point_under (shifted ∷ turned ∷ [])) (vector (pos 0) (pos 0) (pos 0) ∷ vector (pos 1) (pos 2) (pos 3) ∷ []))
+its_box : box_under (shifted ∷ turned ∷ []) (vector (pos 0) (pos 0) (pos 0) ∷ vector (pos 1) (pos 2) (pos 3) ∷ [])
     ≡ Span (At (pos 9)) (At (pos 10)) (At (pos 0)) (At (pos 3)) (At (negsuc 1)) (At (pos 0))
 its_box = refl

@@ -1,5 +1,5 @@
 -- The solids of trees in which every member is expanded, and where they stand in the world.
-use Rattle.std.specs.Prelude.{ℕ, ℤ, pos, ◌+◌, ◌-ℤ◌, List, [], ◌∷◌, length, map, fold, filter_map, Option, Some, None}
+use Rattle.std.specs.Prelude.{ℕ, ℤ, pos, ◌+◌, ◌-ℤ◌, List, [], ◌∷◌, length, fold, filter_map, Option, Some, None}
 use Rattle.std.specs.Option.{option_map}
 use Rattle.std.specs.Int.{int_max}
 use Rattle.tree_forms.specs.Trees.{Tree, Leaf, Join, leaves, map_leaves}
@@ -72,20 +72,22 @@ own_surface (solids.Arb8 solid) = Planes (planes_of solid.vertices)
 own_surface (solids.Sphere sphere) = Ball sphere.centre sphere.radius
 own_surface (solids.Half half) = HalfSpace (plane_of_half half)
 
--- how far the farthest of the points lies in a direction
-abbrev pub farthest_of : List V3 → Dir → ℤ
-farthest_of points dir = fold (λ most p. int_max most (dot_product (unit_of dir) p)) (dot_product (unit_of dir) (vertex_at points 1)) points
+-- how far in a direction the placements take the vertex that they take farthest
+abbrev pub farthest_under : List Placement → List V3 → Dir → ℤ
+farthest_under placements vertices dir =
+    fold (λ most p. int_max most (dot_product (unit_of dir) (point_under placements p)))
+    (dot_product (unit_of dir) (point_under placements (vertex_at vertices 1))) vertices
 
--- the closed box of points
-abbrev pub box_of_points : List V3 → Box3
-box_of_points points =
-    Span (At (pos 0 -ℤ farthest_of points MinusX)) (At (farthest_of points PlusX))
-    (At (pos 0 -ℤ farthest_of points MinusY)) (At (farthest_of points PlusY))
-    (At (pos 0 -ℤ farthest_of points MinusZ)) (At (farthest_of points PlusZ))
+-- the closed box of vertices where the placements take them
+abbrev pub box_under : List Placement → List V3 → Box3
+box_under placements vertices =
+    Span (At (pos 0 -ℤ farthest_under placements vertices MinusX)) (At (farthest_under placements vertices PlusX))
+    (At (pos 0 -ℤ farthest_under placements vertices MinusY)) (At (farthest_under placements vertices PlusY))
+    (At (pos 0 -ℤ farthest_under placements vertices MinusZ)) (At (farthest_under placements vertices PlusZ))
 
 -- the box of a solid where the placements take it: of its vertices, from its centre by its radius, or all of space
 abbrev pub bounds_under : List Placement → Solid → Box3
-bounds_under placements (solids.Arb8 solid) = box_of_points (map (point_under placements) solid.vertices)
+bounds_under placements (solids.Arb8 solid) = box_under placements solid.vertices
 bounds_under placements (solids.Sphere sphere) = ball_box (point_under placements sphere.centre) sphere.radius
 bounds_under placements (solids.Half half) = all_of_space
 

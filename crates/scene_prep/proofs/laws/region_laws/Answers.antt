@@ -1,0 +1,8 @@
+use Rattle.scene_prep.proofs.Numbers.{numbers_follow, sizes_count_leaves}
+use Rattle.scene_prep.proofs.laws.region_laws.Goals as goal
+
+pub returns-clause-leaves : goal.returns-clause-leaves
+returns-clause-leaves c = sizes_count_leaves
+
+pub returns-clause-numbers : goal.returns-clause-numbers
+returns-clause-numbers c = numbers_follow

@@ -1,4 +1,5 @@
 use Rattle.scene_prep.proofs.Numbers.{numbers_follow, sizes_count_leaves}
+use Rattle.scene_prep.proofs.Together.{regions_together}
 use Rattle.scene_prep.proofs.laws.region_laws.Goals as goal
 
 pub returns-clause-leaves : goal.returns-clause-leaves
@@ -6,3 +7,6 @@ returns-clause-leaves c = sizes_count_leaves
 
 pub returns-clause-numbers : goal.returns-clause-numbers
 returns-clause-numbers c = numbers_follow
+
+pub returns-clause-together : goal.returns-clause-together
+returns-clause-together c = regions_together

@@ -1,3 +1,4 @@
 mod Numbers
 mod Together
 mod Whole
+mod Within

@@ -40,12 +40,12 @@ numbers_follow first (Join op l r) =
     ∙ sym (range_split first n (length (solids_of r)))
     ∙ ap (range_with_len first) (sym (ap length (filter_map-append (λ leaf. leaf) (leaves l) (leaves r)) ∙ length-append (solids_of l) (solids_of r)))
 
-leaves-map : {A B : Type 0} (f : A → B) (t : Tree A) → length (leaves (map_leaves f t)) ≡ length (leaves t)
+pub leaves-map : {A B : Type 0} (f : A → B) (t : Tree A) → length (leaves (map_leaves f t)) ≡ length (leaves t)
 leaves-map f (Leaf a) = refl
 leaves-map f (Join op l r) = omega (arith, length-append (leaves (map_leaves f l)) (leaves (map_leaves f r)), length-append (leaves l) (leaves r), leaves-map f l, leaves-map f r)
 
 -- a tree's leaves are as many as those of its members
-tree_count : (below : Name → Expanded) (size : Name → ℕ) → ((name : Name) → size name ≡ length (leaves (below name)))
+pub tree_count : (below : Name → Expanded) (size : Name → ℕ) → ((name : Name) → size name ≡ length (leaves (below name)))
     → (t : Tree Member) → sum_by (λ member. size member.name) (leaves t) ≡ length (leaves (expanded_tree below t))
 tree_count below size each (Leaf member) = omega (arith, each member.name, leaves-map (option_map (placed_solid member.placement)) (below member.name))
 tree_count below size each (Join op l r) = omega (arith, sum_by-append (λ (member : Member). size member.name) (leaves l) (leaves r), length-append (leaves (expanded_tree below l)) (leaves (expanded_tree below r)), tree_count below size each l, tree_count below size each r)
@@ -61,7 +61,7 @@ object_count : (below : Name → Expanded) (size : Name → ℕ) → ((name : Na
 object_count below size each None = refl
 object_count below size each (Some object) = body_count below size each object.body
 
-within_count : (levels : ℕ) (dir : Entries) (name : Name) → size_within levels dir name ≡ length (leaves (expanded_within levels dir name))
+pub within_count : (levels : ℕ) (dir : Entries) (name : Name) → size_within levels dir name ≡ length (leaves (expanded_within levels dir name))
 within_count zero dir name = refl
 within_count (suc levels) dir name = object_count (expanded_within levels dir) (size_within levels dir) (within_count levels dir) (object_of dir name)
 

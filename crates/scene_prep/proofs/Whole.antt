@@ -37,9 +37,10 @@ EachName P (Join op l r) = EachName P l × EachName P r
 each_name : (P : Name → Type 0) (t : Tree Member) → ((b : Name) → Contains (map (λ m. m.name) (leaves t)) b → P b) → EachName P t
 each_name P (Leaf member) h = h member.name (0, omega arith, refl)
 each_name P (Join op l r) h =
-    let parts : map (λ (m : Member). m.name) (leaves l ++ leaves r) ≡ map (λ m. m.name) (leaves l) ++ map (λ m. m.name) (leaves r) = map-append (λ m. m.name) (leaves l) (leaves r) in
-    (each_name P l (λ b has. h b (subst (λ (xs : List Name). Contains xs b) (sym parts) (Contains-append_left (map (λ m. m.name) (leaves l)) (map (λ m. m.name) (leaves r)) b has))),
-     each_name P r (λ b has. h b (subst (λ (xs : List Name). Contains xs b) (sym parts) (Contains-append_right (map (λ m. m.name) (leaves l)) (map (λ m. m.name) (leaves r)) b has))))
+    let parts : map (λ (m : Member). m.name) (leaves l ++ leaves r) ≡ map (λ m. m.name) (leaves l) ++ map (λ m. m.name) (leaves r) = map-append (λ m. m.name) (leaves l) (leaves r) in (
+      each_name P l (λ b has. h b (subst (λ (xs : List Name). Contains xs b) (sym parts) (Contains-append_left (map (λ m. m.name) (leaves l)) (map (λ m. m.name) (leaves r)) b has))),
+      each_name P r (λ b has. h b (subst (λ (xs : List Name). Contains xs b) (sym parts) (Contains-append_right (map (λ m. m.name) (leaves l)) (map (λ m. m.name) (leaves r)) b has))),
+    )
 
 -- so many levels and so many give a name the same tree, the same regions and the same size
 pub record AreSame (dir : Entries) (n m : ℕ) (name : Name) : Type 0 where
@@ -94,12 +95,12 @@ choice_same dir n m attr t false h = parts_same dir n m 1 (united t) (each_part 
 comb_same : (dir : Entries) (n m : ℕ) (name : Name) (attr : Attr) (t : Tree Member) (o : Parts) → object_of dir name ≡ Some o → o.body ≡ bodies.Comb attr (Some t) → EachName (AreSame dir n m) t → AreSame dir (suc n) (suc m) name
 comb_same dir n m name attr t o is body h = record {
   tree = ap (expanded_object (expanded_within n dir)) is ∙ ap (expanded_body (expanded_within n dir)) body ∙ tree_same dir n m t h
-    ∙ sym (ap (expanded_object (expanded_within m dir)) is ∙ ap (expanded_body (expanded_within m dir)) body);
+      ∙ sym (ap (expanded_object (expanded_within m dir)) is ∙ ap (expanded_body (expanded_within m dir)) body);
   regions = ap (regions_of_object (expanded_within n dir) (regions_within n dir) name) is ∙ ap (regions_of_body (expanded_within n dir) (regions_within n dir) name) body
-    ∙ ap (map (within_comb name attr)) (choice_same dir n m attr t attr.region h)
-    ∙ sym (ap (regions_of_object (expanded_within m dir) (regions_within m dir) name) is ∙ ap (regions_of_body (expanded_within m dir) (regions_within m dir) name) body);
+      ∙ ap (map (within_comb name attr)) (choice_same dir n m attr t attr.region h)
+      ∙ sym (ap (regions_of_object (expanded_within m dir) (regions_within m dir) name) is ∙ ap (regions_of_body (expanded_within m dir) (regions_within m dir) name) body);
   size = ap (object_size (size_within n dir)) is ∙ ap (body_size (size_within n dir)) body ∙ size_same dir n m t h
-    ∙ sym (ap (object_size (size_within m dir)) is ∙ ap (body_size (size_within m dir)) body);
+      ∙ sym (ap (object_size (size_within m dir)) is ∙ ap (body_size (size_within m dir)) body);
 }
 
 -- where an object has no members the levels below it do not matter

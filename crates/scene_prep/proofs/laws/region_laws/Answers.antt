@@ -1,4 +1,5 @@
 use Rattle.scene_prep.proofs.Numbers.{numbers_follow, sizes_count_leaves}
+use Rattle.scene_prep.proofs.Within.{regions_within_size}
 use Rattle.scene_prep.proofs.Whole.{trees_whole, regions_whole, sizes_whole}
 use Rattle.scene_prep.proofs.Together.{regions_together}
 use Rattle.scene_prep.proofs.laws.region_laws.Goals as goal
@@ -20,3 +21,6 @@ returns-clause-regions c = regions_whole
 
 pub returns-clause-sizes : goal.returns-clause-sizes
 returns-clause-sizes c = sizes_whole
+
+pub returns-clause-within : goal.returns-clause-within
+returns-clause-within c = regions_within_size

@@ -1,4 +1,5 @@
 mod Numbers
+mod Placements
 mod Together
 mod Whole
 mod Within

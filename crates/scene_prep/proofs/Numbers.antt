@@ -61,10 +61,10 @@ object_count : (below : Name → Expanded) (size : Name → ℕ) → ((name : Na
 object_count below size each None = refl
 object_count below size each (Some object) = body_count below size each object.body
 
-pub within_count : (levels : ℕ) (dir : Entries) (name : Name) → size_within levels dir name ≡ length (leaves (expanded_within levels dir name))
-within_count zero dir name = refl
-within_count (suc levels) dir name = object_count (expanded_within levels dir) (size_within levels dir) (within_count levels dir) (object_of dir name)
+pub within_count : (levels : ℕ) (directory : Entries) (name : Name) → size_within levels directory name ≡ length (leaves (expanded_within levels directory name))
+within_count zero directory name = refl
+within_count (suc levels) directory name = object_count (expanded_within levels directory) (size_within levels directory) (within_count levels directory) (object_of directory name)
 
-pub sizes_count_leaves : (dir : Entries) (name : Name) → size_of_name dir name ≡ length (leaves (expanded dir name))
+pub sizes_count_leaves : (directory : Entries) (name : Name) → size_of_name directory name ≡ length (leaves (expanded directory name))
 unfolding size_of_name expanded
-sizes_count_leaves dir name = within_count most_levels dir name
+sizes_count_leaves directory name = within_count most_levels directory name

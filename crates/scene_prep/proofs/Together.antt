@@ -14,7 +14,7 @@ use Rattle.object_set.specs.Objects.{Parts}
 use Rattle.directory.specs.Walks.{Entries, object_of}
 use Rattle.scene_prep.specs.Solids.{Expanded, PlacedSolid, placed_solid, placed_tree}
 use Rattle.scene_prep.specs.Expanding.{expanded, expanded_within, expanded_tree, expanded_body, expanded_object, most_levels}
-use Rattle.scene_prep.specs.Regions.{NamedRegion, within_comb, placed_region, whole_region, united, regions_united, regions_of_tree, regions_of_body, regions_of_object, regions_within, regions_of_name}
+use Rattle.scene_prep.specs.Regions.{NamedRegion, within_comb, placed_region, whole_region, united_parts, regions_united, regions_of_tree, regions_of_body, regions_of_object, regions_within, regions_of_name}
 use Rattle.scene_prep.specs.Laws.{solid_value}
 
 abbrev holds : (PlacedSolid → Bool) → Expanded → Bool
@@ -74,19 +74,19 @@ of_parts expand below each values number (Join op l r ∷ parts) =
     ap (λ b. holds values (expanded_tree expand (Join op l r)) || b) (of_parts expand below each values (number + 1) parts)
 
 of_united : (expand : Name → Expanded) (values : PlacedSolid → Bool) (tree : Tree Member)
-    → list_any (λ part. holds values (expanded_tree expand part)) (united tree) ≡ holds values (expanded_tree expand tree)
+    → list_any (λ part. holds values (expanded_tree expand part)) (united_parts tree) ≡ holds values (expanded_tree expand tree)
 of_united expand values (Leaf member) = or_false (holds values (expanded_tree expand (Leaf member)))
 of_united expand values (Join U l r) =
-    any-append (λ part. holds values (expanded_tree expand part)) (united l) (united r)
-    ∙ ap (λ b. b || list_any (λ part. holds values (expanded_tree expand part)) (united r)) (of_united expand values l)
+    any-append (λ part. holds values (expanded_tree expand part)) (united_parts l) (united_parts r)
+    ∙ ap (λ b. b || list_any (λ part. holds values (expanded_tree expand part)) (united_parts r)) (of_united expand values l)
     ∙ ap (λ b. holds values (expanded_tree expand l) || b) (of_united expand values r)
 of_united expand values (Join N l r) = or_false (holds values (expanded_tree expand (Join N l r)))
 of_united expand values (Join Minus l r) = or_false (holds values (expanded_tree expand (Join Minus l r)))
 
 of_choice : (expand : Name → Expanded) (below : Name → List NamedRegion) → AreTogether expand below → (values : PlacedSolid → Bool) (attr : Attr) (tree : Tree Member) (marked : Bool)
-    → some_holds values (cond marked (whole_region expand attr tree ∷ []) (regions_united expand below 1 (united tree))) ≡ holds values (expanded_tree expand tree)
+    → some_holds values (cond marked (whole_region expand attr tree ∷ []) (regions_united expand below 1 (united_parts tree))) ≡ holds values (expanded_tree expand tree)
 of_choice expand below each values attr tree true = or_false (holds values (expanded_tree expand tree))
-of_choice expand below each values attr tree false = of_parts expand below each values 1 (united tree) ∙ of_united expand values tree
+of_choice expand below each values attr tree false = of_parts expand below each values 1 (united_parts tree) ∙ of_united expand values tree
 
 of_body : (expand : Name → Expanded) (below : Name → List NamedRegion) → AreTogether expand below → (values : PlacedSolid → Bool) (name : Name) (body : Body)
     → some_holds values (regions_of_body expand below name body) ≡ holds values (expanded_body expand body)
@@ -101,11 +101,11 @@ of_object : (expand : Name → Expanded) (below : Name → List NamedRegion) →
 of_object expand below each values name None = refl
 of_object expand below each values name (Some object) = of_body expand below each values name object.body
 
-together_within : (levels : ℕ) (dir : Entries) → AreTogether (expanded_within levels dir) (regions_within levels dir)
-together_within zero dir name values = refl
-together_within (suc levels) dir name values = of_object (expanded_within levels dir) (regions_within levels dir) (together_within levels dir) values name (object_of dir name)
+together_within : (levels : ℕ) (directory : Entries) → AreTogether (expanded_within levels directory) (regions_within levels directory)
+together_within zero directory name values = refl
+together_within (suc levels) directory name values = of_object (expanded_within levels directory) (regions_within levels directory) (together_within levels directory) values name (object_of directory name)
 
-pub regions_together : (dir : Entries) (name : Name) (values : PlacedSolid → Bool)
-    → list_any (λ region. holds_by (solid_value values) region.tree) (regions_of_name dir name) ≡ holds_by (solid_value values) (expanded dir name)
+pub regions_together : (directory : Entries) (name : Name) (values : PlacedSolid → Bool)
+    → list_any (λ region. holds_by (solid_value values) region.tree) (regions_of_name directory name) ≡ holds_by (solid_value values) (expanded directory name)
 unfolding regions_of_name expanded
-regions_together dir name values = together_within most_levels dir name values
+regions_together directory name values = together_within most_levels directory name values

@@ -15,8 +15,8 @@ use Rattle.object_set.specs.Objects.{Parts}
 use Rattle.directory.specs.Walks.{Entries, object_of}
 use Rattle.scene_prep.specs.Solids.{Expanded, placed_solid}
 use Rattle.scene_prep.specs.Expanding.{expanded_within, expanded_tree, most_levels}
-use Rattle.scene_prep.specs.Regions.{NamedRegion, within_comb, placed_region, whole_region, node_region, united, regions_united, regions_of_tree, regions_of_body, regions_of_object, regions_within, regions_of_name, regions_of}
-use Rattle.scene_prep.specs.Sizes.{size_of_name, size_of, size_within, body_size, object_size}
+use Rattle.scene_prep.specs.Regions.{NamedRegion, within_comb, placed_region, whole_region, node_region, united_parts, regions_united, regions_of_tree, regions_of_body, regions_of_object, regions_within, regions_of_name, regions_of}
+use Rattle.scene_prep.specs.Sizes.{size_of_name, names_size, size_within, body_size, object_size}
 use Rattle.scene_prep.proofs.Numbers.{leaves-map, tree_count, within_count}
 
 abbrev total : List NamedRegion → ℕ
@@ -51,56 +51,56 @@ total-within name attr (region ∷ regions) =
     ∙ ap (λ n. length (leaves region.tree) + n) (total-within name attr regions)
     ∙ sym (total_first region regions)
 
-of_united : (size : Name → ℕ) (t : Tree Member) → sum_by (tree_size size) (united t) ≡ tree_size size t
+of_united : (size : Name → ℕ) (t : Tree Member) → sum_by (tree_size size) (united_parts t) ≡ tree_size size t
 of_united size (Leaf member) = omega arith
-of_united size (Join U l r) = omega (arith, sum_by-append (tree_size size) (united l) (united r), sum_by-append (λ (member : Member). size member.name) (leaves l) (leaves r), of_united size l, of_united size r)
+of_united size (Join U l r) = omega (arith, sum_by-append (tree_size size) (united_parts l) (united_parts r), sum_by-append (λ (member : Member). size member.name) (leaves l) (leaves r), of_united size l, of_united size r)
 of_united size (Join N l r) = omega arith
 of_united size (Join Minus l r) = omega arith
 
-of_parts : (levels : ℕ) (dir : Entries) (number : ℕ) (parts : List (Tree Member)) → ((name : Name) → total (regions_within levels dir name) ≤ size_within levels dir name)
-    → total (regions_united (expanded_within levels dir) (regions_within levels dir) number parts) ≤ sum_by (tree_size (size_within levels dir)) parts
-of_parts levels dir number [] each = omega arith
-of_parts levels dir number (Leaf member ∷ parts) each =
-    let whole : total (regions_united (expanded_within levels dir) (regions_within levels dir) number (Leaf member ∷ parts))
-    ≡ total (map (placed_region member.placement) (regions_within levels dir member.name)) + total (regions_united (expanded_within levels dir) (regions_within levels dir) number parts) =
-    total-append (map (placed_region member.placement) (regions_within levels dir member.name)) (regions_united (expanded_within levels dir) (regions_within levels dir) number parts) in
-    let one : tree_size (size_within levels dir) (Leaf member) ≡ size_within levels dir member.name = omega arith in
-    let sizes : sum_by (tree_size (size_within levels dir)) (Leaf member ∷ parts) ≡ tree_size (size_within levels dir) (Leaf member) + sum_by (tree_size (size_within levels dir)) parts = sum_first (tree_size (size_within levels dir)) (Leaf member) parts in
-    omega (arith, whole, one, sizes, total-placed member.placement (regions_within levels dir member.name), each member.name, of_parts levels dir number parts each)
-of_parts levels dir number (Join op l r ∷ parts) each =
-    let whole : total (regions_united (expanded_within levels dir) (regions_within levels dir) number (Join op l r ∷ parts))
-    ≡ length (leaves (expanded_tree (expanded_within levels dir) (Join op l r))) + total (regions_united (expanded_within levels dir) (regions_within levels dir) (number + 1) parts) =
-    total_first (node_region (expanded_within levels dir) number (Join op l r)) (regions_united (expanded_within levels dir) (regions_within levels dir) (number + 1) parts) in
-    let sizes : sum_by (tree_size (size_within levels dir)) (Join op l r ∷ parts) ≡ tree_size (size_within levels dir) (Join op l r) + sum_by (tree_size (size_within levels dir)) parts = sum_first (tree_size (size_within levels dir)) (Join op l r) parts in
-    omega (arith, whole, sizes, tree_count (expanded_within levels dir) (size_within levels dir) (within_count levels dir) (Join op l r), of_parts levels dir (number + 1) parts each)
+of_parts : (levels : ℕ) (directory : Entries) (number : ℕ) (parts : List (Tree Member)) → ((name : Name) → total (regions_within levels directory name) ≤ size_within levels directory name)
+    → total (regions_united (expanded_within levels directory) (regions_within levels directory) number parts) ≤ sum_by (tree_size (size_within levels directory)) parts
+of_parts levels directory number [] each = omega arith
+of_parts levels directory number (Leaf member ∷ parts) each =
+    let whole : total (regions_united (expanded_within levels directory) (regions_within levels directory) number (Leaf member ∷ parts))
+    ≡ total (map (placed_region member.placement) (regions_within levels directory member.name)) + total (regions_united (expanded_within levels directory) (regions_within levels directory) number parts) =
+    total-append (map (placed_region member.placement) (regions_within levels directory member.name)) (regions_united (expanded_within levels directory) (regions_within levels directory) number parts) in
+    let one : tree_size (size_within levels directory) (Leaf member) ≡ size_within levels directory member.name = omega arith in
+    let sizes : sum_by (tree_size (size_within levels directory)) (Leaf member ∷ parts) ≡ tree_size (size_within levels directory) (Leaf member) + sum_by (tree_size (size_within levels directory)) parts = sum_first (tree_size (size_within levels directory)) (Leaf member) parts in
+    omega (arith, whole, one, sizes, total-placed member.placement (regions_within levels directory member.name), each member.name, of_parts levels directory number parts each)
+of_parts levels directory number (Join op l r ∷ parts) each =
+    let whole : total (regions_united (expanded_within levels directory) (regions_within levels directory) number (Join op l r ∷ parts))
+    ≡ length (leaves (expanded_tree (expanded_within levels directory) (Join op l r))) + total (regions_united (expanded_within levels directory) (regions_within levels directory) (number + 1) parts) =
+    total_first (node_region (expanded_within levels directory) number (Join op l r)) (regions_united (expanded_within levels directory) (regions_within levels directory) (number + 1) parts) in
+    let sizes : sum_by (tree_size (size_within levels directory)) (Join op l r ∷ parts) ≡ tree_size (size_within levels directory) (Join op l r) + sum_by (tree_size (size_within levels directory)) parts = sum_first (tree_size (size_within levels directory)) (Join op l r) parts in
+    omega (arith, whole, sizes, tree_count (expanded_within levels directory) (size_within levels directory) (within_count levels directory) (Join op l r), of_parts levels directory (number + 1) parts each)
 
-of_choice : (levels : ℕ) (dir : Entries) (attr : Attr) (t : Tree Member) (marked : Bool) → ((name : Name) → total (regions_within levels dir name) ≤ size_within levels dir name)
-    → total (cond marked (whole_region (expanded_within levels dir) attr t ∷ []) (regions_united (expanded_within levels dir) (regions_within levels dir) 1 (united t))) ≤ tree_size (size_within levels dir) t
-of_choice levels dir attr t true each = omega (arith, tree_count (expanded_within levels dir) (size_within levels dir) (within_count levels dir) t)
-of_choice levels dir attr t false each = omega (arith, of_parts levels dir 1 (united t) each, of_united (size_within levels dir) t)
+of_choice : (levels : ℕ) (directory : Entries) (attr : Attr) (t : Tree Member) (marked : Bool) → ((name : Name) → total (regions_within levels directory name) ≤ size_within levels directory name)
+    → total (cond marked (whole_region (expanded_within levels directory) attr t ∷ []) (regions_united (expanded_within levels directory) (regions_within levels directory) 1 (united_parts t))) ≤ tree_size (size_within levels directory) t
+of_choice levels directory attr t true each = omega (arith, tree_count (expanded_within levels directory) (size_within levels directory) (within_count levels directory) t)
+of_choice levels directory attr t false each = omega (arith, of_parts levels directory 1 (united_parts t) each, of_united (size_within levels directory) t)
 
-of_body : (levels : ℕ) (dir : Entries) (name : Name) (body : Body) → ((name : Name) → total (regions_within levels dir name) ≤ size_within levels dir name)
-    → total (regions_of_body (expanded_within levels dir) (regions_within levels dir) name body) ≤ body_size (size_within levels dir) body
-of_body levels dir name (bodies.Solid solid) each = omega arith
-of_body levels dir name (bodies.Comb attr None) each = omega arith
-of_body levels dir name (bodies.Comb attr (Some t)) each =
-    omega (arith, total-within name attr (regions_of_tree (expanded_within levels dir) (regions_within levels dir) attr t), of_choice levels dir attr t attr.region each)
+of_body : (levels : ℕ) (directory : Entries) (name : Name) (body : Body) → ((name : Name) → total (regions_within levels directory name) ≤ size_within levels directory name)
+    → total (regions_of_body (expanded_within levels directory) (regions_within levels directory) name body) ≤ body_size (size_within levels directory) body
+of_body levels directory name (bodies.Solid solid) each = omega arith
+of_body levels directory name (bodies.Comb attr None) each = omega arith
+of_body levels directory name (bodies.Comb attr (Some t)) each =
+    omega (arith, total-within name attr (regions_of_tree (expanded_within levels directory) (regions_within levels directory) attr t), of_choice levels directory attr t attr.region each)
 
-of_object : (levels : ℕ) (dir : Entries) (name : Name) (o : Option Parts) → ((name : Name) → total (regions_within levels dir name) ≤ size_within levels dir name)
-    → total (regions_of_object (expanded_within levels dir) (regions_within levels dir) name o) ≤ object_size (size_within levels dir) o
-of_object levels dir name None each = omega arith
-of_object levels dir name (Some object) each = of_body levels dir name object.body each
+of_object : (levels : ℕ) (directory : Entries) (name : Name) (o : Option Parts) → ((name : Name) → total (regions_within levels directory name) ≤ size_within levels directory name)
+    → total (regions_of_object (expanded_within levels directory) (regions_within levels directory) name o) ≤ object_size (size_within levels directory) o
+of_object levels directory name None each = omega arith
+of_object levels directory name (Some object) each = of_body levels directory name object.body each
 
-within_levels : (levels : ℕ) (dir : Entries) (name : Name) → total (regions_within levels dir name) ≤ size_within levels dir name
-within_levels zero dir name = omega arith
-within_levels (suc levels) dir name = of_object levels dir name (object_of dir name) (within_levels levels dir)
+within_levels : (levels : ℕ) (directory : Entries) (name : Name) → total (regions_within levels directory name) ≤ size_within levels directory name
+within_levels zero directory name = omega arith
+within_levels (suc levels) directory name = of_object levels directory name (object_of directory name) (within_levels levels directory)
 
-within_name : (dir : Entries) (name : Name) → total (regions_of_name dir name) ≤ size_of_name dir name
+within_name : (directory : Entries) (name : Name) → total (regions_of_name directory name) ≤ size_of_name directory name
 unfolding regions_of_name size_of_name
-within_name dir name = within_levels most_levels dir name
+within_name directory name = within_levels most_levels directory name
 
-pub regions_within_size : (dir : Entries) (names : List Name) → sum_by (λ region. length (leaves region.tree)) (regions_of dir names) ≤ size_of dir names
-regions_within_size dir [] = omega arith
-regions_within_size dir (name ∷ names) =
-    let whole : total (regions_of dir (name ∷ names)) ≡ total (regions_of_name dir name) + total (regions_of dir names) = total-append (regions_of_name dir name) (regions_of dir names) in
-    omega (arith, whole, sum_first (size_of_name dir) name names, within_name dir name, regions_within_size dir names)
+pub regions_within_size : (directory : Entries) (names : List Name) → sum_by (λ region. length (leaves region.tree)) (regions_of directory names) ≤ names_size directory names
+regions_within_size directory [] = omega arith
+regions_within_size directory (name ∷ names) =
+    let whole : total (regions_of directory (name ∷ names)) ≡ total (regions_of_name directory name) + total (regions_of directory names) = total-append (regions_of_name directory name) (regions_of directory names) in
+    omega (arith, whole, sum_first (size_of_name directory) name names, within_name directory name, regions_within_size directory names)

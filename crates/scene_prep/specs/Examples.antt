@@ -25,7 +25,7 @@ use Rattle.scene_prep.specs.Records.{Instance, RegionBody, Region}
 use Rattle.scene_prep.specs.Solids.{PlacedSolid, Expanded, numbered, in_world, point_under, surface_under, box_under}
 use Rattle.scene_prep.specs.Regions.{NamedRegion, regions_of, regions_of_name}
 use Rattle.scene_prep.specs.Scenes.{white, colour_under, path_text, body_of, scene_of}
-use Rattle.scene_prep.specs.Sizes.{size_of, size_of_name, told_size}
+use Rattle.scene_prep.specs.Sizes.{names_size, size_of_name, told_size}
 use Rattle.scene_prep.specs.Outcomes.{prep_fault}
 
 abbrev named : ℕ → Name
@@ -70,7 +70,7 @@ put one placements = Leaf (Some (record { solid = one; placements = placements }
 abbrev never : Expanded
 never = Leaf None
 
--- a region that is no node, without number, air and colour
+-- a region that is no node, without number and air, under combinations of any attributes
 abbrev plain : List Name → List Attr → Expanded → NamedRegion
 plain names attrs tree = record { names = names; node = None; id = 0; air = 0; attrs = attrs; tree = tree }
 
@@ -208,17 +208,17 @@ module _ (v w : AnySolid) (p q : Placement) where
   the_upper_one_last m = refl
 
   -- a solid, a missing name and an empty combination count 1 each
-  sizes_of_one : map (λ n. size_of (solid s v ∷ empty_comb b region_attr ∷ []) (n ∷ [])) (s ∷ x ∷ b ∷ []) ≡ 1 ∷ 1 ∷ 1 ∷ []
+  sizes_of_one : map (λ n. names_size (solid s v ∷ empty_comb b region_attr ∷ []) (n ∷ [])) (s ∷ x ∷ b ∷ []) ≡ 1 ∷ 1 ∷ 1 ∷ []
   unfolding size_of_name
   sizes_of_one = refl
 
   -- another combination counts as its leaves, whatever its operators and marks
-  size_of_leaves : size_of (solid s v ∷ comb b region_attr (Join Minus (at p s) (at q s)) ∷ comb a group_attr (Join U (Join N (at p b) (at p b)) (at p x)) ∷ []) (a ∷ []) ≡ 5
+  size_of_leaves : names_size (solid s v ∷ comb b region_attr (Join Minus (at p s) (at q s)) ∷ comb a group_attr (Join U (Join N (at p b) (at p b)) (at p x)) ∷ []) (a ∷ []) ≡ 5
   unfolding size_of_name
   size_of_leaves = refl
 
   -- names are counted as often as they are given
-  size_of_names : size_of (solid s v ∷ comb b region_attr (Join Minus (at p s) (at q s)) ∷ []) (b ∷ s ∷ b ∷ []) ≡ 5
+  size_of_names : names_size (solid s v ∷ comb b region_attr (Join Minus (at p s) (at q s)) ∷ []) (b ∷ s ∷ b ∷ []) ≡ 5
   unfolding size_of_name
   size_of_names = refl
 

@@ -31,13 +31,13 @@ expanded_object below (Some object) = expanded_body below object.body
 
 -- a name's tree, where at most `levels` objects lie one in the other
 abbrev pub expanded_within : ℕ → Entries → Name → Expanded
-expanded_within zero dir name = Leaf None
-expanded_within (suc levels) dir name = expanded_object (expanded_within levels dir) (object_of dir name)
+expanded_within zero directory name = Leaf None
+expanded_within (suc levels) directory name = expanded_object (expanded_within levels directory) (object_of directory name)
 
--- in a sound directory that many do: combinations, and a solid in the lowest
+-- in a sound directory at most that many do: combinations, and a solid in the lowest
 abbrev pub most_levels : ℕ
 most_levels = most_depth + 1
 
 -- the tree of a name
 unfoldable pub expanded : Entries → Name → Expanded
-expanded dir name = expanded_within most_levels dir name
+expanded directory name = expanded_within most_levels directory name

@@ -17,13 +17,13 @@ use Rattle.scene_prep.specs.Expanding.{expanded_tree, expanded_within, most_leve
 
 -- a region, from the name at which its path begins
 pub record NamedRegion : Type 0 where
-  -- the names down to it
+  -- the names down to it, once the combinations above it are added
   pub names : List Name
   -- its number in the last of them, where it is a node of that combination's tree
   pub node : Option ℕ
   pub id : ℕ
   pub air : ℕ
-  -- the attributes of the combinations on its path, the top one first
+  -- the attributes of the combinations on its path, the top one first, once those are added
   pub attrs : List Attr
   pub tree : Expanded
 
@@ -69,11 +69,11 @@ abbrev pub placed_region : Placement → NamedRegion → NamedRegion
 placed_region by region = record region { tree = placed_tree by region.tree }
 
 -- what the unions at the root of a tree unite, from the left: leaves, and nodes that are no unions
-abbrev pub united : {A : Type 0} → Tree A → List (Tree A)
-united (Leaf a) = Leaf a ∷ []
-united (Join U l r) = united l ++ united r
-united (Join N l r) = Join N l r ∷ []
-united (Join Minus l r) = Join Minus l r ∷ []
+abbrev pub united_parts : {A : Type 0} → Tree A → List (Tree A)
+united_parts (Leaf a) = Leaf a ∷ []
+united_parts (Join U l r) = united_parts l ++ united_parts r
+united_parts (Join N l r) = Join N l r ∷ []
+united_parts (Join Minus l r) = Join Minus l r ∷ []
 
 -- a leaf gives the regions of its member, placed; a node is one region, and the nodes are numbered from the left
 abbrev pub regions_united : (Name → Expanded) → (Name → List NamedRegion) → ℕ → List (Tree Member) → List NamedRegion
@@ -86,7 +86,7 @@ regions_united expand below number (Join op l r ∷ parts) =
 -- the regions of a combination's tree: one where it is a region, else those of what its tree unites
 abbrev pub regions_of_tree : (Name → Expanded) → (Name → List NamedRegion) → Attr → Tree Member → List NamedRegion
 regions_of_tree expand below attr tree =
-    cond attr.region (whole_region expand attr tree ∷ []) (regions_united expand below 1 (united tree))
+    cond attr.region (whole_region expand attr tree ∷ []) (regions_united expand below 1 (united_parts tree))
 
 -- an empty combination gives none
 abbrev pub regions_of_comb : (Name → Expanded) → (Name → List NamedRegion) → Name → Attr → CombTree → List NamedRegion
@@ -104,13 +104,13 @@ regions_of_object expand below name (Some object) = regions_of_body expand below
 
 -- the regions of a name, where at most `levels` objects lie one in the other
 abbrev pub regions_within : ℕ → Entries → Name → List NamedRegion
-regions_within zero dir name = []
-regions_within (suc levels) dir name = regions_of_object (expanded_within levels dir) (regions_within levels dir) name (object_of dir name)
+regions_within zero directory name = []
+regions_within (suc levels) directory name = regions_of_object (expanded_within levels directory) (regions_within levels directory) name (object_of directory name)
 
 -- the regions of a name
 unfoldable pub regions_of_name : Entries → Name → List NamedRegion
-regions_of_name dir name = regions_within most_levels dir name
+regions_of_name directory name = regions_within most_levels directory name
 
 -- the regions of the names, in order
 abbrev pub regions_of : Entries → List Name → List NamedRegion
-regions_of dir names = flat_map (regions_of_name dir) names
+regions_of directory names = flat_map (regions_of_name directory) names

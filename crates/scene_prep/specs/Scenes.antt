@@ -46,4 +46,4 @@ region_at place region = record { place = place; path = path_text region; body =
 
 -- the regions of the names in their order, with places from 1
 abbrev pub scene_of : Entries → List Name → List Region
-scene_of dir names = map (λ e. region_at e.0 e.1) (enumerate_from 1 (regions_of dir names))
+scene_of directory names = map (λ e. region_at e.0 e.1) (enumerate_from 1 (regions_of directory names))

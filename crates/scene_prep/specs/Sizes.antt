@@ -26,16 +26,16 @@ object_size below (Some object) = body_size below object.body
 
 -- the size of a name, where at most `levels` objects lie one in the other
 abbrev pub size_within : ℕ → Entries → Name → ℕ
-size_within zero dir name = 1
-size_within (suc levels) dir name = object_size (size_within levels dir) (object_of dir name)
+size_within zero directory name = 1
+size_within (suc levels) directory name = object_size (size_within levels directory) (object_of directory name)
 
 -- the size of a name
 unfoldable pub size_of_name : Entries → Name → ℕ
-size_of_name dir name = size_within most_levels dir name
+size_of_name directory name = size_within most_levels directory name
 
 -- the size of a list of names
-abbrev pub size_of : Entries → List Name → ℕ
-size_of dir names = sum_by (size_of_name dir) names
+abbrev pub names_size : Entries → List Name → ℕ
+names_size directory names = sum_by (size_of_name directory) names
 
 -- the greatest size that is prepared
 abbrev pub most_size : ℕ

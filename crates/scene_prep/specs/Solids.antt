@@ -74,11 +74,11 @@ own_surface (solids.Half half) = HalfSpace (plane_of_half half)
 
 -- how far in a direction the placements take the vertex that they take farthest
 abbrev pub farthest_under : List Placement → List V3 → Dir → ℤ
-farthest_under placements vertices dir =
-    fold (λ most p. int_max most (dot_product (unit_of dir) (point_under placements p)))
-    (dot_product (unit_of dir) (point_under placements (vertex_at vertices 1))) vertices
+farthest_under placements vertices direction =
+    fold (λ most p. int_max most (dot_product (unit_of direction) (point_under placements p)))
+    (dot_product (unit_of direction) (point_under placements (vertex_at vertices 1))) vertices
 
--- the closed box of vertices where the placements take them
+-- the closed box of at least one vertex where the placements take the vertices
 abbrev pub box_under : List Placement → List V3 → Box3
 box_under placements vertices =
     Span (At (pos 0 -ℤ farthest_under placements vertices MinusX)) (At (farthest_under placements vertices PlusX))

@@ -32,20 +32,20 @@ use Rattle.scene_prep.specs.Solids.{PlacedSolid, point_under, placed_surface, su
 use Rattle.scene_prep.specs.Laws.{DoesAll, PlacementsAreOne}
 
 -- the turn of the placements: where they take a vector, less where they take the origin
-abbrev turned_under : List Placement → V3 → V3
+abbrev pub turned_under : List Placement → V3 → V3
 turned_under [] v = v
 turned_under (upper ∷ lower) v = turned upper.turn.number (turned_under lower v)
 
-abbrev origin_under : List Placement → V3
+abbrev pub origin_under : List Placement → V3
 origin_under placements = point_under placements zero_vector
 
-zero_sum : (v : V3) → vector_sum zero_vector v ≡ v
+pub zero_sum : (v : V3) → vector_sum zero_vector v ≡ v
 zero_sum v = vector_same (omega (arith, ints)) (omega (arith, ints)) (omega (arith, ints))
 
 sum_assoc : (a b c : V3) → vector_sum (vector_sum a b) c ≡ vector_sum a (vector_sum b c)
 sum_assoc a b c = vector_same (omega (arith, ints)) (omega (arith, ints)) (omega (arith, ints))
 
-sum_left : (a b c : V3) → vector_sum a c ≡ vector_sum b c → a ≡ b
+pub sum_left : (a b c : V3) → vector_sum a c ≡ vector_sum b c → a ≡ b
 sum_left a b c e =
     let x : a.x +ℤ c.x ≡ b.x +ℤ c.x = ap (λ (v : V3). v.x) e in
     let y : a.y +ℤ c.y ≡ b.y +ℤ c.y = ap (λ (v : V3). v.y) e in
@@ -56,18 +56,18 @@ dot_sum : (n a b : V3) → dot_product n (vector_sum a b) ≡ dot_product n a +�
 dot_sum n a b = omega (arith, ints, mul_add n.x a.x b.x, mul_add n.y a.y b.y, mul_add n.z a.z b.z)
 
 -- a turn, and then the move of the origin
-under_is : (placements : List Placement) (v : V3) → point_under placements v ≡ vector_sum (turned_under placements v) (origin_under placements)
+pub under_is : (placements : List Placement) (v : V3) → point_under placements v ≡ vector_sum (turned_under placements v) (origin_under placements)
 under_is [] v = sym (sum_zero v)
 under_is (upper ∷ lower) v =
     ap (placed upper) (under_is lower v)
     ∙ ap (λ (w : V3). vector_sum w upper.shift) (turned_sum upper.turn.number (turned_under lower v) (origin_under lower) upper.turn.in_range)
     ∙ sum_assoc (turned upper.turn.number (turned_under lower v)) (turned upper.turn.number (origin_under lower)) upper.shift
 
-abbrev plane_by : V3 → ℤ → Plane
+abbrev pub plane_by : V3 → ℤ → Plane
 plane_by n d = record { n = n; d = d }
 
 -- the plane that the placements take a plane to
-abbrev plane_under : List Placement → Plane → Plane
+abbrev pub plane_under : List Placement → Plane → Plane
 plane_under placements plane = plane_by (turned_under placements plane.n) (plane.d +ℤ dot_product (turned_under placements plane.n) (origin_under placements))
 
 dot_zero : (n : V3) → dot_product n zero_vector ≡ pos 0
@@ -108,7 +108,7 @@ sides_none (Some plane ∷ sides) =
     ∙ ap (λ (x : Plane). Some x ∷ sides) (none_under plane)
 
 -- the surface, taken as one
-abbrev surface_at_once : List Placement → Surface → Surface
+abbrev pub surface_at_once : List Placement → Surface → Surface
 surface_at_once placements (Planes sides) = Planes (map (option_map (plane_under placements)) sides)
 surface_at_once placements (HalfSpace plane) = HalfSpace (plane_under placements plane)
 surface_at_once placements (Ball centre radius) = Ball (point_under placements centre) radius
@@ -123,11 +123,11 @@ surface_next upper lower (Planes sides) = ap (λ (s : List (Option Plane)). Plan
 surface_next upper lower (HalfSpace plane) = ap (λ (p : Plane). HalfSpace p) (next_under upper lower plane)
 surface_next upper lower (Ball centre radius) = refl
 
-surface_is : (placements : List Placement) (surface : Surface) → surface_under placements surface ≡ surface_at_once placements surface
+pub surface_is : (placements : List Placement) (surface : Surface) → surface_under placements surface ≡ surface_at_once placements surface
 surface_is [] surface = surface_none surface
 surface_is (upper ∷ lower) surface = ap (placed_surface upper) (surface_is lower surface) ∙ surface_next upper lower surface
 
-turned_zero : (turn : ℕ) → turned turn zero_vector ≡ zero_vector
+pub turned_zero : (turn : ℕ) → turned turn zero_vector ≡ zero_vector
 turned_zero turn = vector_same (dot_zero (row_of turn 1)) (dot_zero (row_of turn 2)) (dot_zero (row_of turn 3))
 
 origin_is : (by : Placement) (placements : List Placement) → DoesAll by placements → by.shift ≡ origin_under placements
@@ -160,7 +160,7 @@ at_once_is by placements all (solids.Half half) = ap (λ (p : Plane). HalfSpace 
 abbrev farthest_by : (V3 → V3) → List V3 → Dir → ℤ
 farthest_by f vertices direction = fold (λ most p. int_max most (dot_product (unit_of direction) (f p))) (dot_product (unit_of direction) (f (vertex_at vertices 1))) vertices
 
-abbrev box_by : (V3 → V3) → List V3 → Box3
+abbrev pub box_by : (V3 → V3) → List V3 → Box3
 box_by f vertices =
     Span (At (pos 0 -ℤ farthest_by f vertices MinusX)) (At (farthest_by f vertices PlusX))
     (At (pos 0 -ℤ farthest_by f vertices MinusY)) (At (farthest_by f vertices PlusY))

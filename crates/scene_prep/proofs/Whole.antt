@@ -13,16 +13,13 @@ use Rattle.object_set.specs.declared.object.Body.{Body}
 use Rattle.object_set.specs.declared.object.Body.TheVariants as bodies
 use Rattle.object_set.specs.Objects.{Parts, member_names}
 use Rattle.directory.specs.Walks.{Entries, object_of, members_of, body_weight, comb_weight, Refers, IsWalk, combinations, IsSound}
+use Rattle.scene_prep.specs.Levels.{IsShallow}
 use Rattle.scene_prep.specs.Solids.{Expanded, placed_tree}
 use Rattle.scene_prep.specs.Expanding.{expanded, expanded_within, expanded_tree, expanded_body, expanded_object, most_levels}
 use Rattle.scene_prep.specs.Regions.{NamedRegion, within_comb, placed_region, whole_region, node_region, united_parts, regions_united, regions_of_tree, regions_of_body, regions_of_object, regions_within, regions_of_name}
 use Rattle.scene_prep.specs.Sizes.{size_of_name, size_within, body_size, object_size}
 
--- each walk from a name has at most so many combinations
-abbrev IsShallow : Entries → ℕ → Name → Type 0
-IsShallow directory n name = (w : List Name) → IsWalk directory (name ∷ w) → combinations directory (name ∷ w) ≤ n
-
-member_shallow : (n : ℕ) (directory : Entries) (name : Name) (o : Parts) (b : Name) → object_of directory name ≡ Some o → body_weight o.body ≡ 1 → IsShallow directory (suc n) name → Contains (member_names o.body) b → IsShallow directory n b
+pub member_shallow : (n : ℕ) (directory : Entries) (name : Name) (o : Parts) (b : Name) → object_of directory name ≡ Some o → body_weight o.body ≡ 1 → IsShallow directory (suc n) name → Contains (member_names o.body) b → IsShallow directory n b
 member_shallow n directory name o b is weight shallow has w walk =
     let refers : Refers directory name b = subst (λ (p : Option Parts). Contains (members_of p) b) (sym is) has in
     let whole : comb_weight (object_of directory name) + combinations directory (b ∷ w) ≤ suc n = shallow (b ∷ w) (refers, walk) in

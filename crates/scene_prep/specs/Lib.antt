@@ -6,6 +6,8 @@ pub mod Regions
 pub mod Scenes
 pub mod Sizes
 pub mod Steps
+pub mod Levels
+pub mod Writing
 pub mod Outcomes
 pub mod Laws
 pub mod Examples

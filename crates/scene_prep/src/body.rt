@@ -1,4 +1,6 @@
-use crate::expand::{expand_solid, expand_tree};
+use crate::expand::expand_nodes;
+use crate::expansion::Expansion;
+use crate::size::LEVELS;
 use crate::stand_in::PrepRegion;
 use comb_tree::CombNode;
 use directory::Directory;
@@ -40,13 +42,16 @@ fn body_of(
     key: &BodyKey,
     shape: Shape<'_>,
 ) -> Result<PrepRegion, Memory> {
+    let mut out = Expansion::new(alloc);
     match shape {
         Shape::Solid(solid) => {
-            let (tree, solids) = expand_solid(alloc, solid, key.by)?.into_parts();
+            out.push_solid(solid, &key.by)?;
+            let (tree, solids) = out.into_parts();
             PrepRegion::new(alloc, 0, 0, key.rgb, tree, solids)
         }
         Shape::Tree { nodes, id, air } => {
-            let (tree, solids) = expand_tree(alloc, directory, nodes, key.by)?.into_parts();
+            expand_nodes(directory, &mut out, nodes, &key.by, LEVELS - 1)?;
+            let (tree, solids) = out.into_parts();
             PrepRegion::new(alloc, id, air, key.rgb, tree, solids)
         }
     }

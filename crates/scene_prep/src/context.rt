@@ -1,6 +1,5 @@
 use crate::colour::Colour;
-use crate::path::{no_path, path_of_node, path_to};
-use crate::stand_in::PathText;
+use crate::path::{PathText, no_path, path_of_node, path_to};
 use lattice_core::{Placement, compose};
 use memory_core::Memory;
 use name_core::Name;

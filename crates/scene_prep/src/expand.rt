@@ -1,90 +1,84 @@
-use bool_weave::{MaskNode, MaskTree};
+ghost use Rattle.std.specs.Prelude.{◌≡◌, ◌+◌, ◌≤◌, vec_len, IfOk, All, Some};
+ghost use Rattle.lattice_core.specs.declared.limit.TheConstants.{COORD};
+ghost use Rattle.lattice_core.specs.Limits.{IsWithin};
+ghost use Rattle.lattice_core.specs.Placements.{IsComposed};
+ghost use Rattle.tree_forms.specs.Trees.{Tree};
+ghost use Rattle.comb_tree.specs.Nodes.{Member, comb_nodes};
+ghost use Rattle.directory.specs.Walks.{IsSound};
+ghost use Rattle.scene_prep.specs.Solids.{placed_tree};
+ghost use Rattle.scene_prep.specs.Expanding.{expanded, expanded_tree};
+ghost use Rattle.scene_prep.specs.Sizes.{size_of_name, most_size};
+ghost use Rattle.scene_prep.specs.Levels.{IsShallow, StandsWithin, IsPlacedAbove, node_size, nodes_size};
+ghost use Rattle.scene_prep.specs.Writing.{Writes, WritesNode};
+
+use crate::expansion::Expansion;
+use bool_weave::MaskNode;
 use comb_tree::CombNode;
 use directory::Directory;
 use lattice_core::{Placement, compose};
 use memory_core::Memory;
 use name_core::Name;
 use object_set::Body;
-use solid_set::{Placed, Solid};
-use std::alloc::Global;
 
-/// What is left of the nodes of a combination, and where its members are placed.
-#[derive(Clone, Copy)]
-struct Frame<'a> {
-    nodes: &'a [CombNode],
-    by: Placement,
+/// The placement of a member whose combination is placed.
+fn placed_below(by: &Placement, member: &Placement, levels: u32) -> Placement
+    requires by { IsPlacedAbove (levels + 1) by.now }
+    requires member { IsWithin COORD member.now.shift }
+    ensures composed { IsComposed result by.now member.now }
+    ensures near { IsPlacedAbove levels result }
+{
+    compose(*by, *member)
 }
 
-/// An expanded tree as it is written: its nodes in postfix order, and its solids from the left.
-#[derive(Drop)]
-pub(crate) struct Expansion {
-    nodes: Vec<MaskNode>,
-    solids: Vec<Placed>,
-}
-
-impl Expansion {
-    fn new(alloc: Global) -> Expansion {
-        Expansion {
-            nodes: Vec::new(alloc),
-            solids: Vec::new(alloc),
-        }
-    }
-
-    /// Puts a solid at the end.
-    fn push_solid(&mut self, solid: &Solid, by: &Placement) -> Result<(), Memory> {
-        let number = self.solids.len() as u32;
-        self.solids.push(solid.placed(by))?;
-        self.nodes.push(MaskNode::Leaf(number))?;
-        Ok(())
-    }
-
-    fn push_node(&mut self, node: MaskNode) -> Result<(), Memory> {
-        self.nodes.push(node)?;
-        Ok(())
-    }
-
-    /// The tree, and its solids.
-    pub(crate) fn into_parts(self) -> (MaskTree, Vec<Placed>) {
-        let Expansion { nodes, solids } = self;
-        (MaskTree::of_nodes(nodes), solids)
-    }
-}
-
-/// Writes what a member comes to, or leaves its nodes on the stack.
-fn expand_member<'a>(
-    directory: &'a Directory,
-    stack: &mut Vec<Frame<'a>>,
+/// Writes what a name comes to where it is placed. At most `levels` combinations lie one in the other there.
+#[cycle(expand)]
+pub(crate) fn expand_name(
+    directory: &Directory,
     out: &mut Expansion,
     name: &Name,
-    by: Placement,
-) -> Result<(), Memory> {
+    by: &Placement,
+    levels: u32,
+) -> Result<(), Memory>
+    requires sound { IsSound directory.now.objects }
+    requires shallow { IsShallow directory.now.objects levels name.now }
+    requires by { IsPlacedAbove levels by.now }
+    requires room { vec_len out.old.solids + size_of_name directory.now.objects name.now ≤ most_size }
+    ensures { IfOk result (λ _. Writes out.old out.new (placed_tree by.now (expanded directory.now.objects name.now))) }
+{
     match directory.get(name) {
         Some(object) => match object.body() {
-            Body::Solid(solid) => out.push_solid(solid, &by),
+            Body::Solid(solid) => out.push_solid(solid, by),
             Body::Comb { tree, .. } => {
                 let nodes = tree.nodes();
                 if nodes.is_empty() {
                     return out.push_node(MaskNode::Never);
                 }
-                stack.push(Frame { nodes, by })?;
-                Ok(())
+                expand_nodes(directory, out, nodes, by, levels - 1)
             }
         },
         None => out.push_node(MaskNode::Never),
     }
 }
 
-/// Writes one node of a combination whose members are placed.
-fn expand_node<'a>(
-    directory: &'a Directory,
-    stack: &mut Vec<Frame<'a>>,
+/// Writes one node of a combination that is placed.
+#[cycle(expand)]
+fn expand_node(
+    directory: &Directory,
     out: &mut Expansion,
     node: &CombNode,
-    by: Placement,
-) -> Result<(), Memory> {
+    by: &Placement,
+    levels: u32,
+) -> Result<(), Memory>
+    requires sound { IsSound directory.now.objects }
+    requires within { StandsWithin directory.now.objects levels node.now }
+    requires by { IsPlacedAbove (levels + 1) by.now }
+    requires room { vec_len out.old.solids + node_size directory.now.objects node.now ≤ most_size }
+    ensures { IfOk result (λ _. WritesNode directory.now.objects by.now out.old out.new node.now) }
+{
     match node {
         CombNode::Leaf { name, placement } => {
-            expand_member(directory, stack, out, name, compose(by, *placement))
+            let by = placed_below(by, placement, levels);
+            expand_name(directory, out, name, &by, levels)
         }
         CombNode::U => out.push_node(MaskNode::U),
         CombNode::N => out.push_node(MaskNode::N),
@@ -92,35 +86,24 @@ fn expand_node<'a>(
     }
 }
 
-/// The tree of these nodes of a combination, every member being expanded and placed.
-pub(crate) fn expand_tree(
-    alloc: Global,
+/// Writes the tree of these nodes of a combination that is placed. At most `levels` combinations lie one in the other
+/// below each of its members.
+#[cycle(expand)]
+pub(crate) fn expand_nodes(
     directory: &Directory,
+    out: &mut Expansion,
     nodes: &[CombNode],
-    by: Placement,
-) -> Result<Expansion, Memory> {
-    let mut out = Expansion::new(alloc);
-    let mut stack = Vec::new(alloc);
-    stack.push(Frame { nodes, by })?;
-    while let Some(frame) = stack.pop() {
-        if let Some((node, rest)) = frame.nodes.split_first() {
-            stack.push(Frame {
-                nodes: rest,
-                by: frame.by,
-            })?;
-            expand_node(directory, &mut stack, &mut out, node, frame.by)?;
-        }
+    by: &Placement,
+    levels: u32,
+) -> Result<(), Memory>
+    requires sound { IsSound directory.now.objects }
+    requires within { All (StandsWithin directory.now.objects levels) nodes.now }
+    requires by { IsPlacedAbove (levels + 1) by.now }
+    requires room { vec_len out.old.solids + nodes_size directory.now.objects nodes.now ≤ most_size }
+    ensures { IfOk result (λ _. (tree : Tree Member) → comb_nodes (Some tree) ≡ nodes.now → Writes out.old out.new (placed_tree by.now (expanded_tree (expanded directory.now.objects) tree))) }
+{
+    for node in nodes {
+        expand_node(directory, out, node, by, levels)?;
     }
-    Ok(out)
-}
-
-/// The tree of a solid.
-pub(crate) fn expand_solid(
-    alloc: Global,
-    solid: &Solid,
-    by: Placement,
-) -> Result<Expansion, Memory> {
-    let mut out = Expansion::new(alloc);
-    out.push_solid(solid, &by)?;
-    Ok(out)
+    Ok(())
 }

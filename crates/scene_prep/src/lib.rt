@@ -5,6 +5,7 @@ mod body;
 mod colour;
 mod context;
 mod expand;
+mod expansion;
 mod fault;
 mod laws;
 mod part;

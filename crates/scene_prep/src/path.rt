@@ -2,13 +2,15 @@ ghost use Rattle.std.specs.Prelude.{◌≡◌, [], IfOk};
 ghost use Rattle.std.specs.Arc.{arc_value};
 ghost use Rattle.scene_prep.specs.Steps.{path_to, path_to_node};
 
-use crate::stand_in::PathText;
 use fixed_text::FixedText;
 use item_list::Items;
 use memory_core::Memory;
 use name_core::Name;
 use std::alloc::Global;
 use std::sync::Arc;
+
+/// The path of names that leads to a region.
+pub type PathText = Items<u8>;
 
 /// The path under which a list of names begins.
 pub(crate) fn no_path(alloc: Global) -> Result<Arc<PathText>, Memory>

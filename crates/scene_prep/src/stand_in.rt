@@ -1,14 +1,11 @@
+use crate::path::PathText;
 use bool_weave::MaskTree;
-use item_list::Items;
 use memory_core::Memory;
 use region_attr::Rgb;
 use solid_set::Placed;
 use std::alloc::Global;
 use std::marker::Model;
 use std::sync::Arc;
-
-/// The path of names that leads to a region.
-pub type PathText = Items<u8>;
 
 /// What a region is wherever it stands in a scene.
 #[derive(Debug, Drop)]

@@ -1,7 +1,8 @@
 use crate::body::{Bodies, BodyKey, Shape};
 use crate::context::Context;
 use crate::part::{Part, parts_of};
-use crate::stand_in::{PathText, PrepRegion, SceneRegion};
+use crate::path::PathText;
+use crate::stand_in::{PrepRegion, SceneRegion};
 use comb_tree::CombNode;
 use directory::Directory;
 use memory_core::Memory;

@@ -7,7 +7,6 @@ pub mod Scenes
 pub mod Sizes
 pub mod Steps
 pub mod Levels
-pub mod Writing
 pub mod Outcomes
 pub mod Laws
 pub mod Examples

@@ -1,5 +1,5 @@
 -- The numbers and the count of the leaves of expanded trees.
-use Rattle.std.proofs.Common.{◌≡◌, ◌∙◌, ◌+◌, ℕ, zero, suc, List, [], ◌∷◌, ◌++◌, length, map, refl, ap, sym, arith}
+use Rattle.std.proofs.Common.{◌≡◌, ◌∙◌, ◌+◌, ℕ, zero, suc, ◌∷◌, ◌++◌, length, refl, ap, sym, arith}
 use Rattle.std.specs.Prelude.{filter_map, sum_by, None, Some, Option}
 use Rattle.std.specs.Option.{option_map}
 use Rattle.std.specs.List.{range_with_len}
@@ -7,7 +7,6 @@ use Rattle.std.proofs.lemmas.List.Sums.{sum_by-append}
 use Rattle.std.proofs.lemmas.List.Elements.{filter_map-append}
 use Rattle.std.proofs.Common.{length-append}
 use Rattle.tree_forms.specs.Trees.{Tree, Leaf, Join, leaves, map_leaves}
-use Rattle.lattice_core.specs.declared.placement.Placement.{Placement}
 use Rattle.name_core.specs.declared.name.Name.{Name}
 use Rattle.comb_tree.specs.Nodes.{Member}
 use Rattle.object_set.specs.declared.object.Body.{Body}

@@ -1,5 +1,5 @@
 -- One placement that does what the placements of a solid do gives the solid the same surface and the same box.
-use Rattle.std.proofs.Common.{◌≡◌, ◌∙◌, ◌<◌, ℕ, ℤ, pos, ◌+ℤ◌, ◌-ℤ◌, List, [], ◌∷◌, map, refl, ap, sym, arith}
+use Rattle.std.proofs.Common.{◌≡◌, ◌∙◌, ℕ, ℤ, pos, ◌+ℤ◌, ◌-ℤ◌, List, [], ◌∷◌, map, refl, ap, sym, arith}
 use Rattle.std.specs.Prelude.{Option, Some, None, fold}
 use Rattle.std.specs.Option.{option_map}
 use Rattle.std.specs.Int.{int_max}
@@ -12,7 +12,7 @@ use Rattle.lattice_core.specs.declared.ray.Dir.TheVariants.{PlusX, MinusX, PlusY
 use Rattle.lattice_core.specs.declared.boxes.Box3.{Box3}
 use Rattle.lattice_core.specs.declared.boxes.Box3.TheVariants.{Span}
 use Rattle.lattice_core.specs.declared.boxes.Side.TheVariants.{At}
-use Rattle.lattice_core.specs.Vectors.{dot_product, vector_sum, vector_difference, zero_vector}
+use Rattle.lattice_core.specs.Vectors.{dot_product, vector_sum, zero_vector}
 use Rattle.lattice_core.specs.Turns.{turned, row_of}
 use Rattle.lattice_core.specs.Placements.{placed}
 use Rattle.lattice_core.specs.Units.{unit_of}
@@ -26,9 +26,8 @@ use Rattle.solid_set.specs.declared.solid.Solid.{Solid}
 use Rattle.solid_set.specs.declared.solid.Solid.TheVariants as solids
 use Rattle.solid_set.specs.declared.surface.Surface.{Surface}
 use Rattle.solid_set.specs.declared.surface.Surface.TheVariants.{Planes, HalfSpace, Ball}
-use Rattle.solid_set.specs.Bounds.{farthest}
 use Rattle.solid_set.specs.Surfaces.{surface_of, bounds_of, placed_sides, plane_of_half}
-use Rattle.scene_prep.specs.Solids.{PlacedSolid, point_under, placed_surface, surface_under, own_surface, farthest_under, box_under, bounds_under, in_world}
+use Rattle.scene_prep.specs.Solids.{point_under, placed_surface, surface_under, own_surface, bounds_under}
 use Rattle.scene_prep.specs.Laws.{DoesAll, PlacementsAreOne}
 
 -- the turn of the placements: where they take a vector, less where they take the origin

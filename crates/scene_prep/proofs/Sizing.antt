@@ -1,24 +1,23 @@
 -- The sizes of nodes, and how deep they lie.
-use Rattle.std.proofs.Common.{◌≡◌, ◌∙◌, ◌+◌, ◌≤◌, ◌<◌, ◌-◌, ℕ, zero, suc, List, [], ◌∷◌, ◌++◌, length, map, refl, ap, sym, subst, arith, take, get_or}
-use Rattle.std.specs.Prelude.{None, Some, Option, sum_by, All, Contains, min}
-use Rattle.std.proofs.lemmas.List.Sums.{sum_by-append, sum_by-cons, sum_by_more}
+use Rattle.std.proofs.Common.{◌≡◌, ◌∙◌, ◌+◌, ◌≤◌, ◌<◌, ◌-◌, ℕ, zero, suc, List, [], ◌∷◌, ◌++◌, length, map, refl, ap, sym, subst, arith}
+use Rattle.std.specs.Prelude.{None, Some, sum_by, All, Contains}
+use Rattle.std.proofs.lemmas.List.Sums.{sum_by-append}
 use Rattle.std.proofs.lemmas.List.Elements.{All-append, All-cons, All-nil, All-contains, Contains-append_left, Contains-append_right}
-use Rattle.std.proofs.Common.{length-append, ◌^◌}
+use Rattle.std.proofs.Common.{length-append}
 use Rattle.lattice_core.specs.declared.limit.TheConstants.{COORD}
 use Rattle.lattice_core.specs.Limits.{IsWithin}
 use Rattle.tree_forms.specs.declared.Op.{Op}
 use Rattle.tree_forms.specs.declared.Op.TheVariants as op
 use Rattle.tree_forms.specs.Trees.{Tree, Leaf, Join, leaves, postfix}
 use Rattle.name_core.specs.declared.name.Name.{Name}
-use Rattle.name_core.specs.Same.{same_name}
 use Rattle.region_attr.specs.declared.attr.Attr.{Attr}
 use Rattle.comb_tree.specs.declared.node.CombNode.{CombNode}
-use Rattle.comb_tree.specs.Nodes.{Member, Comb as CombTree, comb_nodes, leaf, apply, members}
+use Rattle.comb_tree.specs.Nodes.{Member, Comb as CombTree, comb_nodes, leaf, apply}
 use Rattle.object_set.specs.declared.object.Body.{Body}
 use Rattle.object_set.specs.declared.object.Body.TheVariants as bodies
 use Rattle.object_set.specs.Objects.{Parts, IsComb, member_names}
 use Rattle.directory.specs.Walks.{Entries, object_of, body_weight, comb_weight, IsSound}
-use Rattle.scene_prep.specs.Sizes.{size_of_name, body_size, object_size, told_size}
+use Rattle.scene_prep.specs.Sizes.{size_of_name, body_size, object_size}
 use Rattle.scene_prep.specs.Levels.{IsShallow, StandsWithin, node_size, nodes_size}
 use Rattle.scene_prep.proofs.Whole.{member_shallow, sizes_whole}
 

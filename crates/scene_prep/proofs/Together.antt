@@ -7,7 +7,7 @@ use Rattle.tree_forms.specs.Trees.{Tree, Leaf, Join, holds_by, joined}
 use Rattle.lattice_core.specs.declared.placement.Placement.{Placement}
 use Rattle.name_core.specs.declared.name.Name.{Name}
 use Rattle.region_attr.specs.declared.attr.Attr.{Attr}
-use Rattle.comb_tree.specs.Nodes.{Member, Comb as CombTree}
+use Rattle.comb_tree.specs.Nodes.{Member}
 use Rattle.object_set.specs.declared.object.Body.{Body}
 use Rattle.object_set.specs.declared.object.Body.TheVariants as bodies
 use Rattle.object_set.specs.Objects.{Parts}

@@ -1,5 +1,5 @@
 -- The number of levels cuts nothing off in a sound directory.
-use Rattle.std.proofs.Common.{◌≡◌, ◌∙◌, ◌+◌, ◌≤◌, ◌<◌, ℕ, zero, suc, List, [], ◌∷◌, ◌++◌, map, refl, ap, sym, subst, arith, Bool, true, false}
+use Rattle.std.proofs.Common.{◌≡◌, ◌∙◌, ◌+◌, ◌≤◌, ℕ, zero, suc, List, [], ◌∷◌, ◌++◌, map, refl, ap, sym, subst, arith, Bool, true, false}
 use Rattle.std.specs.Prelude.{None, Some, Option, cond, sum_by, Contains}
 use Rattle.std.proofs.lemmas.List.{map-append}
 use Rattle.std.proofs.lemmas.List.Elements.{Contains-append_left, Contains-append_right}
@@ -12,11 +12,11 @@ use Rattle.comb_tree.specs.Nodes.{Member}
 use Rattle.object_set.specs.declared.object.Body.{Body}
 use Rattle.object_set.specs.declared.object.Body.TheVariants as bodies
 use Rattle.object_set.specs.Objects.{Parts, member_names}
-use Rattle.directory.specs.Walks.{Entries, object_of, members_of, body_weight, comb_weight, Refers, IsWalk, combinations, IsSound}
+use Rattle.directory.specs.Walks.{Entries, object_of, members_of, body_weight, comb_weight, Refers, combinations, IsSound}
 use Rattle.scene_prep.specs.Levels.{IsShallow}
 use Rattle.scene_prep.specs.Solids.{Expanded, placed_tree}
-use Rattle.scene_prep.specs.Expanding.{expanded, expanded_within, expanded_tree, expanded_body, expanded_object, most_levels}
-use Rattle.scene_prep.specs.Regions.{NamedRegion, within_comb, placed_region, whole_region, node_region, united_parts, regions_united, regions_of_tree, regions_of_body, regions_of_object, regions_within, regions_of_name}
+use Rattle.scene_prep.specs.Expanding.{expanded, expanded_within, expanded_tree, expanded_body, expanded_object}
+use Rattle.scene_prep.specs.Regions.{NamedRegion, within_comb, placed_region, whole_region, node_region, united_parts, regions_united, regions_of_body, regions_of_object, regions_within, regions_of_name}
 use Rattle.scene_prep.specs.Sizes.{size_of_name, size_within, body_size, object_size}
 
 pub member_shallow : (n : ℕ) (directory : Entries) (name : Name) (o : Parts) (b : Name) → object_of directory name ≡ Some o → body_weight o.body ≡ 1 → IsShallow directory (suc n) name → Contains (member_names o.body) b → IsShallow directory n b

@@ -1,6 +1,6 @@
 -- The regions of names are together no larger than the names.
 use Rattle.std.proofs.Common.{◌≡◌, ◌∙◌, ◌+◌, ◌≤◌, ℕ, zero, suc, List, [], ◌∷◌, ◌++◌, length, map, refl, ap, sym, arith, Bool, true, false}
-use Rattle.std.specs.Prelude.{None, Some, Option, cond, sum_by, flat_map}
+use Rattle.std.specs.Prelude.{None, Some, Option, cond, sum_by}
 use Rattle.std.proofs.lemmas.List.Sums.{sum_by-append}
 use Rattle.std.specs.Option.{option_map}
 use Rattle.tree_forms.specs.declared.Op.TheVariants.{U, N, Minus}
@@ -13,7 +13,7 @@ use Rattle.object_set.specs.declared.object.Body.{Body}
 use Rattle.object_set.specs.declared.object.Body.TheVariants as bodies
 use Rattle.object_set.specs.Objects.{Parts}
 use Rattle.directory.specs.Walks.{Entries, object_of}
-use Rattle.scene_prep.specs.Solids.{Expanded, placed_solid}
+use Rattle.scene_prep.specs.Solids.{placed_solid}
 use Rattle.scene_prep.specs.Expanding.{expanded_within, expanded_tree, most_levels}
 use Rattle.scene_prep.specs.Regions.{NamedRegion, within_comb, placed_region, whole_region, node_region, united_parts, regions_united, regions_of_tree, regions_of_body, regions_of_object, regions_within, regions_of_name, regions_of}
 use Rattle.scene_prep.specs.Sizes.{size_of_name, names_size, size_within, body_size, object_size}

@@ -1,5 +1,5 @@
 -- Regions, sizes and answers of small directories, proved by computation.
-use Rattle.std.specs.Prelude.{◌≡◌, ◌^◌, ◌-◌, refl, ℕ, pos, negsuc, List, [], ◌∷◌, ◌++◌, map, length, codes, true, false, Option, Some, None}
+use Rattle.std.specs.Prelude.{◌≡◌, ◌^◌, ◌-◌, refl, ℕ, pos, negsuc, List, [], ◌∷◌, map, length, codes, true, Some, None}
 use Rattle.std.specs.Fmt.{digits}
 use Rattle.std.proofs.Common.{lit<}
 use Rattle.tree_forms.specs.declared.Op.TheVariants.{U, N, Minus}
@@ -21,8 +21,8 @@ use Rattle.object_set.specs.Objects.{Parts}
 use Rattle.object_set.specs.declared.object.Body.TheVariants.{Solid, Comb}
 use Rattle.directory.specs.Walks.{Entries}
 use Rattle.scene_prep.specs.declared.fault.PrepFault.TheVariants.{Missing, TooMany}
-use Rattle.scene_prep.specs.Records.{Instance, RegionBody, Region}
-use Rattle.scene_prep.specs.Solids.{PlacedSolid, Expanded, numbered, in_world, point_under, surface_under, box_under}
+use Rattle.scene_prep.specs.Records.{Region}
+use Rattle.scene_prep.specs.Solids.{Expanded, in_world, point_under, surface_under, box_under}
 use Rattle.scene_prep.specs.Regions.{NamedRegion, regions_of, regions_of_name}
 use Rattle.scene_prep.specs.Scenes.{white, colour_under, path_text, body_of, scene_of}
 use Rattle.scene_prep.specs.Sizes.{names_size, size_of_name, told_size}

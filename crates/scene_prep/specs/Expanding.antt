@@ -1,5 +1,5 @@
 -- The trees of names, every member being expanded: trees over solids.
-use Rattle.std.specs.Prelude.{ℕ, zero, suc, ◌+◌, List, [], Option, Some, None}
+use Rattle.std.specs.Prelude.{ℕ, zero, suc, ◌+◌, [], Option, Some, None}
 use Rattle.tree_forms.specs.Trees.{Tree, Leaf, Join}
 use Rattle.name_core.specs.declared.name.Name.{Name}
 use Rattle.comb_tree.specs.Nodes.{Member, Comb as CombTree}

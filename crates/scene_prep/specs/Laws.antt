@@ -1,5 +1,5 @@
 -- Laws of regions, of trees, of sizes and of placements. Those that the levels cut nothing off hold of sound directories, the others of any.
-use Rattle.std.specs.Prelude.{◌≡◌, ◌≤◌, ◌+◌, ℕ, Bool, false, List, length, map, filter_map, sum_by, Option, Some, None}
+use Rattle.std.specs.Prelude.{◌≡◌, ◌≤◌, ℕ, Bool, false, List, length, filter_map, sum_by, Option, Some, None}
 use Rattle.std.specs.List.{list_any, range_with_len}
 use Rattle.tree_forms.specs.Trees.{leaves, holds_by}
 use Rattle.name_core.specs.declared.name.Name.{Name}

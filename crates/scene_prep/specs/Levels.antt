@@ -1,5 +1,5 @@
 -- How deep names and nodes lie, how far they are placed, and how large they are, as the code goes down.
-use Rattle.std.specs.Prelude.{◌≡◌, ℕ, ℤ, ◌≤◌, ◌-◌, ◌*◌, pos, List, ◌∷◌, sum_by, Option, Some}
+use Rattle.std.specs.Prelude.{◌≡◌, ℕ, ◌≤◌, ◌-◌, ◌*◌, pos, List, ◌∷◌, sum_by, Option, Some}
 use Rattle.lattice_core.specs.declared.limit.TheConstants.{COORD}
 use Rattle.lattice_core.specs.declared.placement.Placement.{Placement}
 use Rattle.lattice_core.specs.Limits.{IsWithin}

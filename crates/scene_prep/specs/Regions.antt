@@ -1,6 +1,5 @@
 -- The regions of a list of names.
-use Rattle.std.specs.Prelude.{ℕ, zero, suc, ◌+◌, List, [], ◌∷◌, ◌++◌, map, flat_map, length, Bool, cond, codes, decimal, Option, Some, None}
-use Rattle.tree_forms.specs.declared.Op.{Op}
+use Rattle.std.specs.Prelude.{ℕ, zero, suc, ◌+◌, List, [], ◌∷◌, ◌++◌, map, flat_map, cond, Option, Some, None}
 use Rattle.tree_forms.specs.declared.Op.TheVariants.{U, N, Minus}
 use Rattle.tree_forms.specs.Trees.{Tree, Leaf, Join}
 use Rattle.name_core.specs.declared.name.Name.{Name}

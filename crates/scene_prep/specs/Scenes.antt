@@ -1,5 +1,5 @@
 -- The scene of a list of names: its regions with their places, their paths, their colours, and their instances.
-use Rattle.std.specs.Prelude.{ℕ, List, [], ◌∷◌, ◌++◌, map, flat_map, filter_map, cond, codes, decimal, unwrap_or, Option, Some, None, slice_get}
+use Rattle.std.specs.Prelude.{ℕ, List, [], ◌++◌, map, flat_map, filter_map, cond, codes, decimal, unwrap_or, Option, Some, None, slice_get}
 use Rattle.std.specs.Option.{option_or}
 use Rattle.std.specs.List.{enumerate_from, last_or}
 use Rattle.name_core.specs.declared.name.Name.{Name}

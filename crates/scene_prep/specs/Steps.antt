@@ -1,5 +1,5 @@
 -- Words of the code: colours and paths as the walk goes down.
-use Rattle.std.specs.Prelude.{ℕ, List, [], ◌∷◌, ◌++◌, cond, codes, decimal, Bool, false, Option, Some, None}
+use Rattle.std.specs.Prelude.{ℕ, List, [], ◌∷◌, ◌++◌, cond, codes, Bool, false, Option, Some, None}
 use Rattle.name_core.specs.declared.name.Name.{Name}
 use Rattle.region_attr.specs.declared.attr.Attr.{Attr}
 use Rattle.region_attr.specs.declared.attr.Rgb.{Rgb}

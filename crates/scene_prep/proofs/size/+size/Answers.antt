@@ -1,4 +1,4 @@
-use Rattle.std.proofs.Common.{◌≡◌, ◌∙◌, ◌<◌, ◌-◌, Some, None, All, length, refl, ap, sym, subst, arith, rules}
+use Rattle.std.proofs.Common.{◌≡◌, ◌∙◌, ◌<◌, Some, None, length, refl, ap, sym, subst, arith, rules}
 use Rattle.std.specs.Option.{option_copied}
 use Rattle.std.proofs.lemmas.Bool.{eqb-true, eqb-false}
 use Rattle.std.proofs.lemmas.Result.{IfOk-weaker}
@@ -7,7 +7,7 @@ use Rattle.object_set.specs.Objects.{IsBody, IsComb}
 use Rattle.object_set.specs.declared.object.Body.TheVariants.{Solid, Comb}
 use Rattle.directory.specs.Walks.{object_of}
 use Rattle.scene_prep.specs.Sizes.{told_size}
-use Rattle.scene_prep.specs.Levels.{StandsWithin, nodes_size}
+use Rattle.scene_prep.specs.Levels.{nodes_size}
 use Rattle.scene_prep.proofs.Sizing.{missing_sized, solid_sized, empty_sized, comb_sized, comb_deep, comb_stands_below, some_of}
 use Rattle.scene_prep.proofs.size.+size.Goals as goal
 

@@ -7,6 +7,7 @@ pub mod Scenes
 pub mod Sizes
 pub mod Steps
 pub mod Levels
+pub mod Writing
 pub mod Outcomes
 pub mod Laws
 pub mod Examples

@@ -2,6 +2,8 @@
 #![tactic(auto)]
 
 mod colour;
+mod expand;
+mod expansion;
 mod fault;
 mod laws;
 mod path;

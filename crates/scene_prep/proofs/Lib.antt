@@ -1,0 +1,9 @@
+mod Expansions
+mod Numbers
+mod Placements
+mod Sizing
+mod Together
+mod Whole
+mod Within
+mod Worlds
+mod Writing

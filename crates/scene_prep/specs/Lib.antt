@@ -1,0 +1,13 @@
+pub mod Records
+pub mod Stored
+pub mod Solids
+pub mod Expanding
+pub mod Regions
+pub mod Scenes
+pub mod Sizes
+pub mod Steps
+pub mod Levels
+pub mod Writing
+pub mod Outcomes
+pub mod Laws
+pub mod Examples

@@ -1,0 +1,29 @@
+-- How the types keep regions.
+use Rattle.std.specs.Prelude.{ℕ, List, refl}
+use Rattle.std.specs.Coded.{Coded, code_by, coded×, coded_ℕ, coded_list}
+use Rattle.lattice_core.specs.declared.boxes.Box3.{Box3}
+use Rattle.lattice_core.specs.contracts.boxes.Box3 as boxes
+use Rattle.region_attr.specs.declared.attr.Rgb.{Rgb}
+use Rattle.region_attr.specs.contracts.attr.Rgb as colours
+use Rattle.solid_set.specs.declared.placed.Placed.{Placed}
+use Rattle.solid_set.specs.declared.surface.Surface.{Surface}
+use Rattle.solid_set.specs.contracts.surface.Surface as surfaces
+use Rattle.bool_weave.specs.Masks.{Mask, mask_code}
+use Rattle.scene_prep.specs.Records.{Instance, RegionBody, Region}
+
+abbrev pub instance_of : Placed → Instance
+instance_of placed = record { surface = placed.surface; bounds = placed.bounds }
+
+abbrev pub instance_code : Coded Instance
+instance_code = code_by (Surface × Box3) (coded× surfaces.the_row.coded boxes.the_row.coded) (λ i. (i.surface, i.bounds)) (λ p. record { surface = p.0; bounds = p.1 }) (λ _. refl)
+
+abbrev pub body_code : Coded RegionBody
+body_code =
+    code_by (ℕ × (ℕ × (Rgb × (Mask × List Instance)))) (coded× coded_ℕ (coded× coded_ℕ (coded× colours.the_row.coded (coded× mask_code (coded_list instance_code)))))
+    (λ b. (b.id, (b.air, (b.rgb, (b.tree, b.instances)))))
+    (λ p. record { id = p.0; air = p.1.0; rgb = p.1.1.0; tree = p.1.1.1.0; instances = p.1.1.1.1 }) (λ _. refl)
+
+abbrev pub region_code : Coded Region
+region_code =
+    code_by (ℕ × (List ℕ × RegionBody)) (coded× coded_ℕ (coded× (coded_list coded_ℕ) body_code)) (λ r. (r.place, (r.path, r.body)))
+    (λ p. record { place = p.0; path = p.1.0; body = p.1.1 }) (λ _. refl)

@@ -18,8 +18,8 @@ use Rattle.solid_set.specs.declared.surface.Surface.{Surface}
 use Rattle.lattice_core.specs.declared.boxes.Box3.{Box3}
 use Rattle.solid_set.specs.Surfaces.{surface_of, bounds_of}
 use Rattle.bool_weave.specs.declared.mask.MaskNode.TheVariants as mask
-use Rattle.scene_prep.specs.Records.{Instance}
-use Rattle.scene_prep.specs.Stored.{instance_of}
+use Rattle.shot_core.specs.Regions.{Instance}
+use Rattle.shot_core.specs.Prepared.{instance_of}
 use Rattle.scene_prep.specs.Solids.{Expanded, placed_tree, in_world}
 use Rattle.scene_prep.specs.Expanding.{expanded, expanded_tree, expanded_body, expanded_object}
 use Rattle.scene_prep.specs.Levels.{IsPlacedAbove}

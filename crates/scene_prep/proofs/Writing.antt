@@ -25,8 +25,8 @@ use Rattle.bool_weave.specs.Masks.{mask_nodes, Mask}
 use Rattle.bool_weave.specs.Masks as masks
 use Rattle.bool_weave.specs.declared.mask.MaskNode.{MaskNode}
 use Rattle.bool_weave.specs.declared.mask.MaskNode.TheVariants as mask
-use Rattle.scene_prep.specs.Records.{Instance}
-use Rattle.scene_prep.specs.Stored.{instance_of}
+use Rattle.shot_core.specs.Regions.{Instance}
+use Rattle.shot_core.specs.Prepared.{instance_of}
 use Rattle.scene_prep.specs.Solids.{PlacedSolid, Expanded, solids_of, numbered, placed_tree, in_world}
 use Rattle.scene_prep.specs.Expanding.{expanded, expanded_tree}
 use Rattle.scene_prep.specs.Levels.{IsPlacedAbove, node_size, nodes_size}

@@ -21,7 +21,7 @@ use Rattle.object_set.specs.Objects.{Parts}
 use Rattle.object_set.specs.declared.object.Body.TheVariants.{Solid, Comb}
 use Rattle.directory.specs.Walks.{Entries}
 use Rattle.scene_prep.specs.declared.fault.PrepFault.TheVariants.{Missing, TooMany}
-use Rattle.scene_prep.specs.Records.{Region}
+use Rattle.shot_core.specs.Regions.{Region}
 use Rattle.scene_prep.specs.Solids.{Expanded, in_world, point_under, surface_under, box_under}
 use Rattle.scene_prep.specs.Regions.{NamedRegion, regions_of, regions_of_name}
 use Rattle.scene_prep.specs.Scenes.{white, colour_under, path_text, body_of, scene_of}

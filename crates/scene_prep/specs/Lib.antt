@@ -1,5 +1,3 @@
-pub mod Records
-pub mod Stored
 pub mod Solids
 pub mod Expanding
 pub mod Regions

@@ -6,7 +6,7 @@ use Rattle.directory.specs.Walks.{Entries, object_of}
 use Rattle.scene_prep.specs.declared.fault.PrepFault.{PrepFault}
 use Rattle.scene_prep.specs.declared.fault.PrepFault.TheVariants.{Missing, TooMany, Memory}
 use Rattle.scene_prep.specs.Sizes.{names_size, most_size, told_size}
-use Rattle.scene_prep.specs.Records.{Region}
+use Rattle.shot_core.specs.Regions.{Region}
 use Rattle.scene_prep.specs.Scenes.{scene_of}
 
 -- the first of the names that is not there

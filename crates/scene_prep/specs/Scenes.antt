@@ -6,7 +6,7 @@ use Rattle.name_core.specs.declared.name.Name.{Name}
 use Rattle.region_attr.specs.declared.attr.Attr.{Attr}
 use Rattle.region_attr.specs.declared.attr.Rgb.{Rgb}
 use Rattle.directory.specs.Walks.{Entries}
-use Rattle.scene_prep.specs.Records.{RegionBody, Region}
+use Rattle.shot_core.specs.Regions.{RegionBody, Region}
 use Rattle.scene_prep.specs.Solids.{solids_of, numbered, in_world}
 use Rattle.scene_prep.specs.Regions.{NamedRegion, regions_of}
 

@@ -23,7 +23,7 @@ use Rattle.solid_set.specs.declared.surface.Surface.TheVariants.{Planes, HalfSpa
 use Rattle.solid_set.specs.Bounds.{all_of_space}
 use Rattle.solid_set.specs.Surfaces.{plane_of_half, placed_sides}
 use Rattle.bool_weave.specs.Masks.{Mask}
-use Rattle.scene_prep.specs.Records.{Instance}
+use Rattle.shot_core.specs.Regions.{Instance}
 
 -- a solid, and the placements on the way down to it, the upper one first
 pub record PlacedSolid : Type 0 where

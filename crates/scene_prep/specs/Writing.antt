@@ -9,7 +9,7 @@ use Rattle.bool_weave.specs.declared.mask.MaskNode.{MaskNode}
 use Rattle.bool_weave.specs.declared.mask.MaskNode.TheVariants as mask
 use Rattle.scene_prep.specs.Solids.{Expanded, solids_of, numbered, placed_tree, in_world}
 use Rattle.scene_prep.specs.Expanding.{expanded}
-use Rattle.scene_prep.specs.Stored.{instance_of}
+use Rattle.shot_core.specs.Prepared.{instance_of}
 use Rattle.scene_prep.specs.declared.expansion.Expansion.{Expansion}
 
 -- the nodes of a tree and its solids stand behind those of before, and its leaves go on with the numbers

@@ -106,6 +106,7 @@ out_from ray woven first (r ∷ rs) spanned leaves =
     leaves_one (is_hit ray r) (map (is_hit ray) rs) (body_claims woven first r.body) (claims_from woven (first + length r.body.instances) rs)
     (λ bare. body_nothing ray woven first r head (leaves 0 r (omega arith)) bare)
     (out_from ray woven (first + length r.body.instances) rs tail (λ k d lt. leaves (suc k) d (omega (arith, lt))))
+
 -- the regions that are not hit claim nothing
 pub claims_left_out : (rs : List Region) (ray : Ray) → HaveInstances rs → LeavesOut ClaimsNothing (map (is_hit ray) rs) (claims_on rs ray)
 claims_left_out rs ray leaves =

@@ -1,15 +1,20 @@
 -- What the checks of the tests say of trees and of scenes.
-use Rattle.std.proofs.Common.{◌≡◌, ◌<◌, ◌≤◌, ◌+◌, ℕ, zero, suc, List, [], ◌∷◌, ◌++◌, length, get_or, Option, Some, None, IfSome, All, AllPairs, ap, subst, refl, inl, inr, arith}
-use Rattle.std.proofs.lemmas.List.{length-append}
+use Rattle.std.proofs.Common.{◌≡◌, ◌<◌, ◌≤◌, ◌+◌, ℕ, zero, suc, List, [], ◌∷◌, ◌++◌, ◌∙◌, sym, length, get_or, Option, Some, None, IfSome, All, AllPairs, ap, subst, refl, inl, inr, arith}
+use Rattle.std.proofs.lemmas.List.{length-append, append_assoc}
 use Rattle.std.proofs.lemmas.List.Kept.{AllPairs-cons}
+use Rattle.tree_forms.specs.declared.Op.{Op}
 use Rattle.tree_forms.specs.Trees.{Leaf, Join, leaves}
 use Rattle.bool_weave.specs.declared.mask.MaskNode.{MaskNode}
-use Rattle.bool_weave.specs.Masks.{Mask, leaf, apply, mask_nodes}
+use Rattle.bool_weave.specs.Masks.{Mask, leaf, IsMask, apply, mask_nodes}
 use Rattle.bool_weave.specs.Tables.{leaf_end}
 use Rattle.bool_weave.proofs.Sorted.{Has, has_append_left, has_append_right, has_append_cases, contains_from_has}
 use Rattle.overlap_list.proofs.Ordered.{all_from_has}
 use Rattle.shot_core.specs.declared.limit.TheConstants.{MOST_LEAVES}
 use Rattle.shot_core.specs.Regions.{Region, HasLeavesBelow, IsScene, instances_of, size_of, size_of_all}
+
+-- the nodes of two trees and then an operator are those of a tree
+pub join_nodes : (op : Op) (l r : Mask) (ns : List MaskNode) → ns ≡ mask_nodes l ++ mask_nodes r ++ apply op ∷ [] → IsMask ns
+join_nodes op l r ns is = (Join op l r, sym (is ∙ append_assoc (mask_nodes l) (mask_nodes r) (apply op ∷ [])))
 
 leaf_below : (a : Option ℕ) (count : ℕ) → leaf_end (leaf a) ≤ count → IfSome a (λ i. i < count)
 leaf_below None count h = tt

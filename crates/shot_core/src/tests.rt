@@ -1,5 +1,6 @@
-ghost use Rattle.std.specs.Prelude.{◌≡◌, ◌≤◌, pos, All, IfOk, IsTrue};
+ghost use Rattle.std.specs.Prelude.{◌≡◌, ◌<◌, ◌≤◌, pos, All, IfOk, IsTrue};
 ghost use Rattle.lattice_core.specs.Limits.{IsAtMost, IsWithin};
+ghost use Rattle.lattice_core.specs.declared.limit.TheConstants.{WORLD};
 ghost use Rattle.bool_weave.specs.Masks.{leaf, apply};
 ghost use Rattle.bool_weave.specs.Tables.{leaf_end};
 ghost use Rattle.shot_core.specs.Regions.{IsPathText, IsScene};
@@ -41,7 +42,9 @@ fn at(x: i64, y: i64, z: i64) -> V3
     }
 }
 
-fn ray(x: i64, y: i64, z: i64) -> Ray {
+fn ray(x: i64, y: i64, z: i64) -> Ray
+    ensures { IsWithin WORLD result.origin }
+{
     Ray {
         origin: at(x, y, z),
         dir: Dir::PlusX,
@@ -203,10 +206,11 @@ fn path_of(alloc: Global) -> Result<PathText, Memory>
 fn scene_of(rt: &impl Abort, alloc: Global, rows: &[Row]) -> Result<Scene, Fail> {
     let mut regions = Vec::new(alloc);
     for (i, row) in rows.iter().enumerate() {
+        let place = u32::try_from(i + 1).expect(rt, "few regions");
         let path = path_of(alloc)?;
         let body = body_of(rt, alloc, *row)?;
         regions.push(SceneRegion::new(
-            i as u32 + 1,
+            place,
             Arc::new(alloc, path)?,
             Arc::new(alloc, body)?,
         ))?;
@@ -221,7 +225,12 @@ fn shot<L: Ledger>(
     alloc: Global,
     scene: &Scene,
     ray: &Ray,
-) -> Result<Vec<Lit>, Memory> {
+) -> Result<Vec<Lit>, Memory>
+    requires name { blank.name ≡ L.name }
+    requires parts { blank.parts ≡ L.parts }
+    requires some { 0 < blank.parts }
+    requires origin { IsWithin WORLD ray.now.origin }
+{
     let mut steps: Steps<L> = Steps::new(blank);
     shoot(alloc, scene, ray, &mut steps)
 }
@@ -229,8 +238,8 @@ fn shot<L: Ledger>(
 /// Region, start, end, instance, face and level.
 type Wanted = (u32, Pos, Pos, u32, u8, u8);
 
-fn whole(n: i128) -> Pos {
-    Pos::frac(n, 1)
+fn whole(n: u32) -> Pos {
+    Pos::frac(i128::from(n), 1)
 }
 
 fn check_shot(
@@ -239,7 +248,9 @@ fn check_shot(
     rows: &[Row],
     ray: &Ray,
     wanted: &[Wanted],
-) -> Result<(), Fail> {
+) -> Result<(), Fail>
+    requires { IsWithin WORLD ray.now.origin }
+{
     let scene = scene_of(rt, alloc, rows)?;
     let lit = shot::<Brand>(Blank::new(1), alloc, &scene, ray)?;
     assert_eq!(rt; lit.len(), wanted.len());
@@ -332,8 +343,10 @@ fn check_overlaps(
     alloc: Global,
     rows: &[Row],
     ray: &Ray,
-    wanted: &[(u32, u32, i128, i128)],
-) -> Result<(), Fail> {
+    wanted: &[(u32, u32, u32, u32)],
+) -> Result<(), Fail>
+    requires { IsWithin WORLD ray.now.origin }
+{
     let scene = scene_of(rt, alloc, rows)?;
     let Ok(runs) = check_ray(alloc, &scene, ray) else {
         return Err("no memory")?;
@@ -352,43 +365,50 @@ fn check_overlaps(
     Ok(())
 }
 
+const AWAY: Shape = Shape::Rpp(0, 10, 50, 60, 0, 10);
+
+const B: Shape = Shape::Rpp(5, 15, 0, 10, 0, 10);
+
+/// A region that the ray misses, and two that overlap, the first of them of that air.
+fn check_air(
+    rt: &impl Abort,
+    alloc: Global,
+    air: u32,
+    lit: &[Wanted],
+    runs: &[(u32, u32, u32, u32)],
+) -> Result<(), Fail> {
+    let rows: [Row; 3] = [
+        (0, Form::One, &[AWAY]),
+        (air, Form::One, &[A]),
+        (0, Form::One, &[B]),
+    ];
+    let through = ray(-5, 5, 5);
+    check_shot(rt, alloc, &rows, &through, lit)?;
+    check_overlaps(rt, alloc, &rows, &through, runs)
+}
+
 #[test]
 fn overlapping_regions_with_and_without_air(rt: HostRuntime) -> Result<(), Fail> {
-    let b = Shape::Rpp(5, 15, 0, 10, 0, 10);
-    let away = Shape::Rpp(0, 10, 50, 60, 0, 10);
-    let through = ray(-5, 5, 5);
-    let plain: &[Row] = &[
-        (0, Form::One, &[away]),
-        (0, Form::One, &[A]),
-        (0, Form::One, &[b]),
-    ];
-    let airy: &[Row] = &[
-        (0, Form::One, &[away]),
-        (1, Form::One, &[A]),
-        (0, Form::One, &[b]),
-    ];
-    check_shot(
+    check_air(
         &rt,
         rt.alloc(),
-        plain,
-        &through,
+        0,
         &[
             (1, whole(5), whole(15), 1, 1, 255),
             (2, whole(15), whole(20), 1, 2, 255),
         ],
+        &[(1, 2, 10, 15)],
     )?;
-    check_shot(
+    check_air(
         &rt,
         rt.alloc(),
-        airy,
-        &through,
+        1,
         &[
             (1, whole(5), whole(10), 1, 1, 255),
             (2, whole(10), whole(20), 2, 1, 255),
         ],
-    )?;
-    check_overlaps(&rt, rt.alloc(), plain, &through, &[(1, 2, 10, 15)])?;
-    check_overlaps(&rt, rt.alloc(), airy, &through, &[])
+        &[],
+    )
 }
 
 #[test]

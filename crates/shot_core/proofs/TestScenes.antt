@@ -1,5 +1,5 @@
 -- What the checks of the tests say of trees and of scenes.
-use Rattle.std.proofs.Common.{◌≡◌, ◌<◌, ◌≤◌, ◌+◌, ℕ, zero, suc, List, [], ◌∷◌, ◌++◌, ◌∙◌, sym, length, get_or, Option, Some, None, IfSome, All, AllPairs, ap, subst, refl, inl, inr, arith}
+use Rattle.std.proofs.Common.{◌≡◌, ◌<◌, ◌≤◌, ◌+◌, ℕ, zero, suc, List, [], ◌∷◌, ◌++◌, ◌∙◌, sym, length, Option, Some, None, IfSome, All, AllPairs, subst, refl, inl, inr, arith}
 use Rattle.std.proofs.lemmas.List.{length-append, append_assoc}
 use Rattle.std.proofs.lemmas.List.Kept.{AllPairs-cons}
 use Rattle.tree_forms.specs.declared.Op.{Op}

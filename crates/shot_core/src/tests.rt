@@ -209,11 +209,7 @@ fn scene_of(rt: &impl Abort, alloc: Global, rows: &[Row]) -> Result<Scene, Fail>
         let place = u32::try_from(i + 1).expect(rt, "few regions");
         let path = path_of(alloc)?;
         let body = body_of(rt, alloc, *row)?;
-        regions.push(SceneRegion::new(
-            place,
-            Arc::new(alloc, path)?,
-            Arc::new(alloc, body)?,
-        ))?;
+        regions.push(SceneRegion::new(place, Arc::new(alloc, path)?, Arc::new(alloc, body)?))?;
     }
     let sound = is_scene(&regions);
     assert!(rt; sound);

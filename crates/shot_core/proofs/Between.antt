@@ -1,8 +1,8 @@
 -- Between two places lies a fraction, so a ray that has a segment in a solid meets its box.
-use Rattle.std.proofs.Common.{◌≡◌, ◌<◌, ◌≤◌, ◌+◌, ◌*◌, ◌-◌, ℕ, ℤ, pos, negsuc, ◌+ℤ◌, ◌-ℤ◌, ◌*ℤ◌, ◌<ℤ◌, ◌≤ℤ◌, Bool, true, false, refl, ap, sym, subst, ◌∙◌, inl, inr, arith}
+use Rattle.std.proofs.Common.{◌≡◌, ◌<◌, ◌≤◌, ◌+◌, ◌*◌, ◌-◌, ℕ, ℤ, pos, negsuc, ◌+ℤ◌, ◌-ℤ◌, ◌*ℤ◌, ◌<ℤ◌, ◌≤ℤ◌, true, false, refl, ap, sym, subst, ◌∙◌, inl, inr, arith}
 use Rattle.std.proofs.lemmas.Int.{ints, by_lt_z}
 use Rattle.std.proofs.lemmas.Nat.{mul-le}
-use Rattle.lattice_core.proofs.Products.{mul_assoc, mul_swap, mul_add, mul_sub, add_mul, mul_below, positive_is}
+use Rattle.lattice_core.proofs.Products.{mul_assoc, mul_swap, mul_add, add_mul, mul_below, positive_is}
 use Rattle.surd_order.specs.declared.position.Pos.{Pos}
 use Rattle.surd_order.specs.declared.position.Pos.TheVariants.{Frac, Surd}
 use Rattle.surd_order.specs.AtMost.{AtMost, IsAtMostRoot, IsAtLeastRoot}

@@ -11,7 +11,7 @@ use Rattle.lattice_core.specs.declared.boxes.Side.TheVariants.{Open, At}
 use Rattle.lattice_core.specs.declared.boxes.Box3.{Box3}
 use Rattle.lattice_core.specs.declared.boxes.Box3.TheVariants.{Empty, Span}
 use Rattle.lattice_core.specs.declared.ray.Ray.{Ray}
-use Rattle.lattice_core.specs.Boxes.{IsHull, IsMeet, IsTidy, MeetsRay}
+use Rattle.lattice_core.specs.Boxes.{IsHull, IsTidy, MeetsRay}
 use Rattle.lattice_core.specs.Extents.{IsOrdered, meet_low, meet_high, reach_low, reach_high}
 use Rattle.lattice_core.specs.Spans.{IsNonEmpty, IsTidyOf, hull_span, meet_span}
 use Rattle.lattice_core.specs.Units.{unit_of}

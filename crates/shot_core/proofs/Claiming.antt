@@ -1,5 +1,5 @@
 -- A region that a ray does not hit claims nothing, and what the regions that it hits claim stands among what all of them claim.
-use Rattle.std.proofs.Common.{◌≡◌, ◌≢◌, ◌<◌, ◌≤◌, ◌+◌, ◌==◌, ℕ, zero, suc, List, [], ◌∷◌, ◌++◌, length, map, get_or, slice_get, Bool, true, false, ◌||◌, ◌&&◌, not, Option, Some, None, All, IfSome, ap, sym, subst, ◌∙◌, refl, inl, inr, arith}
+use Rattle.std.proofs.Common.{◌≡◌, ◌≢◌, ◌<◌, ◌≤◌, ◌+◌, ℕ, zero, suc, List, [], ◌∷◌, ◌++◌, length, map, get_or, slice_get, Bool, true, false, ◌||◌, ◌&&◌, not, Option, Some, None, IfSome, ap, sym, subst, ◌∙◌, refl, inl, inr, arith}
 use Rattle.std.specs.List.{list_any}
 use Rattle.std.proofs.lemmas.Bool.{ne_eqb}
 use Rattle.std.proofs.lemmas.List.{length-append}
@@ -11,13 +11,12 @@ use Rattle.tree_forms.specs.declared.Op.TheVariants.{U, N, Minus}
 use Rattle.tree_forms.specs.Trees.{Leaf, Join, leaves}
 use Rattle.bool_weave.specs.declared.woven.Woven.{Woven}
 use Rattle.bool_weave.specs.Masks.{Mask, leaf_value, mask_holds}
-use Rattle.bool_weave.specs.Claims.{Interval, intervals_of, covers, spans, claims_interval, claims_of}
+use Rattle.bool_weave.specs.Claims.{Interval, intervals_of, covers, spans, claims_interval}
 use Rattle.bool_weave.proofs.Sorted.{Has, has_append_left, has_append_right, contains_from_has}
 use Rattle.overlap_list.specs.declared.region.RegionClaims.{RegionClaims}
-use Rattle.overlap_list.specs.Winners.{claims_at}
-use Rattle.shot_core.specs.Regions.{Instance, Region, RegionBody, HasLeavesBelow, HaveInstances, instances_of, firsts_from, size_of, size_of_all}
+use Rattle.shot_core.specs.Regions.{Instance, Region, HasLeavesBelow, HaveInstances, instances_of, firsts_from, size_of_all}
 use Rattle.shot_core.specs.Shots.{woven_if, woven_from, woven_of, body_claims, claims_from, claims_on}
-use Rattle.shot_core.specs.Steps.{is_some, has_segment, is_hit, marked_from, hit_from, no_region, numbered_claims}
+use Rattle.shot_core.specs.Steps.{is_some, has_segment, is_hit, marked_from, no_region, numbered_claims}
 use Rattle.shot_core.proofs.Numbering.{get_left, get_right}
 use Rattle.shot_core.proofs.Weaving.{or_false}
 use Rattle.shot_core.proofs.Picking.{kept, LeavesOut, ClaimsNothing, map_same_on, map_twice}
@@ -106,6 +105,7 @@ out_from ray woven first (r ∷ rs) spanned leaves =
     leaves_one (is_hit ray r) (map (is_hit ray) rs) (body_claims woven first r.body) (claims_from woven (first + length r.body.instances) rs)
     (λ bare. body_nothing ray woven first r head (leaves 0 r (omega arith)) bare)
     (out_from ray woven (first + length r.body.instances) rs tail (λ k d lt. leaves (suc k) d (omega (arith, lt))))
+
 -- the regions that are not hit claim nothing
 pub claims_left_out : (rs : List Region) (ray : Ray) → HaveInstances rs → LeavesOut ClaimsNothing (map (is_hit ray) rs) (claims_on rs ray)
 claims_left_out rs ray leaves =

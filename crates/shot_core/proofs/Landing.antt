@@ -1,5 +1,5 @@
 -- A ray that misses the box of an instance has no segment in it.
-use Rattle.std.proofs.Common.{◌≡◌, ◌⊎◌, ℕ, ℤ, pos, ◌*ℤ◌, ◌<ℤ◌, ◌≤ℤ◌, Bool, true, false, cond, List, [], ◌∷◌, Option, Some, None, refl, ap, sym, subst, ◌∙◌, inl, inr, arith}
+use Rattle.std.proofs.Common.{◌≡◌, ℤ, pos, ◌*ℤ◌, ◌<ℤ◌, ◌≤ℤ◌, Bool, true, false, cond, List, [], ◌∷◌, Option, Some, None, refl, ap, sym, subst, ◌∙◌, inl, inr, arith}
 use Rattle.std.proofs.lemmas.Cmp.{tied_itself}
 use Rattle.std.proofs.lemmas.Int.{ints, by_lt_z}
 use Rattle.std.specs.Cmp.{IsTotalOrder}
@@ -35,7 +35,7 @@ use Rattle.solid_set.proofs.Foremost.{IsForemost, none_moved, foremost_is}
 use Rattle.solid_set.proofs.SpanLaws.{ArePlaces, entering_places, leaving_places}
 use Rattle.solid_set.proofs.InsideLaws.{AreEnds, ends_are, not_preceding}
 use Rattle.solid_set.proofs.SurfaceLaws.{segment_tells}
-use Rattle.shot_core.proofs.Between.{IsBetween, between_places}
+use Rattle.shot_core.proofs.Between.{between_places}
 
 spelled_place : (x : Pos) → IsSpelled x → IsPlace x
 spelled_place (Frac p q) h = h.0

@@ -9,3 +9,4 @@ pub mod Weaving
 pub mod Claiming
 pub mod PickingOverlaps
 pub mod Shooting
+pub mod TestScenes

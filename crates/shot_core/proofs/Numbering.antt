@@ -1,5 +1,5 @@
 -- The numbers of regions' first instances, and the instance of a number.
-use Rattle.std.proofs.Common.{◌≡◌, ◌<◌, ◌≤◌, ◌+◌, ◌-◌, ℕ, zero, suc, List, [], ◌∷◌, ◌++◌, length, map, get_or, slice_get, Option, Some, None, Bor, true, false, nat_le, ap, sym, subst, ◌∙◌, refl, arith}
+use Rattle.std.proofs.Common.{◌≡◌, ◌<◌, ◌≤◌, ◌+◌, ◌-◌, ℕ, zero, suc, List, [], ◌∷◌, ◌++◌, length, map, get_or, slice_get, Option, Some, None, Bor, true, false, nat_le, ap, sym, ◌∙◌, refl, arith}
 use Rattle.std.specs.List.{HoldsAt}
 use Rattle.std.specs.Option.{MatchOption, option_map, option_copied}
 use Rattle.std.proofs.lemmas.Bool.{leb-true, leb-false}
@@ -7,7 +7,7 @@ use Rattle.std.proofs.lemmas.List.{length-append, length-map, append-nil}
 use Rattle.std.proofs.lemmas.Option.{slice_get_past, slice_get-map, slice_get-get_or}
 use Rattle.solid_set.specs.declared.placed.Placed.{Placed}
 use Rattle.shot_core.specs.Prepared.{instance_of}
-use Rattle.shot_core.specs.Regions.{Instance, Region, instances_of, firsts_from}
+use Rattle.shot_core.specs.Regions.{Region, instances_of, firsts_from}
 use Rattle.shot_core.specs.Steps.{IsRising, no_region}
 
 pub get_left : {X : Type 0} (xs ys : List X) (i : ℕ) → i < length xs → slice_get (xs ++ ys) i ≡ slice_get xs i

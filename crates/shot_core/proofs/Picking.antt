@@ -1,9 +1,9 @@
 -- Regions that claim nothing may be left out: winners, runs, hits and partitions stay, but for the regions' numbers.
 use mathlib.Core.Path.{fun_ext}
-use Rattle.std.proofs.Common.{◌≡◌, ◌<◌, ◌≤◌, ◌+◌, ◌==◌, ℕ, zero, suc, List, [], ◌∷◌, ◌++◌, length, get_or, map, filter, drop, Bool, true, false, cond, not, ◌&&◌, ◌||◌, Option, Some, None, IsSome, ap, sym, subst, ◌∙◌, refl, inl, inr, arith}
+use Rattle.std.proofs.Common.{◌≡◌, ◌<◌, ◌≤◌, ◌+◌, ◌==◌, ℕ, zero, suc, List, [], ◌∷◌, length, get_or, map, filter, drop, Bool, true, false, cond, not, ◌&&◌, ◌||◌, Option, Some, None, IsSome, ap, sym, ◌∙◌, refl, inl, inr, arith}
 use Rattle.std.specs.List.{position, position_from, list_any}
 use Rattle.std.specs.Option.{option_map, MatchOption}
-use Rattle.std.proofs.lemmas.Bool.{cases_Bool, cases_lt, cases_eq, cond-true, cond-false, and_right, eq-eqb, ne_eqb, true≢false}
+use Rattle.std.proofs.lemmas.Bool.{cases_Bool, cases_lt, cond-true, cond-false, and_right, eq-eqb, ne_eqb, true≢false}
 use Rattle.std.proofs.lemmas.List.{drop_more}
 use Rattle.std.proofs.lemmas.Iterator.Adapters.{position_from-zero}
 use Rattle.bool_weave.specs.declared.woven.Woven.{Woven}
@@ -12,7 +12,7 @@ use Rattle.bool_weave.proofs.Sorted.{Has}
 use Rattle.overlap_list.specs.declared.region.RegionClaims.{RegionClaims}
 use Rattle.overlap_list.specs.declared.partition.Partition.{Partition}
 use Rattle.overlap_list.specs.Winners.{claims_at, or_else, first_without_air, first_with_air, winner_of}
-use Rattle.overlap_list.specs.Runs.{IntervalRun, runs_below, is_maximal, has_before}
+use Rattle.overlap_list.specs.Runs.{IntervalRun, runs_below, is_maximal}
 use Rattle.overlap_list.specs.Hits.{has_end_at, differ, changes_at, is_of, is_candidate, lowest, hit_on, cut_at, hit_of}
 use Rattle.overlap_list.specs.Partitions.{is_one_winner, is_won_as, won_runs, or_zero, or_no_hit, partition_of, partitions_of}
 use Rattle.overlap_list.specs.Laws.{IsWinner}

@@ -1,6 +1,6 @@
 -- The overlaps of all regions are those of the regions that claim something, but for the regions' numbers.
 use mathlib.Core.Path.{fun_ext}
-use Rattle.std.proofs.Common.{◌≡◌, ◌<◌, ◌≤◌, ◌+◌, ◌-◌, ℕ, zero, suc, List, [], ◌∷◌, ◌++◌, length, get_or, slice_get, map, flat_map, find, Bool, true, false, ◌&&◌, not, Option, Some, None, ap, sym, ◌∙◌, subst, refl, inl, inr, arith}
+use Rattle.std.proofs.Common.{◌≡◌, ◌<◌, ◌+◌, ◌-◌, ℕ, zero, suc, List, [], ◌∷◌, ◌++◌, length, get_or, slice_get, map, flat_map, find, Bool, true, false, ◌&&◌, not, Option, Some, None, ap, sym, ◌∙◌, refl, inl, inr, arith}
 use Rattle.std.specs.List.{filter_map, cons_option, range_with_len}
 use Rattle.std.specs.Option.{option_map}
 use Rattle.std.proofs.lemmas.Bool.{and_right}
@@ -16,7 +16,7 @@ use Rattle.overlap_list.specs.Overlaps.{RegionPair, pairs_from, pairs_up_to, is_
 use Rattle.overlap_list.proofs.Overlapping.{pair_of, no_run}
 use Rattle.overlap_list.proofs.Ordered.{has_rows}
 use Rattle.shot_core.specs.Steps.{marked_from, renumbered_run}
-use Rattle.shot_core.proofs.Picking.{kept, LeavesOut, ClaimsNothing, map_twice, as_many}
+use Rattle.shot_core.proofs.Picking.{kept, LeavesOut, ClaimsNothing, as_many}
 
 -- a number with each later one of a list
 abbrev pairs_of : List ℕ → List RegionPair

@@ -1,5 +1,5 @@
 -- What is lit and what overlaps, from the regions that a ray hits.
-use Rattle.std.proofs.Common.{◌≡◌, ◌<◌, ◌≤◌, ◌+◌, ◌^◌, ℕ, zero, suc, List, [], ◌∷◌, length, map, get_or, slice_get, Option, Some, All, ap, sym, subst, ◌∙◌, refl, inl, inr, arith}
+use Rattle.std.proofs.Common.{◌≡◌, ◌<◌, ◌^◌, ℕ, zero, suc, List, [], ◌∷◌, length, map, get_or, slice_get, Option, Some, All, ap, sym, subst, ◌∙◌, refl, inl, inr, arith}
 use Rattle.std.proofs.lemmas.List.{length-map}
 use Rattle.std.proofs.lemmas.List.Elements.{All-weaker}
 use Rattle.lattice_core.specs.declared.ray.Ray.{Ray}
@@ -12,18 +12,15 @@ use Rattle.bool_weave.specs.Claims.{intervals_of, claims_interval}
 use Rattle.bool_weave.proofs.Sorted.{Has, has_from_contains}
 use Rattle.overlap_list.specs.declared.region.RegionClaims.{RegionClaims}
 use Rattle.overlap_list.specs.declared.partition.Partition.{Partition}
-use Rattle.overlap_list.specs.declared.overlap.OverlapRun.{OverlapRun}
 use Rattle.overlap_list.specs.Partitions.{partitions_of}
 use Rattle.overlap_list.specs.Overlaps.{overlaps_of}
 use Rattle.overlap_list.specs.Laws.{HasTree, IsWonPart, HasHit}
 use Rattle.overlap_list.proofs.Hitting.{hits_are_there}
 use Rattle.overlap_list.proofs.Ordered.{all_from_has}
 use Rattle.overlap_list.proofs.Parts.{partitions_are_won, overlaps_are_in_order}
-use Rattle.shot_core.specs.declared.limit.TheConstants.{MOST_LEAVES}
-use Rattle.shot_core.specs.declared.shot.Lit.{Lit}
 use Rattle.shot_core.specs.Regions.{Instance, Region, HaveInstances, IsScene, instances_of, firsts_from}
 use Rattle.shot_core.specs.Shots.{woven_of, claims_on, lit_by, lit_of, overlaps_on}
-use Rattle.shot_core.specs.Steps.{is_hit, marked_from, hit_from, no_region, numbered_claims, IsHitOn, renumbered, renumbered_run}
+use Rattle.shot_core.specs.Steps.{is_hit, hit_from, no_region, numbered_claims, IsHitOn, renumbered, renumbered_run}
 use Rattle.shot_core.proofs.Picking.{kept, map_twice, partitions_kept}
 use Rattle.shot_core.proofs.PickingOverlaps.{overlaps_kept}
 use Rattle.shot_core.proofs.Claiming.{claims_left_out, numbered_kept, marked_below, marked_short, regions_within}

@@ -1,6 +1,6 @@
 -- Shots of small scenes, proved by computation.
 use Rattle.std.specs.Prelude.{◌≡◌, refl, ℕ, ℤ, pos, negsuc, true, false, List, [], ◌∷◌, Some, None}
-use Rattle.lattice_core.specs.declared.boxes.Side.TheVariants.{Open, At}
+use Rattle.lattice_core.specs.declared.boxes.Side.TheVariants.{At}
 use Rattle.lattice_core.specs.declared.boxes.Box3.{Box3}
 use Rattle.lattice_core.specs.declared.boxes.Box3.TheVariants.{Empty, Span}
 use Rattle.lattice_core.specs.declared.ray.Ray.{Ray}
@@ -17,7 +17,6 @@ use Rattle.solid_set.specs.declared.surface.Surface.TheVariants.{Planes, HalfSpa
 use Rattle.solid_set.specs.Bounds.{all_of_space}
 use Rattle.solid_set.specs.Rpps.{rpp_vertices}
 use Rattle.bool_weave.specs.Masks.{Mask}
-use Rattle.overlap_list.specs.declared.overlap.OverlapRun.{OverlapRun}
 use Rattle.shot_core.specs.declared.shot.Lit.{Lit}
 use Rattle.shot_core.specs.Regions.{Instance, Region, size_of_all, firsts_from}
 use Rattle.shot_core.specs.TreeBoxes.{tree_box}

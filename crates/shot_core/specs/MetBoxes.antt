@@ -1,6 +1,5 @@
 -- Which boxes a ray meets.
-use Rattle.std.specs.Prelude.{◌↔◌, ℤ, Bool, false, ◌&&◌, ◌≡◌, true, IsTrue, List, ℕ, length, filter}
-use Rattle.lattice_core.specs.declared.limit.TheConstants.{WORLD}
+use Rattle.std.specs.Prelude.{◌↔◌, ℤ, Bool, false, ◌&&◌, IsTrue, List, ℕ, length, filter}
 use Rattle.lattice_core.specs.declared.boxes.Side.{Side}
 use Rattle.lattice_core.specs.declared.boxes.Side.TheVariants.{At}
 use Rattle.lattice_core.specs.declared.boxes.Box3.{Box3}

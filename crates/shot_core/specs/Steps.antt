@@ -1,5 +1,5 @@
 -- Words of the code: which regions a ray hits, and how the regions that it hits stand among all of them.
-use Rattle.std.specs.Prelude.{◌≡◌, ◌<◌, ◌≤◌, ◌+◌, ◌⊎◌, ℕ, List, [], ◌∷◌, Bool, true, false, cond, Option, Some, None, length, map, slice_get, slice_index_or}
+use Rattle.std.specs.Prelude.{◌≤◌, ◌+◌, ℕ, List, [], ◌∷◌, Bool, true, false, cond, Option, Some, None, map, slice_get, slice_index_or}
 use Rattle.std.specs.List.{list_any}
 use Rattle.std.specs.List.Sorted.{IsNonDecreasingBy}
 use Rattle.std.specs.Option.{ForSome}
@@ -15,7 +15,7 @@ use Rattle.overlap_list.specs.declared.hit.Hit.{Hit}
 use Rattle.overlap_list.specs.declared.region.RegionClaims.{RegionClaims}
 use Rattle.overlap_list.specs.declared.partition.Partition.{Partition}
 use Rattle.overlap_list.specs.declared.overlap.OverlapRun.{OverlapRun}
-use Rattle.shot_core.specs.Regions.{Instance, RegionBody, Region, instances_of, firsts_from}
+use Rattle.shot_core.specs.Regions.{Instance, Region, instances_of, firsts_from}
 use Rattle.shot_core.specs.MetBoxes.{meets_ray}
 use Rattle.shot_core.specs.Shots.{body_claims}
 

@@ -1,5 +1,5 @@
 -- The box of a tree, by its shape.
-use Rattle.std.specs.Prelude.{◌≡◌, ℕ, List, Bool, true, false, cond, ◌&&◌, not, Option, Some, None, slice_index_or}
+use Rattle.std.specs.Prelude.{ℕ, List, Bool, true, false, cond, ◌&&◌, not, Option, Some, None, slice_index_or}
 use Rattle.std.specs.Ordering.{int_cmp, is_gt}
 use Rattle.lattice_core.specs.declared.boxes.Side.{Side}
 use Rattle.lattice_core.specs.declared.boxes.Side.TheVariants.{Open, At}

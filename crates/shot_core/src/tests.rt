@@ -1,5 +1,9 @@
-ghost use Rattle.std.specs.Prelude.{pos};
+ghost use Rattle.std.specs.Prelude.{◌≡◌, ◌<◌, ◌≤◌, pos, All, IfOk, IsTrue};
 ghost use Rattle.lattice_core.specs.Limits.{IsAtMost, IsWithin};
+ghost use Rattle.lattice_core.specs.declared.limit.TheConstants.{WORLD};
+ghost use Rattle.bool_weave.specs.Masks.{leaf, apply};
+ghost use Rattle.bool_weave.specs.Tables.{leaf_end};
+ghost use Rattle.shot_core.specs.Regions.{IsPathText, IsScene};
 
 use crate::*;
 use bool_weave::{MaskNode, MaskTree};
@@ -19,6 +23,7 @@ use std::sync::ledger::{Blank, Ledger};
 use std::test::Fail;
 use step_counter::Steps;
 use surd_order::Pos;
+use tree_forms::Op;
 
 /// A coordinate of a test: all of them are at most 1000 in size.
 fn near(x: i64) -> i64
@@ -37,7 +42,9 @@ fn at(x: i64, y: i64, z: i64) -> V3
     }
 }
 
-fn ray(x: i64, y: i64, z: i64) -> Ray {
+fn ray(x: i64, y: i64, z: i64) -> Ray
+    ensures { IsWithin WORLD result.origin }
+{
     Ray {
         origin: at(x, y, z),
         dir: Dir::PlusX,
@@ -75,34 +82,137 @@ fn placed_of(alloc: Global, shapes: &[Shape]) -> Result<Vec<Placed>, Fail> {
     Ok(placed)
 }
 
-/// A region of a test: its air, the nodes of its tree, and its solids.
-type Row<'a> = (u32, &'a [MaskNode], &'a [Shape]);
+/// The node of an operator.
+fn op_node(op: Op) -> MaskNode
+    ensures { result ≡ apply op }
+{
+    match op {
+        Op::U => MaskNode::U,
+        Op::N => MaskNode::N,
+        Op::Minus => MaskNode::Minus,
+    }
+}
 
-const ONE: &[MaskNode] = &[MaskNode::Leaf(0)];
+fn leaf_node(number: Option<u32>) -> MaskNode
+    ensures { result ≡ leaf number }
+{
+    match number {
+        Some(number) => MaskNode::Leaf(number),
+        None => MaskNode::Never,
+    }
+}
 
-const LESS: &[MaskNode] = &[MaskNode::Leaf(0), MaskNode::Leaf(1), MaskNode::Minus];
+/// The tree of one leaf: that of a number, or one that is always false.
+fn leaf(alloc: Global, number: Option<u32>) -> Result<MaskTree, Memory> {
+    let mut nodes = Vec::new(alloc);
+    nodes.push(leaf_node(number))?;
+    Ok(MaskTree::of_nodes(nodes))
+}
 
-const BOTH: &[MaskNode] = &[MaskNode::Leaf(0), MaskNode::Leaf(1), MaskNode::U];
+/// The tree of an operator over two trees.
+fn join(alloc: Global, op: Op, left: &MaskTree, right: &MaskTree) -> Result<MaskTree, Memory> {
+    let mut nodes = Vec::new(alloc);
+    nodes.extend_from_slice(left.nodes())?;
+    nodes.extend_from_slice(right.nodes())?;
+    nodes.push(op_node(op))?;
+    Ok(MaskTree::of_nodes(nodes))
+}
 
-fn body_of(alloc: Global, row: Row) -> Result<PrepRegion, Fail> {
-    let (air, nodes, shapes) = row;
-    let tree = MaskTree::of_nodes(Vec::from_slice(alloc, nodes)?);
+/// The trees of the tests, over solids that are numbered from 0.
+#[derive(Clone, Copy)]
+enum Form {
+    Never,
+    One,
+    OrNever,
+    Two(Op),
+    UnionLess,
+}
+
+fn tree_of(alloc: Global, form: Form) -> Result<MaskTree, Memory> {
+    let one = leaf(alloc, Some(0))?;
+    let two = leaf(alloc, Some(1))?;
+    match form {
+        Form::Never => leaf(alloc, None),
+        Form::One => Ok(one),
+        Form::OrNever => join(alloc, Op::U, &one, &leaf(alloc, None)?),
+        Form::Two(op) => join(alloc, op, &one, &two),
+        Form::UnionLess => {
+            let less = join(alloc, Op::Minus, &two, &leaf(alloc, Some(2))?)?;
+            join(alloc, Op::U, &one, &less)
+        }
+    }
+}
+
+/// Whether each leaf that has a number is one of so many.
+fn fits(nodes: &[MaskNode], count: usize) -> bool
+    ensures { IsTrue result → All (λ n. leaf_end n ≤ count) nodes.now }
+{
+    nodes.iter().all(|node| match node {
+        MaskNode::Leaf(leaf) => (*leaf as usize) < count,
+        _ => true,
+    })
+}
+
+/// A region of a test: its air, its tree, and its solids.
+type Row<'a> = (u32, Form, &'a [Shape]);
+
+const LESS: Form = Form::Two(Op::Minus);
+
+const BOTH: Form = Form::Two(Op::U);
+
+fn body_of(rt: &impl Abort, alloc: Global, row: Row) -> Result<PrepRegion, Fail> {
+    let (air, form, shapes) = row;
+    let tree = tree_of(alloc, form)?;
     let solids = placed_of(alloc, shapes)?;
     let rgb = Rgb { r: 1, g: 2, b: 3 };
+    let sound = fits(tree.nodes(), solids.len());
+    let few = tree.nodes().len() < 1000;
+    assert!(rt; sound);
+    assert!(rt; few);
     Ok(PrepRegion::new(alloc, 1000, air, rgb, tree, solids)?)
 }
 
-fn scene_of(alloc: Global, rows: &[Row]) -> Result<Scene, Fail> {
+/// Whether the places rise from at least 1, and there are few leaves and solids.
+fn is_scene(regions: &[SceneRegion]) -> bool
+    ensures { IsTrue result → IsScene regions.now }
+{
+    let mut last = 0;
+    let mut size = 0;
+    let mut count = 0;
+    for region in regions {
+        if region.place() <= last {
+            return false;
+        }
+        last = region.place();
+        size += region.body().size() as u64;
+        count += region.body().solids().len() as u64;
+        if size > 65_536 || count > 65_536 {
+            return false;
+        }
+    }
+    true
+}
+
+/// The path of the regions of tests.
+fn path_of(alloc: Global) -> Result<PathText, Memory>
+    ensures { IfOk result IsPathText }
+{
+    let mut path = Vec::new(alloc);
+    path.push(b'/')?;
+    path.push(b'r')?;
+    Ok(Items::of_vec(path))
+}
+
+fn scene_of(rt: &impl Abort, alloc: Global, rows: &[Row]) -> Result<Scene, Fail> {
     let mut regions = Vec::new(alloc);
     for (i, row) in rows.iter().enumerate() {
-        let path = Items::of_vec(Vec::from_slice(alloc, b"/r")?);
-        let body = body_of(alloc, *row)?;
-        regions.push(SceneRegion::new(
-            i as u32 + 1,
-            Arc::new(alloc, path)?,
-            Arc::new(alloc, body)?,
-        ))?;
+        let place = u32::try_from(i + 1).expect(rt, "few regions");
+        let path = path_of(alloc)?;
+        let body = body_of(rt, alloc, *row)?;
+        regions.push(SceneRegion::new(place, Arc::new(alloc, path)?, Arc::new(alloc, body)?))?;
     }
+    let sound = is_scene(&regions);
+    assert!(rt; sound);
     Ok(Scene::new(alloc, regions)?)
 }
 
@@ -111,7 +221,12 @@ fn shot<L: Ledger>(
     alloc: Global,
     scene: &Scene,
     ray: &Ray,
-) -> Result<Vec<Lit>, Memory> {
+) -> Result<Vec<Lit>, Memory>
+    requires name { blank.name ≡ L.name }
+    requires parts { blank.parts ≡ L.parts }
+    requires some { 0 < blank.parts }
+    requires origin { IsWithin WORLD ray.now.origin }
+{
     let mut steps: Steps<L> = Steps::new(blank);
     shoot(alloc, scene, ray, &mut steps)
 }
@@ -119,8 +234,8 @@ fn shot<L: Ledger>(
 /// Region, start, end, instance, face and level.
 type Wanted = (u32, Pos, Pos, u32, u8, u8);
 
-fn whole(n: i128) -> Pos {
-    Pos::frac(n, 1)
+fn whole(n: u32) -> Pos {
+    Pos::frac(i128::from(n), 1)
 }
 
 fn check_shot(
@@ -129,8 +244,10 @@ fn check_shot(
     rows: &[Row],
     ray: &Ray,
     wanted: &[Wanted],
-) -> Result<(), Fail> {
-    let scene = scene_of(alloc, rows)?;
+) -> Result<(), Fail>
+    requires { IsWithin WORLD ray.now.origin }
+{
+    let scene = scene_of(rt, alloc, rows)?;
     let lit = shot::<Brand>(Blank::new(1), alloc, &scene, ray)?;
     assert_eq!(rt; lit.len(), wanted.len());
     for (i, one) in lit.iter().enumerate() {
@@ -179,7 +296,7 @@ fn shots_of_boxes(rt: HostRuntime) -> Result<(), Fail> {
     check_shot(
         &rt,
         rt.alloc(),
-        &[(0, ONE, &[A]), (0, ONE, &[b])],
+        &[(0, Form::One, &[A]), (0, Form::One, &[b])],
         &ray(-5, 10, 5),
         &[(1, whole(5), whole(15), 1, 1, 255)],
     )?;
@@ -194,17 +311,10 @@ fn shots_of_boxes(rt: HostRuntime) -> Result<(), Fail> {
     )?;
     let s2 = Shape::Rpp(20, 30, 0, 10, 0, 10);
     let s3 = Shape::Rpp(5, 25, 0, 10, 0, 10);
-    let union_less = &[
-        MaskNode::Leaf(0),
-        MaskNode::Leaf(1),
-        MaskNode::Leaf(2),
-        MaskNode::Minus,
-        MaskNode::U,
-    ];
     check_shot(
         &rt,
         rt.alloc(),
-        &[(0, union_less, &[A, s2, s3])],
+        &[(0, Form::UnionLess, &[A, s2, s3])],
         &ray(-5, 5, 5),
         &[
             (0, whole(5), whole(15), 0, 1, 255),
@@ -215,7 +325,7 @@ fn shots_of_boxes(rt: HostRuntime) -> Result<(), Fail> {
     check_shot(
         &rt,
         rt.alloc(),
-        &[(0, ONE, &[A]), (0, LESS, &[s2, s3])],
+        &[(0, Form::One, &[A]), (0, LESS, &[s2, s3])],
         &ray(-5, 5, 5),
         &[
             (0, whole(5), whole(15), 0, 1, 255),
@@ -229,9 +339,11 @@ fn check_overlaps(
     alloc: Global,
     rows: &[Row],
     ray: &Ray,
-    wanted: &[(u32, u32, i128, i128)],
-) -> Result<(), Fail> {
-    let scene = scene_of(alloc, rows)?;
+    wanted: &[(u32, u32, u32, u32)],
+) -> Result<(), Fail>
+    requires { IsWithin WORLD ray.now.origin }
+{
+    let scene = scene_of(rt, alloc, rows)?;
     let Ok(runs) = check_ray(alloc, &scene, ray) else {
         return Err("no memory")?;
     };
@@ -249,43 +361,55 @@ fn check_overlaps(
     Ok(())
 }
 
+const AWAY: Shape = Shape::Rpp(0, 10, 50, 60, 0, 10);
+
+const B: Shape = Shape::Rpp(5, 15, 0, 10, 0, 10);
+
+/// A region that the ray misses, and two that overlap, the first of them of that air.
+fn check_air(
+    rt: &impl Abort,
+    alloc: Global,
+    air: u32,
+    lit: &[Wanted],
+    runs: &[(u32, u32, u32, u32)],
+) -> Result<(), Fail> {
+    let rows: [Row; 3] = [
+        (0, Form::One, &[AWAY]),
+        (air, Form::One, &[A]),
+        (0, Form::One, &[B]),
+    ];
+    let through = ray(-5, 5, 5);
+    check_shot(rt, alloc, &rows, &through, lit)?;
+    check_overlaps(rt, alloc, &rows, &through, runs)
+}
+
 #[test]
 fn overlapping_regions_with_and_without_air(rt: HostRuntime) -> Result<(), Fail> {
-    let b = Shape::Rpp(5, 15, 0, 10, 0, 10);
-    let away = Shape::Rpp(0, 10, 50, 60, 0, 10);
-    let through = ray(-5, 5, 5);
-    let plain: &[Row] = &[(0, ONE, &[away]), (0, ONE, &[A]), (0, ONE, &[b])];
-    let airy: &[Row] = &[(0, ONE, &[away]), (1, ONE, &[A]), (0, ONE, &[b])];
-    check_shot(
+    check_air(
         &rt,
         rt.alloc(),
-        plain,
-        &through,
+        0,
         &[
             (1, whole(5), whole(15), 1, 1, 255),
             (2, whole(15), whole(20), 1, 2, 255),
         ],
+        &[(1, 2, 10, 15)],
     )?;
-    check_shot(
+    check_air(
         &rt,
         rt.alloc(),
-        airy,
-        &through,
+        1,
         &[
             (1, whole(5), whole(10), 1, 1, 255),
             (2, whole(10), whole(20), 2, 1, 255),
         ],
-    )?;
-    check_overlaps(&rt, rt.alloc(), plain, &through, &[(1, 2, 10, 15)])?;
-    check_overlaps(&rt, rt.alloc(), airy, &through, &[])
+        &[],
+    )
 }
 
 #[test]
 fn boxes_of_trees(rt: HostRuntime) -> Result<(), Fail> {
     let c = Shape::Rpp(20, 30, 5, 25, 0, 10);
-    let within = &[MaskNode::Leaf(0), MaskNode::Leaf(1), MaskNode::N];
-    let never = &[MaskNode::Never];
-    let or_never = &[MaskNode::Leaf(0), MaskNode::Never, MaskNode::U];
     let span = |xhi: i64, yhi: i64| Box3::Span {
         xlo: Side::At(0),
         xhi: Side::At(xhi),
@@ -294,19 +418,19 @@ fn boxes_of_trees(rt: HostRuntime) -> Result<(), Fail> {
         zlo: Side::At(0),
         zhi: Side::At(10),
     };
-    let cases: [(&[MaskNode], &[Shape], Box3, u32); 6] = [
-        (ONE, &[A], span(10, 10), 1),
-        (BOTH, &[A, c], span(30, 25), 2),
-        (LESS, &[A, c], span(10, 10), 2),
-        (within, &[A, c], Box3::Empty, 2),
-        (never, &[], Box3::Empty, 1),
-        (or_never, &[A], span(10, 10), 2),
+    let cases: [(Form, &[Shape], Box3, u32, usize); 6] = [
+        (Form::One, &[A], span(10, 10), 1, 1),
+        (BOTH, &[A, c], span(30, 25), 2, 3),
+        (LESS, &[A, c], span(10, 10), 2, 3),
+        (Form::Two(Op::N), &[A, c], Box3::Empty, 2, 3),
+        (Form::Never, &[], Box3::Empty, 1, 1),
+        (Form::OrNever, &[A], span(10, 10), 2, 3),
     ];
-    for (i, (nodes, shapes, bounds, size)) in cases.iter().enumerate() {
-        let body = body_of(rt.alloc(), (0, *nodes, *shapes))?;
+    for (i, (form, shapes, bounds, size, nodes)) in cases.iter().enumerate() {
+        let body = body_of(&rt, rt.alloc(), (0, *form, *shapes))?;
         assert_eq!(rt; body.bounds(), *bounds, "{i}");
         assert_eq!(rt; body.size(), *size, "{i}");
-        assert_eq!(rt; body.tree().nodes(), *nodes, "{i}");
+        assert_eq!(rt; body.tree().nodes().len(), *nodes, "{i}");
         assert_eq!(rt; body.solids().len(), shapes.len(), "{i}");
         assert!(rt; body.id() == 1000 && body.air() == 0);
         assert_eq!(rt; body.rgb(), Rgb { r: 1, g: 2, b: 3 });

@@ -1,9 +1,9 @@
-use Rattle.std.proofs.Common.{◌≡◌, ◌<◌, ◌≤◌, ◌+◌, ◌∙◌, ◌∷◌, length, map, get_or, drop, ap, sym, arith}
+use Rattle.std.proofs.Common.{◌≡◌, ◌<◌, ◌+◌, ◌∙◌, ◌∷◌, length, map, get_or, drop, ap, sym, arith}
 use Rattle.std.proofs.lemmas.List.{drop_more, length-map}
 use Rattle.shot_core.specs.Prepared.{instance_of}
-use Rattle.shot_core.specs.Regions.{Region, RegionBody, Instance, instances_of}
+use Rattle.shot_core.specs.Regions.{Region, RegionBody, instances_of}
 use Rattle.shot_core.specs.Shots.{woven_from}
-use Rattle.shot_core.specs.Steps.{hit_from, met_among}
+use Rattle.shot_core.specs.Steps.{hit_from}
 use Rattle.shot_core.proofs.Claiming.{regions_within}
 use Rattle.shot_core.proofs.Weaving.{met_counted, woven_next, met_next, count_next, hit_next, order_next, few_next}
 use Rattle.shot_core.proofs.meet.weave_scene.Goals as goal

@@ -1,7 +1,7 @@
-use Rattle.std.proofs.Common.{◌≡◌, ◌≤◌, ◌∙◌, length, get_or, ap, sym, subst, arith}
-use Rattle.std.proofs.lemmas.List.{length-map, get_or_default}
+use Rattle.std.proofs.Common.{◌≡◌, ◌∙◌, length, get_or, ap, sym, arith}
+use Rattle.std.proofs.lemmas.List.{length-map}
 use Rattle.shot_core.specs.Prepared.{instance_of}
-use Rattle.shot_core.specs.Regions.{Region, RegionBody, instances_of}
+use Rattle.shot_core.specs.Regions.{Region, RegionBody}
 use Rattle.shot_core.proofs.Numbering.{instances_within}
 use Rattle.shot_core.proofs.shot.claims_of.Goals as goal
 

@@ -1,6 +1,6 @@
-use Rattle.std.proofs.Common.{rules, ◌≡◌, ◌<◌, ◌∙◌, ap, sym, subst, length, map, filter, vec_len, arith}
+use Rattle.std.proofs.Common.{rules, ◌≡◌, ◌∙◌, ap, sym, subst, length, map, filter, vec_len, arith}
 use Rattle.std.proofs.lemmas.List.{length-map}
-use Rattle.bool_weave.specs.Masks.{mask_of, mask_nodes}
+use Rattle.bool_weave.specs.Masks.{mask_of}
 use Rattle.bool_weave.proofs.Held.{mask_back}
 use Rattle.shot_core.specs.Regions.{HasLeavesBelow}
 use Rattle.shot_core.specs.Prepared.{instance_of, boxes_of}

@@ -8,7 +8,7 @@ use Rattle.std.proofs.lemmas.Option.{slice_get_past, slice_get-map, slice_get-ge
 use Rattle.solid_set.specs.declared.placed.Placed.{Placed}
 use Rattle.shot_core.specs.Prepared.{instance_of}
 use Rattle.shot_core.specs.Regions.{Region, instances_of, firsts_from}
-use Rattle.shot_core.specs.Steps.{IsRising, no_region}
+use Rattle.shot_core.specs.Steps.{NeverFalls, no_region}
 
 pub get_left : {X : Type 0} (xs ys : List X) (i : ℕ) → i < length xs → slice_get (xs ++ ys) i ≡ slice_get xs i
 get_left [] ys i lt = absurd (omega (arith, lt))
@@ -36,7 +36,7 @@ rise n (r ∷ rs) zero j d le lt = firsts_least n (r ∷ rs) j d lt
 rise n (r ∷ rs) (suc i) zero d le lt = absurd (omega (arith, le))
 rise n (r ∷ rs) (suc i) (suc j) d le lt = rise (n + length r.body.instances) rs i j d (omega (arith, le)) (omega (arith, lt))
 
-pub firsts_rise : (n : ℕ) (rs : List Region) → IsRising (firsts_from n rs)
+pub firsts_rise : (n : ℕ) (rs : List Region) → NeverFalls (firsts_from n rs)
 firsts_rise n rs = λ i j d le lt. rise n rs i j d le (omega (arith, lt, firsts_length n rs))
 
 -- the instance of a number is one of the last region that begins with that number or before it

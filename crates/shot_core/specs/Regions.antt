@@ -13,7 +13,7 @@ pub record Instance : Type 0 where
   pub bounds : Box3
 
 -- what a region is wherever it stands in a scene. Leaf i of its tree is its instance i; a leaf without a number is a missing
--- member, which is always false
+-- member or an empty combination, which is always false
 pub record RegionBody : Type 0 where
   pub id : ℕ
   pub air : ℕ

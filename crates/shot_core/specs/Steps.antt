@@ -26,8 +26,9 @@ is_leaf node.U = false
 is_leaf node.N = false
 is_leaf node.Minus = false
 
-abbrev pub IsRising : List ℕ → Type 0
-IsRising numbers = IsNonDecreasingBy (λ n. n) numbers
+-- each number is at least the one before it
+abbrev pub NeverFalls : List ℕ → Type 0
+NeverFalls numbers = IsNonDecreasingBy (λ n. n) numbers
 
 abbrev pub is_some : Option Seg → Bool
 is_some None = false
@@ -59,7 +60,7 @@ abbrev pub met_among : Ray → List Instance → ℕ
 met_among ray [] = 0
 met_among ray (i ∷ rest) = one_if (meets_ray i.bounds ray) + met_among ray rest
 
--- a counter rose, by no more than so many steps
+-- a counter stayed or rose, by no more than so many steps
 abbrev pub HasRisen : ℕ → ℕ → ℕ → Type 0
 HasRisen most before now = (before ≤ now) × (now ≤ before + most)
 

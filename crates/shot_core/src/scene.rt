@@ -32,7 +32,7 @@ ghost use Rattle.std.specs.Prelude.{◌≡◌, ◌≤◌, true, false, nat_le, l
 ghost use Rattle.shot_core.specs.declared.limit.TheConstants.{MOST_LEAVES};
 ghost use Rattle.std.specs.List.Sorted.{IsPartitionPoint};
 ghost use Rattle.shot_core.specs.Regions.{firsts_from, instances_of, HaveInstances};
-ghost use Rattle.shot_core.specs.Steps.{IsRising};
+ghost use Rattle.shot_core.specs.Steps.{NeverFalls};
 
 /// The number of each region's first instance.
 fn firsts_of(alloc: Global, regions: &[SceneRegion]) -> Result<Vec<u32>, Memory>
@@ -49,9 +49,9 @@ fn firsts_of(alloc: Global, regions: &[SceneRegion]) -> Result<Vec<u32>, Memory>
     Ok(firsts)
 }
 
-/// How many of the rising numbers are at most a number.
+/// How many of the numbers, which never fall, are at most a number.
 fn count_up_to(firsts: &[u32], number: u32) -> usize
-    requires { IsRising firsts.now }
+    requires { NeverFalls firsts.now }
     ensures within { result ≤ length firsts.now }
     ensures parted { IsPartitionPoint (λ f. nat_le f number ≡ true) (λ f. nat_le f number ≡ false) firsts.now result }
 {

@@ -1,13 +1,13 @@
 use Rattle.std.proofs.Common.{rules, ◌≡◌, ◌<◌, ◌-◌, ◌∙◌, suc, length, get_or, slice_get, vec_len, ap, sym, subst, arith}
 use Rattle.std.proofs.lemmas.List.{get_or_default}
 use Rattle.shot_core.specs.Regions.{Region, RegionBody, instances_of, firsts_from}
-use Rattle.shot_core.specs.Steps.{IsRising, no_region}
+use Rattle.shot_core.specs.Steps.{NeverFalls, no_region}
 use Rattle.shot_core.proofs.Numbering.{firsts_length, firsts_rise, no_instance, found_instance, got}
 use Rattle.shot_core.proofs.scene.Scene.instance.Goals as goal
 
 pub count_up_to-count-requires : goal.count_up_to-count-requires
 count_up_to-count-requires c =
-    subst IsRising (sym (c.deref.ensures.value ∙ c.self.invariant.numbers)) (firsts_rise 0 c.self.inside.regions.items)
+    subst NeverFalls (sym (c.deref.ensures.value ∙ c.self.invariant.numbers)) (firsts_rise 0 c.self.inside.regions.items)
 
 pub returns-then-count-eq0 : goal.returns-then-count-eq0
 returns-then-count-eq0 c =

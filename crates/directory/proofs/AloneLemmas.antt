@@ -1,10 +1,9 @@
-use Rattle.std.proofs.Common.{◌≡◌, ◌≢◌, ◌⊎◌, inl, inr, ◌<◌, ◌≤◌, ◌+◌, ◌∙◌, ℕ, zero, suc, max, Bool, true, false, cond, List, [], ◌∷◌, ◌++◌, map, length, refl, ap, sym, subst, arith, Option, None, Some, IsSome}
-use Rattle.std.specs.Prelude.{nat_eq, nat_le, nat_lt, position, remove, is_some}
+use Rattle.std.proofs.Common.{◌≡◌, ◌≢◌, ◌⊎◌, inl, inr, ◌<◌, ◌≤◌, ◌+◌, ◌∙◌, ℕ, zero, suc, max, false, cond, List, [], ◌∷◌, ◌++◌, map, refl, ap, sym, subst, arith, Option, None, Some}
+use Rattle.std.specs.Prelude.{nat_le, nat_lt, remove, is_some}
 use Rattle.std.specs.List.{Contains, IsDistinct, count_by, position_or_len}
 use Rattle.std.specs.Map.{keys_of}
 use Rattle.std.proofs.lemmas.List.Sums.{sum_by-cons}
 use Rattle.std.proofs.lemmas.Bool.{lt-leb, le-leb}
-use Rattle.std.proofs.lemmas.Bool.Decides.{eqb_tells}
 use Rattle.std.proofs.lemmas.Map.Keys.{IsDistinct-head, IsDistinct-tail}
 use Rattle.name_core.specs.declared.name.Name.{Name}
 use Rattle.name_core.specs.Same.{same_name}
@@ -13,26 +12,36 @@ use Rattle.object_set.specs.declared.object.Body.{Body}
 use Rattle.object_set.specs.declared.object.Body.TheVariants.{Solid, Comb}
 use Rattle.directory.specs.declared.fault.DirFault.TheVariants.{Cycle, Deep}
 use Rattle.directory.specs.Walks.{Entries, members_of, object_of, Refers, body_weight, comb_weight, IsSound, greatest_of, body_depth, depth_over, depth_within, most_depth, unbounded, deepest}
-use Rattle.directory.specs.Edits.{appended, replaced, removed, judged_by, judged, references_of}
-use Rattle.directory.specs.Alone.{IsAlone, GoesAlone, KeepsNames}
+use Rattle.directory.specs.Edits.{appended, removed, judged_by, judged, references_of}
+use Rattle.directory.specs.Alone.{IsAlone, GoesAlone}
 use Rattle.directory.specs.Places.{depth_at, depth_of_object, known_depths}
 use Rattle.directory.proofs.WalkLemmas.{name_tells, same_or_apart, depth_bounds, depth_met, missing_zero, greatest_bound}
 use Rattle.directory.proofs.PlaceLemmas.{map_same, over_members, over_same, depth_at_known, look_here, past_head}
-use Rattle.directory.proofs.EditLemmas.{push_other, replace_there, replace_other, none_left}
+use Rattle.directory.proofs.EditLemmas.{push_other, none_left, IsWithin, within_walk, within_combinations}
 use Rattle.directory.proofs.TellLemmas.{first_holds, first_past}
 
 -- ---- a sound list's bounded depths
-sound_depth : (es : Entries) (most : ℕ) (a : Name) → IsSound es → depth_within most es a ≤ most_depth
+pub sound_depth : (es : Entries) (most : ℕ) (a : Name) → IsSound es → depth_within most es a ≤ most_depth
 sound_depth es most a sound = let r = depth_met most es a in omega (arith, r.2, sound.shallow (a ∷ r.0) r.1)
 
 sound_le : (es : Entries) (most other : ℕ) (a : Name) → IsSound es → most_depth < other → depth_within most es a ≤ depth_within other es a
 sound_le es most other a sound big = let r = depth_met most es a in omega (arith, r.2, sound.shallow (a ∷ r.0) r.1, depth_bounds other es a r.0 r.1)
 
-sound_same : (es : Entries) (most other : ℕ) (a : Name) → IsSound es → most_depth < most → most_depth < other → depth_within most es a ≡ depth_within other es a
+pub sound_same : (es : Entries) (most other : ℕ) (a : Name) → IsSound es → most_depth < most → most_depth < other → depth_within most es a ≡ depth_within other es a
 sound_same es most other a sound bk bl = omega (arith, sound_le es most other a sound bl, sound_le es other most a sound bk)
 
-greatest_sound : (es : Entries) → IsSound es → greatest_of (known_depths es) ≤ most_depth
+pub greatest_sound : (es : Entries) → IsSound es → greatest_of (known_depths es) ≤ most_depth
 greatest_sound es sound = greatest_bound (depth_within unbounded es) most_depth (λ x. sound_depth es unbounded x sound) (keys_of es)
+
+pub sound_shallow : (es : Entries) → IsSound es → deepest es < unbounded
+sound_shallow es sound = omega (arith, greatest_sound es sound)
+
+-- a list with fewer references
+pub within_shallow : (es new : Entries) → IsWithin es new → IsSound es → deepest new < unbounded
+within_shallow es new h sound =
+    let le : greatest_of (known_depths new) ≤ most_depth = greatest_bound (depth_within unbounded new) most_depth
+    (λ x. let r = depth_met unbounded new x in omega (arith, r.2, within_combinations es new h (x ∷ r.0), sound.shallow (x ∷ r.0) (within_walk es new h (x ∷ r.0) r.1))) (keys_of new) in
+    omega (arith, le)
 
 -- ---- what is no combination has no depth
 weightless_in : (o : Body) (f : Name → ℕ) → body_weight o ≡ 0 → body_depth o f ≡ 0
@@ -43,7 +52,7 @@ weightless : (o : Option Parts) (f : Name → ℕ) → comb_weight o ≡ 0 → d
 weightless None f e = refl
 weightless (Some o) f e = weightless_in o.body f e
 
-push_here : (es : Entries) (a : Name) (o : Parts) → object_of es a ≡ None → object_of (appended es a o) a ≡ Some o
+pub push_here : (es : Entries) (a : Name) (o : Parts) → object_of es a ≡ None → object_of (appended es a o) a ≡ Some o
 push_here [] a o h = look_here a o []
 push_here ((k, p) ∷ es) a o h =
     elim (name_tells a k) [
@@ -111,7 +120,7 @@ map_push : (f : Name → ℕ) (xs : List Name) (a : Name) → map f (xs ++ a ∷
 map_push f [] a = refl
 map_push f (x ∷ xs) a = ap (λ (l : List ℕ). f x ∷ l) (map_push f xs a)
 
-own_is : (es : Entries) (o : Parts) → depth_of_object (known_depths es) (keys_of es) o ≡ depth_over (Some o) (depth_within unbounded es)
+pub own_is : (es : Entries) (o : Parts) → depth_of_object (known_depths es) (keys_of es) o ≡ depth_over (Some o) (depth_within unbounded es)
 own_is es o = over_same (depth_at (known_depths es) (keys_of es)) (depth_within unbounded es) (λ x. depth_at_known (depth_within unbounded es) es x (missing_zero unbounded es x)) (Some o)
 
 pub own_known : (es : Entries) (a : Name) (o : Parts) (depths : List ℕ) (own : ℕ) → object_of es a ≡ None → IsSound es → IsAlone es a o → depths ≡ known_depths es
@@ -131,7 +140,7 @@ greatest_push : (xs : List ℕ) (d : ℕ) → greatest_of (xs ++ d ∷ []) ≡ m
 greatest_push [] d = omega arith
 greatest_push (x ∷ xs) d = omega (arith, greatest_push xs d)
 
-body_at_most : (es : Entries) (o : Body) → IsSound es → body_depth o (depth_within unbounded es) ≤ most_depth + 1
+pub body_at_most : (es : Entries) (o : Body) → IsSound es → body_depth o (depth_within unbounded es) ≤ most_depth + 1
 body_at_most es (Solid s) sound = omega arith
 body_at_most es (Comb attr tree) sound = omega (arith, greatest_bound (depth_within unbounded es) most_depth (λ x. sound_depth es unbounded x sound) (member_names (Comb attr tree)))
 
@@ -139,11 +148,11 @@ deepest_alone : (es : Entries) (a : Name) (o : Parts) (depths : List ℕ) (own :
     → own ≡ depth_within unbounded (appended es a o) a → deepest (appended es a o) ≡ max (greatest_of depths) own
 deepest_alone es a o depths own none alone known is = ap greatest_of (sym (known_push es a o depths own none alone known is)) ∙ greatest_push depths own
 
-judged_deep_by : (d : ℕ) (a : Name) → most_depth < d → d < unbounded → judged_by d a ≡ Some (Deep d)
+pub judged_deep_by : (d : ℕ) (a : Name) → most_depth < d → d < unbounded → judged_by d a ≡ Some (Deep d)
 judged_deep_by d a over below =
     first_past (nat_le unbounded d) (Cycle a) _ (lt-leb unbounded d below) ∙ first_holds (nat_lt most_depth d) (Deep d) _ (le-leb (most_depth + 1) d (omega (arith, over)))
 
-judged_none_by : (d : ℕ) (a : Name) → d ≤ most_depth → judged_by d a ≡ None
+pub judged_none_by : (d : ℕ) (a : Name) → d ≤ most_depth → judged_by d a ≡ None
 judged_none_by d a le =
     first_past (nat_le unbounded d) (Cycle a) _ (lt-leb unbounded d (omega (arith, le))) ∙ first_past (nat_lt most_depth d) (Deep d) _ (lt-leb (most_depth + 1) d (omega (arith, le)))
 
@@ -162,7 +171,7 @@ alone_none es a o depths own none sound alone known is le =
     judged_none_by (deepest (appended es a o)) a (omega (arith, deepest_alone es a o depths own none alone known is, low, le))
 
 -- ---- the test of the code
-none_named : (xs : List Name) (a : Name) → count_by (λ n. same_name n a) xs ≡ 0 → ¬ (Contains xs a)
+pub none_named : (xs : List Name) (a : Name) → count_by (λ n. same_name n a) xs ≡ 0 → ¬ (Contains xs a)
 none_named [] a e c = absurd (omega (arith, c.1))
 none_named (x ∷ xs) a e c =
     let parts : cond (same_name x a) 1 0 + count_by (λ n. same_name n a) xs ≡ 0 = sym (sum_by-cons (λ n. cond (same_name n a) 1 0) x xs) ∙ e in
@@ -175,7 +184,7 @@ none_named (x ∷ xs) a e c =
     none_later x xs a apart none (zero, lt, is) = absurd (apart is)
     none_later x xs a apart none (suc i, lt, is) = absurd (none (i, omega arith, is))
 
-free_by_count : (es : Entries) (a : Name) → references_of es a ≡ 0 → (b : Name) → ¬ (Refers es b a)
+pub free_by_count : (es : Entries) (a : Name) → references_of es a ≡ 0 → (b : Name) → ¬ (Refers es b a)
 free_by_count [] a h b c = absurd (omega (arith, c.1))
 free_by_count ((k, o) ∷ es) a h b c =
     let parts : count_by (λ n. same_name n a) (member_names o.body) + references_of es a ≡ 0 = sym (sum_by-cons (λ (e : Name × Parts). count_by (λ n. same_name n a) (members_of (Some e.1))) (k, o) es) ∙ h in
@@ -198,61 +207,12 @@ alone_by_count es a o none itself free =
 pub goes_by_count : (es : Entries) (a : Name) → references_of es a ≡ 0 → GoesAlone es a
 goes_by_count es a h = inl (free_by_count es a h)
 
-zero_from : (n : ℕ) → nat_eq n 0 ≡ true → n ≡ 0
-zero_from n t = elim (eqb_tells n 0) [ inl p ↦ p.1 | inr p ↦ let wrong : true ≡ false = sym t ∙ p.0 in cc ]
-
-pub alone_if : (es : Entries) (a : Name) (o : Parts) (n : ℕ) → object_of es a ≡ None → count_by (λ n. same_name n a) (member_names o.body) ≡ 0 → n ≡ references_of es a → nat_eq n 0 ≡ true → IsAlone es a o
-alone_if es a o n none itself e t = alone_by_count es a o none itself (sym e ∙ zero_from n t)
-
-pub goes_if : (es : Entries) (a : Name) (n : ℕ) → n ≡ references_of es a → nat_eq n 0 ≡ true → GoesAlone es a
-goes_if es a n e t = goes_by_count es a (sym e ∙ zero_from n t)
-
 pub goes_light : (es : Entries) (a : Name) (o : Parts) → object_of es a ≡ Some o → body_weight o.body ≡ 0 → GoesAlone es a
 goes_light es a o is light = inr (ap comb_weight is ∙ light)
 
 pub none_from : (o : Option Parts) → is_some o ≡ false → o ≡ None
 none_from None e = refl
 none_from (Some p) e = cc
-
--- ---- an object that keeps its members
-over_names : (o p : Body) → member_names o ≡ member_names p → body_weight o ≡ body_weight p → (f : Name → ℕ) → body_depth o f ≡ body_depth p f
-over_names (Solid s) (Solid t) names weight f = refl
-over_names (Solid s) (Comb attr tree) names weight f = absurd (omega (arith, weight))
-over_names (Comb attr tree) (Solid t) names weight f = absurd (omega (arith, weight))
-over_names (Comb attr tree) (Comb attr2 tree2) names weight f = ap (λ (l : List Name). greatest_of (map f l) + 1) names
-
-some_there : (es : Entries) (a : Name) (p : Parts) → object_of es a ≡ Some p → IsSome (object_of es a)
-some_there es a p e = rw e
-
-same_depths : (es : Entries) (a : Name) (o : Parts) → KeepsNames es a o → (most : ℕ) (x : Name) → depth_within most (replaced es a o) x ≡ depth_within most es x
-same_depths es a o h zero x = refl
-same_depths es a o h (suc most) x =
-    elim (same_or_apart x a) [
-      | inl e ↦ ap (depth_within (suc most) (replaced es a o)) e
-          ∙ ap (λ (q : Option Parts). depth_over q (depth_within most (replaced es a o))) (replace_there es a o (some_there es a h.0 h.1))
-          ∙ over_same (depth_within most (replaced es a o)) (depth_within most es) (same_depths es a o h most) (Some o)
-          ∙ over_names o.body h.0.body h.2.0 h.2.1 (depth_within most es)
-          ∙ sym (ap (λ (q : Option Parts). depth_over q (depth_within most es)) h.1)
-          ∙ ap (depth_within (suc most) es) (sym e)
-      | inr apart ↦ ap (λ (q : Option Parts). depth_over q (depth_within most (replaced es a o))) (replace_other es a o x apart)
-          ∙ over_same (depth_within most (replaced es a o)) (depth_within most es) (same_depths es a o h most) (object_of es x)
-    ]
-
-keys-replaced : (es : Entries) (a : Name) (o : Parts) → keys_of (replaced es a o) ≡ keys_of es
-keys-replaced [] a o = refl
-keys-replaced ((k, q) ∷ es) a o = elim (name_tells a k) [ inl t ↦ rw t.0 | inr t ↦ rw t.0 (ap (λ (l : List Name). k ∷ l) (keys-replaced es a o)) ]
-
-pub same_known : (es new : Entries) (a : Name) (o : Parts) (depths : List ℕ) → KeepsNames es a o → new ≡ replaced es a o → depths ≡ known_depths es → depths ≡ known_depths new
-same_known es new a o depths h is known =
-    known
-    ∙ map_same (depth_within unbounded es) (depth_within unbounded (replaced es a o)) (keys_of es) (λ x c. sym (same_depths es a o h unbounded x))
-    ∙ ap (map (depth_within unbounded (replaced es a o))) (sym (keys-replaced es a o))
-    ∙ ap known_depths (sym is)
-
-pub same_judged : (es : Entries) (a : Name) (o : Parts) → KeepsNames es a o → IsSound es → judged (replaced es a o) a ≡ None
-same_judged es a o h sound =
-    let same : deepest es ≡ deepest (replaced es a o) = ap greatest_of (same_known es (replaced es a o) a o (known_depths es) h refl refl) in
-    judged_none_by (deepest (replaced es a o)) a (omega (arith, same, greatest_sound es sound))
 
 -- ---- a pair less
 remove_other : (es : Entries) (a x : Name) → x ≢ a → object_of (removed es a) x ≡ object_of es x
@@ -310,13 +270,6 @@ known_removed : (es : Entries) (a : Name) (depths : List ℕ) → IsDistinct sam
 known_removed es a depths distinct alone known =
     ap (λ (l : List ℕ). remove l (position_or_len (same_name a) (keys_of es))) known
     ∙ sym (removed_map (depth_within unbounded (removed es a)) (depth_within unbounded es) es a (gone_same es a distinct alone) distinct)
-
-place_step : (b : Bool) (x i : ℕ) → cond b (Some x) None ≡ Some i → i ≡ x
-place_step true x i e = let same : x ≡ i = cc in sym same
-place_step false x i e = cc
-
-pub place_is : (a : Name) (i : ℕ) (keys : List Name) → position (same_name a) keys ≡ Some i → i ≡ position_or_len (same_name a) keys
-place_is a i keys e = place_step (nat_lt (position_or_len (same_name a) keys) (length keys)) (position_or_len (same_name a) keys) i e
 
 pub known_after : (es new : Entries) (a : Name) (i : ℕ) (depths left : List ℕ) → IsDistinct same_name (keys_of es) → GoesAlone es a → depths ≡ known_depths es → new ≡ removed es a
     → i ≡ position_or_len (same_name a) (keys_of es) → left ≡ remove depths i → left ≡ known_depths new

@@ -73,12 +73,12 @@ pub record IsWithin (old new : Entries) : Type 0 where
   pub weight : (x : Name) → comb_weight (object_of new x) ≤ comb_weight (object_of old x)
   pub refers : (x y : Name) → Refers new x y → Refers old x y
 
-within_walk : (old new : Entries) → IsWithin old new → (w : List Name) → IsWalk new w → IsWalk old w
+pub within_walk : (old new : Entries) → IsWithin old new → (w : List Name) → IsWalk new w → IsWalk old w
 within_walk old new h [] k = tt
 within_walk old new h (x ∷ []) k = (tt, tt)
 within_walk old new h (x ∷ y ∷ w) k = (h.refers x y k.0, within_walk old new h (y ∷ w) k.1)
 
-within_combinations : (old new : Entries) → IsWithin old new → (w : List Name) → combinations new w ≤ combinations old w
+pub within_combinations : (old new : Entries) → IsWithin old new → (w : List Name) → combinations new w ≤ combinations old w
 within_combinations old new h [] = omega arith
 within_combinations old new h (x ∷ w) = omega (arith, h.weight x, within_combinations old new h w)
 

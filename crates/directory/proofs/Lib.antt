@@ -1,9 +1,11 @@
 pub mod AddLemmas
 pub mod AloneLemmas
+pub mod CountLemmas
 pub mod EditLemmas
+pub mod FindLemmas
 pub mod PlaceLemmas
+pub mod ReplaceLemmas
 pub mod SmallTrees
-pub mod SweepLemmas
 pub mod TellLemmas
 pub mod WalkLemmas
 pub mod WholeLemmas

@@ -1,7 +1,7 @@
 use Rattle.std.proofs.Common.{◌≡◌, ◌≢◌, ◌<◌, ◌+◌, ◌∙◌, ℕ, zero, suc, max, List, [], ◌∷◌, ◌++◌, map, take, length, get_or, refl, ap, sym, arith, append_assoc, Option, None, Some, true, false, cond, Bool, inl, inr, add-one, true≢false}
 use Rattle.std.specs.List.{Contains, position_or_len, AllByRecursion}
 use Rattle.std.specs.Map.{keys_of}
-use Rattle.std.specs.Prelude.{nat_lt, slice_index}
+use Rattle.std.specs.Prelude.{nat_lt, position, slice_index}
 use Rattle.std.specs.Option.{option_map_or}
 use Rattle.std.proofs.lemmas.List.{get_or_past, length-map, map-append}
 use Rattle.std.proofs.lemmas.List.Concat.{flat_map-cons}
@@ -54,7 +54,7 @@ tree_names None = refl
 tree_names (Some t) = postfix_names t
 
 -- ---- the greatest of a list, one more
-greatest_append : (f : Name → ℕ) (xs ys : List Name) → greatest_of (map f (xs ++ ys)) ≡ max (greatest_of (map f xs)) (greatest_of (map f ys))
+pub greatest_append : (f : Name → ℕ) (xs ys : List Name) → greatest_of (map f (xs ++ ys)) ≡ max (greatest_of (map f xs)) (greatest_of (map f ys))
 greatest_append f [] ys = omega arith
 greatest_append f (x ∷ xs) ys = omega (arith, greatest_append f xs ys)
 
@@ -83,11 +83,19 @@ greatest_below f n h xs = omega (arith, greatest_bound f n (λ x. omega (arith, 
 pub greatest_below_100 : (f : Name → ℕ) (xs : List Name) → ((x : Name) → f x < 100) → greatest_of (map f xs) < 100
 greatest_below_100 f xs h = greatest_below f 99 h xs
 
+-- ---- the place of a name
+place_step : (b : Bool) (x i : ℕ) → cond b (Some x) None ≡ Some i → i ≡ x
+place_step true x i e = let same : x ≡ i = cc in sym same
+place_step false x i e = cc
+
+pub place_is : (a : Name) (i : ℕ) (keys : List Name) → position (same_name a) keys ≡ Some i → i ≡ position_or_len (same_name a) keys
+place_is a i keys e = place_step (nat_lt (position_or_len (same_name a) keys) (length keys)) (position_or_len (same_name a) keys) i e
+
 -- ---- the depth that stands at a name's place
 get_next : (x : ℕ) (xs : List ℕ) (i : ℕ) → get_or (x ∷ xs) (1 + i) 0 ≡ get_or xs i 0
 get_next x xs i = let e : 1 + i ≡ suc i = omega arith in rw e
 
-reads : (f : Name → ℕ) (es : Entries) (a : Name) → (object_of es a ≡ None → f a ≡ 0) → get_or (map f (keys_of es)) (position_or_len (same_name a) (keys_of es)) 0 ≡ f a
+pub reads : (f : Name → ℕ) (es : Entries) (a : Name) → (object_of es a ≡ None → f a ≡ 0) → get_or (map f (keys_of es)) (position_or_len (same_name a) (keys_of es)) 0 ≡ f a
 reads f [] a h = sym (h refl)
 reads f ((k, o) ∷ es) a h =
     elim (name_tells a k) [

@@ -32,7 +32,7 @@ past : (b : Bool) (f : DirFault) (rest : List (Option DirFault)) (r : Option Dir
 past true f rest r apart e = absurd (apart e)
 past false f rest r apart e = (refl, e)
 
-not_true : (b : Bool) → not b ≡ false → b ≡ true
+pub not_true : (b : Bool) → not b ≡ false → b ≡ true
 not_true true e = refl
 not_true false e = cc
 

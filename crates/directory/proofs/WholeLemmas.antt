@@ -1,8 +1,8 @@
-use Rattle.std.proofs.Common.{◌≡◌, ◌≢◌, ◌⊎◌, inl, inr, ◌<◌, ◌≤◌, ◌+◌, ◌∙◌, ℕ, zero, suc, Bool, true, false, cond, List, [], ◌∷◌, ◌++◌, map, take, drop, filter, length, refl, ap, sym, subst, arith, add-one, None, Some, Result, Ok, Err, OnOk, OnErr}
+use Rattle.std.proofs.Common.{◌≡◌, ◌≢◌, ◌⊎◌, inl, inr, ◌≤◌, ◌+◌, ◌∙◌, ℕ, suc, Bool, true, false, cond, List, [], ◌∷◌, ◌++◌, map, take, drop, filter, length, refl, ap, sym, subst, arith, add-one, None, Some, Result, Ok, Err, OnOk, OnErr}
 use Rattle.std.specs.Prelude.{slice_get, not}
-use Rattle.std.specs.List.{count_by, sum_by, list_any, IsDistinct}
+use Rattle.std.specs.List.{count_by, list_any, IsDistinct}
 use Rattle.std.specs.Map.{keys_of}
-use Rattle.std.proofs.lemmas.List.Sums.{sum_by-append, sum_by-cons, length-filter}
+use Rattle.std.proofs.lemmas.List.Sums.{sum_by-cons, length-filter}
 use Rattle.std.proofs.lemmas.Map.Keys.{IsDistinct-head, IsDistinct-tail}
 use Rattle.name_core.specs.declared.name.Name.{Name}
 use Rattle.name_core.specs.Same.{same_name}
@@ -14,8 +14,8 @@ use Rattle.region_attr.specs.declared.attr.Attr.{Attr}
 use Rattle.object_set.specs.Objects.{Parts, member_names}
 use Rattle.object_set.specs.declared.object.Body.{Body}
 use Rattle.object_set.specs.declared.object.Body.TheVariants.{Comb}
-use Rattle.directory.specs.Walks.{Entries, object_of, members_of, IsSound}
-use Rattle.directory.specs.Edits.{references_of, without_all}
+use Rattle.directory.specs.Walks.{Entries, object_of, IsSound}
+use Rattle.directory.specs.Edits.{without_all}
 use Rattle.directory.proofs.WalkLemmas.{name_tells}
 use mathlib.Core.Path.{fun_ext}
 use Rattle.std.proofs.lemmas.List.{length-take-le}
@@ -39,27 +39,6 @@ counted a t nodes is =
 pub counted_in : (a : Name) (o : Body) (attr : Attr) (t : AnyTree) (nodes : List CombNode) (n : ℕ) → o ≡ Comb attr t → nodes ≡ comb_nodes t → n ≡ length (filter (is_at a) nodes)
     → n ≡ count_by (λ n. same_name n a) (member_names o)
 counted_in a o attr t nodes n is at e = e ∙ counted a t nodes at ∙ sym (ap (λ (b : Body). count_by (λ n. same_name n a) (member_names b)) is)
-
-pub counted_few : (a : Name) (t : AnyTree) (nodes : List CombNode) (n : ℕ) → nodes ≡ comb_nodes t → length (members t) ≤ 4096 → n ≡ length (filter (is_at a) nodes) → n ≤ 4096
-counted_few a t nodes n at few e =
-    let same : length (filter (is_at a) nodes) ≡ length (filter (λ m. same_name m.name a) (members t)) = ap (λ (ns : List CombNode). length (filter (is_at a) ns)) at ∙ name_count a t in
-    omega (arith, e, same, filter_short (λ m. same_name m.name a) (members t), few)
-
-some_at : (es : Entries) (i : ℕ) → i < length es → (k : Name) × (o : Parts) × (slice_get es i ≡ Some (k, o))
-some_at [] i lt = absurd (omega arith)
-some_at ((k, o) ∷ es) zero lt = (k, o, refl)
-some_at ((k, o) ∷ es) (suc i) lt = some_at es i (omega arith)
-
-pub references_next : (es : Entries) (a : Name) (i before here : ℕ) → i < length es → before ≡ references_of (take i es) a
-    → ((k : Name) (o : Parts) → slice_get es i ≡ Some (k, o) → here ≡ count_by (λ n. same_name n a) (member_names o.body)) → before + here ≡ references_of (take (i + 1) es) a
-references_next es a i before here lt is at =
-    let p = some_at es i lt in
-    let f : Name × Parts → ℕ = λ e. count_by (λ n. same_name n a) (members_of (Some e.1)) in
-    let more : references_of (take (suc i) es) a ≡ references_of (take i es) a + sum_by f ((p.0, p.1) ∷ []) =
-    ap (sum_by f) (take_one_more es i (p.0, p.1) p.2) ∙ sum_by-append f (take i es) ((p.0, p.1) ∷ []) in
-    let one : sum_by f ((p.0, p.1) ∷ []) ≡ f (p.0, p.1) + sum_by f [] = sum_by-cons f (p.0, p.1) [] in
-    let none : sum_by f [] ≡ 0 = refl in
-    rw add-one (omega (arith, is, more, one, none, at p.0 p.1 p.2))
 
 -- ---- a list copied pair by pair
 fresh : (ys : Entries) (k : Name) (o : Parts) (rest : Entries) → IsDistinct same_name (keys_of (ys ++ (k, o) ∷ rest)) → object_of ys k ≡ None
@@ -107,7 +86,7 @@ look_filtered : (p : Name → Bool) (es : Entries) (x : Name) → LooksLike (kep
 look_filtered p [] x = inl refl
 look_filtered p ((k, o) ∷ es) x = look_step p k o es x (p k) refl (name_tells x k) (look_filtered p es x)
 
-filter_within : (p : Name → Bool) (es : Entries) → IsWithin es (kept_by p es)
+pub filter_within : (p : Name → Bool) (es : Entries) → IsWithin es (kept_by p es)
 filter_within p es = record {
   weight = λ x. weight_of _ _ (look_filtered p es x);
   refers = λ x y c. refers_of _ _ y (look_filtered p es x) c;

@@ -1,14 +1,13 @@
 -- Depths kept by place, one for each name of the list, in the words of the code.
-use Rattle.std.specs.Prelude.{◌≡◌, ◌<◌, ◌≤◌, min, ℕ, Bool, List, [], ◌∷◌, Some, position, slice_index, slice_set, slice_get, map, flat_map}
+use Rattle.std.specs.Prelude.{◌≡◌, ◌<◌, ◌≤◌, ℕ, zero, suc, List, [], ◌∷◌, Option, None, Some, position, slice_index, slice_get, map, flat_map}
 use Rattle.std.specs.Option.{option_map_or}
 use Rattle.std.specs.Map.{keys_of}
-use Rattle.std.specs.Bool.{MatchBool}
 use Rattle.name_core.specs.declared.name.Name.{Name}
 use Rattle.name_core.specs.Same.{same_name}
 use Rattle.comb_tree.specs.declared.node.CombNode.{CombNode}
 use Rattle.comb_tree.specs.declared.node.CombNode.TheVariants.{Leaf, U, N, Minus}
 use Rattle.object_set.specs.Objects.{Parts}
-use Rattle.directory.specs.Walks.{Entries, depth_over, depth_within, unbounded}
+use Rattle.directory.specs.Walks.{Entries, greatest_of, depth_over, depth_within, unbounded}
 
 -- the name of a leaf
 abbrev pub name_of_node : CombNode → List Name
@@ -28,24 +27,30 @@ depth_at depths names a = option_map_or (λ i. slice_index depths i) (position (
 abbrev pub depth_of_object : List ℕ → List Name → Parts → ℕ
 depth_of_object depths names object = depth_over (Some object) (depth_at depths names)
 
--- the depth at the place rises to that of its object over the depths that stand there, 34 at most
-abbrev pub RaisesAt : Entries → List ℕ → ℕ → Bool → List ℕ → Type 0
-RaisesAt es old place raised new =
-    (k : Name) (o : Parts) → slice_get es place ≡ Some (k, o)
-    → MatchBool raised
-    ((slice_index old place < min unbounded (depth_of_object old (keys_of es) o)) × (new ≡ slice_set old place (min unbounded (depth_of_object old (keys_of es) o))))
-    ((min unbounded (depth_of_object old (keys_of es) o) ≤ slice_index old place) × (new ≡ old))
+-- the bounded depth of the deepest of the names
+abbrev pub names_within : ℕ → Entries → List Name → ℕ
+names_within most es names = greatest_of (map (depth_within most es) names)
 
--- the depths that are at most the true ones, 34 at most
-abbrev pub AreBelow : Entries → List ℕ → Type 0
-AreBelow es depths = (j : ℕ) (k : Name) (o : Parts) → slice_get es j ≡ Some (k, o) → slice_index depths j ≤ depth_within unbounded es k
+-- the bounded depth of an object
+abbrev pub object_within : ℕ → Entries → Parts → ℕ
+object_within zero es object = 0
+object_within (suc most) es object = depth_over (Some object) (depth_within most es)
+
+-- what is found of a depth, which is bounded by the argument: the depth itself, at most `levels`, or that it is more
+abbrev pub Finds : (ℕ → ℕ) → ℕ → Option ℕ → Type 0
+Finds bounded levels (Some d) = (d ≤ levels) × ((most : ℕ) → d ≤ most → bounded most ≡ d)
+Finds bounded levels None = levels < bounded (suc levels)
+
+-- each of the depths that is below 34 is found
+abbrev pub AreFound : Entries → List ℕ → Type 0
+AreFound es depths =
+    (j : ℕ) (k : Name) (o : Parts) → slice_get es j ≡ Some (k, o) → slice_index depths j < unbounded
+    → (most : ℕ) → slice_index depths j ≤ most → depth_within most es k ≡ slice_index depths j
+
+-- what was found is found
+abbrev pub KeepsFound : List ℕ → List ℕ → Type 0
+KeepsFound old new = (j : ℕ) → slice_index old j < unbounded → slice_index new j < unbounded
 
 -- the depths of all names, 34 at most
 abbrev pub known_depths : Entries → List ℕ
 known_depths es = map (depth_within unbounded es) (keys_of es)
-
--- after a sweep of the places before `place`: nothing fell, and there each depth is at least that over the depths before the sweep
-pub record Sweeps (es : Entries) (old : List ℕ) (place : ℕ) (new : List ℕ) : Type 0 where
-  pub grown : (j : ℕ) → slice_index old j ≤ slice_index new j
-  pub reached : (j : ℕ) (k : Name) (o : Parts) → j < place → slice_get es j ≡ Some (k, o) → min unbounded (depth_of_object old (keys_of es) o) ≤ slice_index new j
-  pub below : AreBelow es new

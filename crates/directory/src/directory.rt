@@ -1,6 +1,6 @@
-use crate::edits::{add_pair, remove_pair, rename_pairs, replace_pair};
+use crate::counted::{put_counted, remove_counted, rename_counted, replace_counted};
+use crate::counts::Counts;
 use crate::fault::DirFault;
-use crate::members::references;
 use crate::whole::{copy_of, remove_pairs};
 use indexmap::IndexMap;
 use memory_core::Memory;
@@ -18,6 +18,8 @@ pub struct Directory {
     objects: IndexMap<Name, Object>,
     /// The depths of the objects, by place.
     depths: Vec<u8>,
+    /// How many leaves have each name.
+    counts: Counts,
 }
 
 impl Model for Directory {
@@ -33,7 +35,7 @@ impl Model for Directory {
 
     ghost view = { λ s. record { title = s.title.items; objects = s.objects.entries } };
 
-    ghost invariant = { λ s. IsKept s.title.items s.objects.entries s.depths.items };
+    ghost invariant = { λ s. IsKept s.title.items s.objects.entries s.depths.items s.counts };
 }
 
 impl Directory {
@@ -53,6 +55,7 @@ impl Directory {
             title: Vec::new(alloc),
             objects: IndexMap::new(alloc),
             depths: Vec::new(alloc),
+            counts: Counts::new(alloc),
         }
     }
 
@@ -94,7 +97,13 @@ impl Directory {
         ensures means { Tells (appended self.old.objects name.now object) name.now result }
         ensures title { self.new.title ≡ self.old.title }
     {
-        let answer = add_pair(&mut self.objects, &mut self.depths, name, object);
+        let answer = put_counted(
+            &mut self.objects,
+            &mut self.depths,
+            &mut self.counts,
+            name,
+            object,
+        );
         let _count = self.objects.len();
         answer
     }
@@ -105,7 +114,13 @@ impl Directory {
         ensures means { Tells (replaced self.old.objects name.now object) name.now result }
         ensures title { self.new.title ≡ self.old.title }
     {
-        let answer = replace_pair(&mut self.objects, &mut self.depths, name, object);
+        let answer = replace_counted(
+            &mut self.objects,
+            &mut self.depths,
+            &mut self.counts,
+            name,
+            object,
+        );
         let _count = self.objects.len();
         answer
     }
@@ -117,7 +132,7 @@ impl Directory {
         ensures memory { result ≢ Err DirFault.Memory }
         ensures title { self.new.title ≡ self.old.title }
     {
-        let answer = remove_pair(&mut self.objects, &mut self.depths, name);
+        let answer = remove_counted(&mut self.objects, &mut self.depths, &mut self.counts, name);
         let _count = self.objects.len();
         answer
     }
@@ -129,7 +144,14 @@ impl Directory {
         ensures means { Tells (renamed_all self.old.objects old.now new.now) new.now result }
         ensures title { self.new.title ≡ self.old.title }
     {
-        let answer = rename_pairs(alloc, &mut self.objects, &mut self.depths, old, new);
+        let answer = rename_counted(
+            alloc,
+            &mut self.objects,
+            &mut self.depths,
+            &mut self.counts,
+            old,
+            new,
+        );
         let _count = self.objects.len();
         answer
     }
@@ -153,7 +175,13 @@ impl Directory {
         ensures err { OnErr result (self.new.objects ≡ self.old.objects) }
         ensures title { self.new.title ≡ self.old.title }
     {
-        remove_pairs(alloc, &mut self.objects, &mut self.depths, names)
+        remove_pairs(
+            alloc,
+            &mut self.objects,
+            &mut self.depths,
+            &mut self.counts,
+            names,
+        )
     }
 
     /// The same directory again.
@@ -163,10 +191,12 @@ impl Directory {
         let title = Vec::from_slice(alloc, &self.title)?;
         let objects = copy_of(alloc, &self.objects)?;
         let depths = Vec::from_slice(alloc, &self.depths)?;
+        let counts = self.counts.copy()?;
         Ok(Directory {
             title,
             objects,
             depths,
+            counts,
         })
     }
 
@@ -174,6 +204,6 @@ impl Directory {
     pub fn references(&self, name: &Name) -> u64
         ensures { result ≡ references_of self.now.objects name.now }
     {
-        references(&self.objects, name)
+        self.counts.of(name)
     }
 }

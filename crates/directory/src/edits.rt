@@ -1,16 +1,19 @@
-ghost use Rattle.std.specs.Prelude.{◌≡◌, ◌≢◌, ◌<◌, ◌≤◌, true, ◌++◌, ◌∷◌, [], IsSome, Some, None, OnOk, OnErr, IfOk, Err, take, length, ◌+◌};
+ghost use Rattle.std.specs.Prelude.{◌≡◌, ◌≢◌, ◌<◌, true, ◌++◌, ◌∷◌, [], IsSome, Some, None, OnOk, OnErr, IfOk, Err, take, length, ◌+◌, position};
 ghost use Rattle.name_core.specs.declared.name.Name.{Name};
-ghost use Rattle.object_set.specs.Objects.{Parts};
+ghost use Rattle.name_core.specs.Same.{same_name};
+ghost use Rattle.object_set.specs.Objects.{Parts, member_names};
 ghost use Rattle.object_set.specs.Renaming.{new_name, renamed_object};
-ghost use Rattle.directory.specs.Walks.{Entries, IsSound, object_of, most_objects};
+ghost use Rattle.directory.specs.Walks.{Entries, IsSound, object_of};
 ghost use Rattle.directory.specs.Places.{known_depths, depth_of_object};
 ghost use Rattle.indexmap.specs.IndexMap.{keys};
-ghost use Rattle.directory.specs.Alone.{IsAlone, GoesAlone};
-ghost use Rattle.directory.specs.Edits.{judged, appended, put_fault, replaced, replace_fault, removed, remove_fault, renamed_all, rename_fault, Follows};
+ghost use Rattle.directory.specs.Alone.{IsAlone, GoesAlone, KeepsDepth, StaysAlone};
+ghost use Rattle.directory.specs.Counting.{times};
+ghost use Rattle.directory.specs.Edits.{judged, appended, put_fault, replaced, replace_fault, removed, remove_fault, renamed_all, rename_fault, references_of, Follows};
 
-use crate::depths::{DEPTH, depth_of, judge, resettle, settle};
+use crate::depths::{DEPTH, depth_of};
 use crate::fault::DirFault;
-use crate::members::{is_solid, keeps_names, leaves_named, references};
+use crate::members::{is_solid, keeps_names, leaves_named};
+use crate::walk::{resettle, settle};
 use indexmap::IndexMap;
 use memory_core::Memory;
 use name_core::Name;
@@ -41,7 +44,7 @@ fn drop_last(objects: &mut IndexMap<Name, Object>)
     let _last = objects.pop();
 }
 
-/// Adds a pair at the end, where the result may stand. The depths of all objects are searched, from those that are kept.
+/// Adds a pair at the end, where the result may stand. The depths of all objects are found anew.
 fn add_searched(
     objects: &mut IndexMap<Name, Object>,
     depths: &mut Vec<u8>,
@@ -49,6 +52,7 @@ fn add_searched(
     object: Object,
 ) -> Result<(), DirFault>
     requires missing { object_of objects.old.entries name.now ≡ None }
+    requires sound { IsSound objects.old.entries }
     requires known { depths.old.items ≡ known_depths objects.old.entries }
     ensures answer { Follows objects.old.entries (judged (appended objects.old.entries name.now object) name.now) (appended objects.old.entries name.now object) result objects.new.entries }
     ensures known { depths.new.items ≡ known_depths objects.new.entries }
@@ -60,8 +64,7 @@ fn add_searched(
         let _own = depths.pop();
         return Err(DirFault::Memory);
     }
-    settle(objects, depths);
-    match judge(depths, name) {
+    match settle(objects, depths, name) {
         None => Ok(()),
         Some(fault) => {
             drop_last(objects);
@@ -72,16 +75,18 @@ fn add_searched(
     }
 }
 
-/// Whether the object is a solid, or neither it nor the list refers to its name.
-fn is_alone(objects: &IndexMap<Name, Object>, name: &Name, object: &Object) -> bool
-    requires missing { object_of objects.now.entries name.now ≡ None }
-    requires small { length objects.now.entries ≤ most_objects }
-    ensures { result ≡ true → IsAlone objects.now.entries name.now object.now }
+/// Whether neither the object nor the list, which has so many references to the name, refers to it.
+fn is_free(name: &Name, object: &Object, references: u64) -> bool
+    ensures { result ≡ true → (references ≡ 0) × (times (member_names object.now.body) name.now ≡ 0) }
 {
-    if is_solid(object) {
-        return true;
-    }
-    leaves_named(object, name) == 0 && references(objects, name) == 0
+    references == 0 && leaves_named(object, name) == 0
+}
+
+/// Whether the object is a solid, or neither it nor the list, which has so many references to its name, refers to it.
+fn is_alone(name: &Name, object: &Object, references: u64) -> bool
+    ensures { (es : Entries) → object_of es name.now ≡ None → references ≡ references_of es name.now → result ≡ true → IsAlone es name.now object.now }
+{
+    is_solid(object) || is_free(name, object, references)
 }
 
 /// Adds a pair and its depth, where the depths of the others stay.
@@ -117,11 +122,13 @@ fn add_alone(
 pub(crate) fn add_pair(
     objects: &mut IndexMap<Name, Object>,
     depths: &mut Vec<u8>,
+    references: u64,
     name: &Name,
     object: Object,
 ) -> Result<(), DirFault>
     requires sound { IsSound objects.old.entries }
     requires known { depths.old.items ≡ known_depths objects.old.entries }
+    requires references { references ≡ references_of objects.old.entries name.now }
     ensures answer { Follows objects.old.entries (put_fault objects.old.entries name.now object) (appended objects.old.entries name.now object) result objects.new.entries }
     ensures known { depths.new.items ≡ known_depths objects.new.entries }
 {
@@ -131,7 +138,7 @@ pub(crate) fn add_pair(
     if objects.len() >= OBJECTS {
         return Err(DirFault::Full);
     }
-    if is_alone(objects, name, &object) {
+    if is_alone(name, &object, references) {
         let own = depth_of(objects, depths, &object);
         add_alone(objects, depths, name, object, own)
     } else {
@@ -159,13 +166,13 @@ fn exchange(
     object: Object,
 ) -> Result<(), DirFault>
     requires there { IsSome (object_of objects.old.entries name.now) }
+    requires sound { IsSound objects.old.entries }
     requires known { depths.old.items ≡ known_depths objects.old.entries }
     ensures answer { Follows objects.old.entries (judged (replaced objects.old.entries name.now object) name.now) (replaced objects.old.entries name.now object) result objects.new.entries }
     ensures known { depths.new.items ≡ known_depths objects.new.entries }
 {
     let old = set_object(objects, name, object);
-    resettle(objects, depths);
-    match judge(depths, name) {
+    match settle(objects, depths, name) {
         None => Ok(()),
         Some(fault) => {
             let _refused = set_object(objects, name, old);
@@ -175,24 +182,70 @@ fn exchange(
     }
 }
 
-/// Replaces a name's object, where the result may stand.
-pub(crate) fn replace_pair(
+/// Whether the object is as deep as that at the place, which has the name. Then no depth changes.
+fn keeps_depth(
+    objects: &IndexMap<Name, Object>,
+    depths: &[u8],
+    place: usize,
+    name: &Name,
+    object: &Object,
+) -> bool
+    requires sound { IsSound objects.now.entries }
+    requires known { depths.now ≡ known_depths objects.now.entries }
+    requires there { IsSome (object_of objects.now.entries name.now) }
+    requires place { position (same_name name.now) (keys objects.now) ≡ Some place }
+    ensures { result ≡ true → KeepsDepth objects.now.entries name.now object.now }
+{
+    keeps_names(objects, name, object) || depth_of(objects, depths, object) == depths[place]
+}
+
+/// Replaces the object of a name to which no object refers, where the result may stand. Only its own depth changes.
+fn exchange_alone(
     objects: &mut IndexMap<Name, Object>,
     depths: &mut Vec<u8>,
+    place: usize,
     name: &Name,
     object: Object,
 ) -> Result<(), DirFault>
     requires sound { IsSound objects.old.entries }
     requires known { depths.old.items ≡ known_depths objects.old.entries }
+    requires place { position (same_name name.now) (keys objects.old) ≡ Some place }
+    requires alone { StaysAlone objects.old.entries name.now object }
+    ensures answer { Follows objects.old.entries (judged (replaced objects.old.entries name.now object) name.now) (replaced objects.old.entries name.now object) result objects.new.entries }
+    ensures known { depths.new.items ≡ known_depths objects.new.entries }
+{
+    let depth = depth_of(objects, depths, &object);
+    if depth > DEPTH {
+        return Err(DirFault::Deep(u32::from(depth)));
+    }
+    let _old = set_object(objects, name, object);
+    depths[place] = depth;
+    Ok(())
+}
+
+/// Replaces a name's object, where the result may stand.
+pub(crate) fn replace_pair(
+    objects: &mut IndexMap<Name, Object>,
+    depths: &mut Vec<u8>,
+    references: u64,
+    name: &Name,
+    object: Object,
+) -> Result<(), DirFault>
+    requires sound { IsSound objects.old.entries }
+    requires known { depths.old.items ≡ known_depths objects.old.entries }
+    requires references { references ≡ references_of objects.old.entries name.now }
     ensures answer { Follows objects.old.entries (replace_fault objects.old.entries name.now object) (replaced objects.old.entries name.now object) result objects.new.entries }
     ensures known { depths.new.items ≡ known_depths objects.new.entries }
 {
-    if !objects.contains_key(name) {
+    let Some(place) = objects.get_index_of(name) else {
         return Err(DirFault::Missing);
-    }
-    if keeps_names(objects, name, &object) {
+    };
+    if keeps_depth(objects, depths, place, name, &object) {
         let _old = set_object(objects, name, object);
         return Ok(());
+    }
+    if is_free(name, &object, references) {
+        return exchange_alone(objects, depths, place, name, object);
     }
     exchange(objects, depths, name, object)
 }
@@ -205,13 +258,13 @@ fn drop_pair(objects: &mut IndexMap<Name, Object>, name: &Name)
     let _object = objects.shift_remove(name);
 }
 
-/// Whether the depths of the other objects stay where the name goes.
-fn goes_alone(objects: &IndexMap<Name, Object>, name: &Name) -> bool
-    requires { length objects.now.entries ≤ most_objects }
+/// Whether the depths of the other objects stay where the name goes, to which there are so many references.
+fn goes_alone(objects: &IndexMap<Name, Object>, name: &Name, references: u64) -> bool
+    requires { references ≡ references_of objects.now.entries name.now }
     ensures { result ≡ true → GoesAlone objects.now.entries name.now }
 {
     match objects.get(name) {
-        Some(object) => is_solid(object) || references(objects, name) == 0,
+        Some(object) => references == 0 || is_solid(object),
         None => false,
     }
 }
@@ -220,9 +273,11 @@ fn goes_alone(objects: &IndexMap<Name, Object>, name: &Name) -> bool
 pub(crate) fn remove_pair(
     objects: &mut IndexMap<Name, Object>,
     depths: &mut Vec<u8>,
+    references: u64,
     name: &Name,
 ) -> Result<(), DirFault>
-    requires small { length objects.old.entries ≤ most_objects }
+    requires sound { IsSound objects.old.entries }
+    requires references { references ≡ references_of objects.old.entries name.now }
     requires known { depths.old.items ≡ known_depths objects.old.entries }
     ensures answer { Follows objects.old.entries (remove_fault objects.old.entries name.now) (removed objects.old.entries name.now) result objects.new.entries }
     ensures memory { result ≢ Err DirFault.Memory }
@@ -231,7 +286,7 @@ pub(crate) fn remove_pair(
     let Some(place) = objects.get_index_of(name) else {
         return Err(DirFault::Missing);
     };
-    let alone = goes_alone(objects, name);
+    let alone = goes_alone(objects, name, references);
     drop_pair(objects, name);
     let _depth = depths.remove(place);
     if alone {
@@ -307,6 +362,7 @@ fn rename_there(
     new: &Name,
 ) -> Result<(), DirFault>
     requires missing { object_of objects.old.entries new.now ≡ None }
+    requires sound { IsSound objects.old.entries }
     requires known { depths.old.items ≡ known_depths objects.old.entries }
     ensures answer { Follows objects.old.entries (judged (renamed_all objects.old.entries old.now new.now) new.now) (renamed_all objects.old.entries old.now new.now) result objects.new.entries }
     ensures known { depths.new.items ≡ known_depths objects.new.entries }
@@ -314,8 +370,7 @@ fn rename_there(
     let Ok(renamed) = renamed_map(alloc, objects, old, new) else {
         return Err(DirFault::Memory);
     };
-    resettle(&renamed, depths);
-    match judge(depths, new) {
+    match settle(&renamed, depths, new) {
         None => {
             *objects = renamed;
             Ok(())
@@ -335,6 +390,7 @@ pub(crate) fn rename_pairs(
     old: &Name,
     new: &Name,
 ) -> Result<(), DirFault>
+    requires sound { IsSound objects.old.entries }
     requires known { depths.old.items ≡ known_depths objects.old.entries }
     ensures answer { Follows objects.old.entries (rename_fault objects.old.entries old.now new.now) (renamed_all objects.old.entries old.now new.now) result objects.new.entries }
     ensures known { depths.new.items ≡ known_depths objects.new.entries }

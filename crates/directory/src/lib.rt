@@ -1,11 +1,14 @@
 //! The directory: a title and a list of named objects, without cycles and at most sixteen combinations deep.
 #![tactic(auto)]
 
+mod counted;
+mod counts;
 mod depths;
 mod directory;
 mod edits;
 mod fault;
 mod members;
+mod walk;
 mod whole;
 
 pub use directory::Directory;

@@ -1,12 +1,11 @@
-ghost use Rattle.std.specs.Prelude.{◌≡◌, ◌≤◌, ◌<◌, Some, true, filter, length, slice_get};
+ghost use Rattle.std.specs.Prelude.{◌≡◌, ◌≤◌, true, filter, length};
 ghost use Rattle.std.specs.List.{count_by};
 ghost use Rattle.name_core.specs.declared.name.Name.{Name};
 ghost use Rattle.name_core.specs.Same.{same_name};
 ghost use Rattle.comb_tree.specs.Steps.{is_at};
-ghost use Rattle.object_set.specs.Objects.{Parts, member_names};
-ghost use Rattle.directory.specs.Walks.{most_objects, body_weight, object_of};
+ghost use Rattle.object_set.specs.Objects.{member_names};
+ghost use Rattle.directory.specs.Walks.{body_weight};
 ghost use Rattle.directory.specs.Places.{name_of_node, node_names};
-ghost use Rattle.directory.specs.Edits.{references_of};
 ghost use Rattle.directory.specs.Alone.{HaveSameMembers, KeepsNames};
 
 use comb_tree::CombNode;
@@ -32,8 +31,7 @@ fn count_named(nodes: &[CombNode], name: Name) -> usize
 
 /// How many leaves of the object have the name.
 pub(crate) fn leaves_named(object: &Object, name: &Name) -> usize
-    ensures count { result ≡ count_by (λ n. same_name n name.now) (member_names object.now.body) }
-    ensures few { result ≤ 4096 }
+    ensures { result ≡ count_by (λ n. same_name n name.now) (member_names object.now.body) }
 {
     match object.body() {
         Body::Solid(_) => 0,
@@ -41,28 +39,15 @@ pub(crate) fn leaves_named(object: &Object, name: &Name) -> usize
     }
 }
 
-/// How many leaves of the object at the place have the name.
-fn named_at(objects: &IndexMap<Name, Object>, place: usize, name: &Name) -> usize
-    requires { place < length objects.now.entries }
-    ensures count { (k : Name) (o : Parts) → slice_get objects.now.entries place ≡ Some (k, o) → result ≡ count_by (λ n. same_name n name.now) (member_names o.body) }
-    ensures few { result ≤ 4096 }
+/// The nodes of a combination's tree; a solid has none.
+pub(crate) fn nodes_of(object: &Object) -> &[CombNode]
+    ensures names { node_names result.now ≡ member_names object.now.body }
+    ensures few { length (member_names object.now.body) ≤ 4096 }
 {
-    match objects.get_index(place) {
-        Some((_name, object)) => leaves_named(object, name),
-        None => unreachable!(),
+    match object.body() {
+        Body::Solid(_) => &[],
+        Body::Comb { tree, .. } => tree.nodes(),
     }
-}
-
-/// How many leaves of all objects have the name.
-pub(crate) fn references(objects: &IndexMap<Name, Object>, name: &Name) -> u64
-    requires { length objects.now.entries ≤ most_objects }
-    ensures { result ≡ references_of objects.now.entries name.now }
-{
-    let mut count = 0;
-    for place in 0..objects.len() {
-        count += named_at(objects, place, name) as u64;
-    }
-    count
 }
 
 /// Whether the object is a solid.

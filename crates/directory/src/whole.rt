@@ -1,11 +1,14 @@
 ghost use Rattle.std.specs.Prelude.{◌≡◌, ◌<◌, ◌+◌, OnOk, OnErr, IfOk, filter, length, not, take};
 ghost use Rattle.std.specs.HashSet.{IsFromIterResult, contains};
 ghost use Rattle.name_core.specs.Same.{same_name};
+ghost use Rattle.directory.specs.Walks.{IsSound};
 ghost use Rattle.directory.specs.Places.{known_depths};
 ghost use Rattle.directory.specs.Edits.{without_all};
+ghost use Rattle.directory.specs.Counting.{AreCounts, gone_before};
 
-use crate::depths::resettle;
+use crate::counts::Counts;
 use crate::edits::push_new;
+use crate::walk::resettle;
 use indexmap::IndexMap;
 use memory_core::Memory;
 use name_core::Name;
@@ -72,19 +75,55 @@ fn drop_all(objects: &mut IndexMap<Name, Object>, gone: &HashSet<Name>)
     );
 }
 
+/// Counts the leaves of the object at the place once less, where its name is one of those that go.
+fn take_at(
+    objects: &IndexMap<Name, Object>,
+    counts: &mut Counts,
+    place: usize,
+    gone: &HashSet<Name>,
+)
+    requires within { place < length objects.now.entries }
+    requires counted { AreCounts (gone_before (contains same_name gone.now) objects.now.entries place) counts.old }
+    ensures { AreCounts (gone_before (contains same_name gone.now) objects.now.entries (place + 1)) counts.new }
+{
+    match objects.get_index(place) {
+        Some((name, object)) => {
+            if has(gone, name) {
+                counts.take(object);
+            }
+        }
+        None => unreachable!(),
+    }
+}
+
+/// Counts the leaves of the objects that go once less.
+fn take_gone(objects: &IndexMap<Name, Object>, counts: &mut Counts, gone: &HashSet<Name>)
+    requires { AreCounts objects.now.entries counts.old }
+    ensures { AreCounts (filter (λ e. not (contains same_name gone.now e.0)) objects.now.entries) counts.new }
+{
+    for place in 0..objects.len() {
+        take_at(objects, counts, place, gone);
+    }
+}
+
 /// Takes out the pairs of the names. Names that are not there are passed over.
 pub(crate) fn remove_pairs(
     alloc: Global,
     objects: &mut IndexMap<Name, Object>,
     depths: &mut Vec<u8>,
+    counts: &mut Counts,
     names: &[Name],
 ) -> Result<(), Memory>
+    requires sound { IsSound objects.old.entries }
     requires known { depths.old.items ≡ known_depths objects.old.entries }
+    requires counted { AreCounts objects.old.entries counts.old }
     ensures ok { OnOk result (objects.new.entries ≡ without_all objects.old.entries names.now) }
     ensures err { OnErr result (objects.new.entries ≡ objects.old.entries) }
     ensures known { depths.new.items ≡ known_depths objects.new.entries }
+    ensures counted { AreCounts objects.new.entries counts.new }
 {
     let gone = set_of(alloc, names)?;
+    take_gone(objects, counts, &gone);
     drop_all(objects, &gone);
     depths.truncate(objects.len());
     resettle(objects, depths);

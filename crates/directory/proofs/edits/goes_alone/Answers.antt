@@ -1,5 +1,6 @@
-use Rattle.directory.proofs.AloneLemmas.{goes_if}
+use Rattle.std.proofs.Common.{arith}
+use Rattle.directory.proofs.AloneLemmas.{goes_by_count}
 use Rattle.directory.proofs.edits.goes_alone.Goals as goal
 
-pub returns-else-is_solid : goal.returns-else-is_solid
-returns-else-is_solid c = λ t. goes_if c.args.objects.now.entries c.args.name.now c.references.result c.references.ensures t
+pub returns-then-references-eq0 : goal.returns-then-references-eq0
+returns-then-references-eq0 c = λ _. goes_by_count c.args.objects.now.entries c.args.name.now (omega (arith, c.requires, c.if-references-eq0.true))

@@ -1,7 +1,6 @@
-use Rattle.std.proofs.Common.{arith}
-use Rattle.directory.proofs.AloneLemmas.{alone_if}
+use Rattle.std.proofs.Common.{◌∙◌, sym}
+use Rattle.directory.proofs.AloneLemmas.{alone_by_count}
 use Rattle.directory.proofs.edits.is_alone.Goals as goal
 
-pub returns-then-leaves_named-eq0 : goal.returns-then-leaves_named-eq0
-returns-then-leaves_named-eq0 c =
-    λ t. alone_if c.args.objects.now.entries c.args.name.now c.args.object.now c.references.result c.requires.missing (omega (arith, c.leaves_named.ensures.count, c.if-leaves_named-eq0.true)) c.references.ensures t
+pub returns-else-is_solid : goal.returns-else-is_solid
+returns-else-is_solid c = λ es none is t. let free = c.is_free.ensures t in alone_by_count es c.args.name.now c.args.object.now none free.1 (sym is ∙ free.0)

@@ -1,0 +1,11 @@
+use Rattle.std.proofs.Common.{◌<◌, ℕ}
+use Rattle.std.specs.Prelude.{slice_index}
+use Rattle.directory.specs.Walks.{unbounded}
+use Rattle.directory.specs.Places.{AreFound}
+use Rattle.directory.proofs.walk.find_all.Given as goal
+
+abbrev pub invariant-loop-place : goal.invariant-loop-place
+invariant-loop-place l = record {
+  found : AreFound l.objects.entries l.depths;
+  before : (j : ℕ) → j < l.place → slice_index l.depths j < unbounded;
+}

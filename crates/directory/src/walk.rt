@@ -1,0 +1,187 @@
+//! Depths found by one walk down, which visits each combination at most once.
+ghost use Rattle.std.specs.Prelude.{◌≡◌, ◌<◌, ◌≤◌, true, false, length, None, slice_get, slice_index, IsSome};
+ghost use Rattle.name_core.specs.declared.name.Name.{Name};
+ghost use Rattle.object_set.specs.Objects.{Parts};
+ghost use Rattle.directory.specs.Walks.{unbounded, depth_within, deepest};
+ghost use Rattle.directory.specs.Edits.{judged};
+ghost use Rattle.directory.specs.Places.{name_of_node, node_names, names_within, object_within, known_depths, Finds, AreFound, KeepsFound};
+
+use crate::depths::{UNBOUNDED, judge, larger};
+use crate::fault::DirFault;
+use comb_tree::CombNode;
+use indexmap::IndexMap;
+use name_core::Name;
+use object_set::{Body, Object};
+
+/// The depth of the object at the place, found where it is not known and kept, or `None` where it is over `levels`.
+#[cycle(walk)]
+fn find_place(
+    objects: &IndexMap<Name, Object>,
+    depths: &mut [u8],
+    place: usize,
+    levels: u8,
+) -> Option<u8>
+    requires len { length depths.old ≡ length objects.now.entries }
+    requires within { place < length objects.now.entries }
+    requires levels { levels < unbounded }
+    requires found { AreFound objects.now.entries depths.old }
+    ensures depth { (k : Name) (o : Parts) → slice_get objects.now.entries place ≡ Some (k, o) → Finds (λ most. depth_within most objects.now.entries k) levels result }
+    ensures here { IsSome result → slice_index depths.new place < unbounded }
+    ensures found { AreFound objects.now.entries depths.new }
+    ensures kept { KeepsFound depths.old depths.new }
+{
+    let _count = objects.len();
+    let depth = depths[place];
+    if depth < UNBOUNDED {
+        return if depth <= levels { Some(depth) } else { None };
+    }
+    match objects.get_index(place) {
+        Some((_name, object)) => {
+            let depth = find_object(objects, depths, object, levels)?;
+            depths[place] = depth;
+            Some(depth)
+        }
+        None => unreachable!(),
+    }
+}
+
+/// The depth of an object, or `None` where it is over `levels`.
+#[cycle(walk)]
+fn find_object(
+    objects: &IndexMap<Name, Object>,
+    depths: &mut [u8],
+    object: &Object,
+    levels: u8,
+) -> Option<u8>
+    requires len { length depths.old ≡ length objects.now.entries }
+    requires levels { levels < unbounded }
+    requires found { AreFound objects.now.entries depths.old }
+    ensures depth { Finds (λ most. object_within most objects.now.entries object.now) levels result }
+    ensures found { AreFound objects.now.entries depths.new }
+    ensures kept { KeepsFound depths.old depths.new }
+{
+    match object.body() {
+        Body::Solid(_) => Some(0),
+        Body::Comb { tree, .. } => {
+            if levels == 0 {
+                return None;
+            }
+            let below = find_nodes(objects, depths, tree.nodes(), levels - 1)?;
+            Some(below + 1)
+        }
+    }
+}
+
+/// The greatest depth of the names of the leaves, or `None` where it is over `levels`.
+#[cycle(walk)]
+fn find_nodes(
+    objects: &IndexMap<Name, Object>,
+    depths: &mut [u8],
+    nodes: &[CombNode],
+    levels: u8,
+) -> Option<u8>
+    requires len { length depths.old ≡ length objects.now.entries }
+    requires levels { levels < unbounded }
+    requires found { AreFound objects.now.entries depths.old }
+    ensures depth { Finds (λ most. names_within most objects.now.entries (node_names nodes.now)) levels result }
+    ensures found { AreFound objects.now.entries depths.new }
+    ensures kept { KeepsFound depths.old depths.new }
+{
+    let mut most = 0;
+    for node in nodes {
+        most = larger(most, find_node(objects, depths, node, levels)?);
+    }
+    Some(most)
+}
+
+/// The depth of the name of a leaf, 0 of another node, or `None` where it is over `levels`.
+#[cycle(walk)]
+fn find_node(
+    objects: &IndexMap<Name, Object>,
+    depths: &mut [u8],
+    node: &CombNode,
+    levels: u8,
+) -> Option<u8>
+    requires len { length depths.old ≡ length objects.now.entries }
+    requires levels { levels < unbounded }
+    requires found { AreFound objects.now.entries depths.old }
+    ensures depth { Finds (λ most. names_within most objects.now.entries (name_of_node node.now)) levels result }
+    ensures found { AreFound objects.now.entries depths.new }
+    ensures kept { KeepsFound depths.old depths.new }
+{
+    match node {
+        CombNode::Leaf { name, .. } => find_name(objects, depths, name, levels),
+        _ => Some(0),
+    }
+}
+
+/// The depth of a name, or `None` where it is over `levels`.
+#[cycle(walk)]
+fn find_name(
+    objects: &IndexMap<Name, Object>,
+    depths: &mut [u8],
+    name: &Name,
+    levels: u8,
+) -> Option<u8>
+    requires len { length depths.old ≡ length objects.now.entries }
+    requires levels { levels < unbounded }
+    requires found { AreFound objects.now.entries depths.old }
+    ensures depth { Finds (λ most. depth_within most objects.now.entries name.now) levels result }
+    ensures found { AreFound objects.now.entries depths.new }
+    ensures kept { KeepsFound depths.old depths.new }
+{
+    match objects.get_index_of(name) {
+        Some(place) => find_place(objects, depths, place, levels),
+        None => Some(0),
+    }
+}
+
+/// Forgets each depth.
+fn forget(depths: &mut [u8])
+    ensures { (j : _) → j < length depths.old → slice_index depths.new j ≡ unbounded }
+{
+    depths.fill(UNBOUNDED);
+}
+
+/// Finds the depths of all objects, and says whether there is no cycle. The first walk that is too deep ends the search.
+fn find_all(objects: &IndexMap<Name, Object>, depths: &mut [u8]) -> bool
+    requires { length depths.old ≡ length objects.now.entries }
+    ensures known { result ≡ true → depths.new ≡ known_depths objects.now.entries }
+    ensures shallow { result ≡ true → deepest objects.now.entries < unbounded }
+    ensures cycle { result ≡ false → unbounded ≤ deepest objects.now.entries }
+{
+    forget(depths);
+    for place in 0..objects.len() {
+        if find_place(objects, depths, place, UNBOUNDED - 1).is_none() {
+            return false;
+        }
+    }
+    true
+}
+
+/// Finds the depths of all objects, and why they may not stand after an edit of the name.
+pub(crate) fn settle(
+    objects: &IndexMap<Name, Object>,
+    depths: &mut Vec<u8>,
+    edited: &Name,
+) -> Option<DirFault>
+    requires { length depths.old.items ≡ length objects.now.entries }
+    ensures fault { result ≡ judged objects.now.entries edited.now }
+    ensures known { result ≡ None → depths.new.items ≡ known_depths objects.now.entries }
+    ensures len { length depths.new.items ≡ length objects.now.entries }
+{
+    if find_all(objects, depths.as_mut_slice()) {
+        judge(depths)
+    } else {
+        Some(DirFault::Cycle(*edited))
+    }
+}
+
+/// Finds the depths of all objects, among which there is no cycle.
+pub(crate) fn resettle(objects: &IndexMap<Name, Object>, depths: &mut Vec<u8>)
+    requires len { length depths.old.items ≡ length objects.now.entries }
+    requires shallow { deepest objects.now.entries < unbounded }
+    ensures { depths.new.items ≡ known_depths objects.now.entries }
+{
+    let _found = find_all(objects, depths.as_mut_slice());
+}

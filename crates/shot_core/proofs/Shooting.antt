@@ -1,7 +1,7 @@
 -- What is lit and what overlaps, from the regions that a ray hits.
 use Rattle.std.proofs.Common.{◌≡◌, ◌<◌, ◌^◌, ℕ, zero, suc, List, [], ◌∷◌, length, map, get_or, slice_get, Option, Some, All, ap, sym, subst, ◌∙◌, refl, inl, inr, arith}
 use Rattle.std.proofs.lemmas.List.{length-map}
-use Rattle.std.proofs.lemmas.List.Elements.{All-weaker}
+use Rattle.std.proofs.lemmas.List.Elements.{All-map, All-weaker}
 use Rattle.lattice_core.specs.declared.ray.Ray.{Ray}
 use Rattle.surd_order.specs.declared.position.Seg.{Seg}
 use Rattle.solid_set.specs.Levels.{IsEndFace}
@@ -19,6 +19,7 @@ use Rattle.overlap_list.proofs.Hitting.{hits_are_there}
 use Rattle.overlap_list.proofs.Ordered.{all_from_has}
 use Rattle.overlap_list.proofs.Parts.{partitions_are_won, overlaps_are_in_order}
 use Rattle.shot_core.specs.Regions.{Instance, Region, HaveInstances, IsScene, instances_of, firsts_from}
+use Rattle.shot_core.specs.declared.shot.Lit.{Lit}
 use Rattle.shot_core.specs.Shots.{woven_of, claims_on, lit_by, lit_of, overlaps_on}
 use Rattle.shot_core.specs.Steps.{is_hit, hit_from, no_region, numbered_claims, IsHitOn, renumbered, renumbered_run}
 use Rattle.shot_core.proofs.Picking.{kept, map_twice, partitions_kept}
@@ -126,3 +127,10 @@ pub lit_none : (rs : List Region) (ray : Ray) (woven : List Woven) → woven ≡
 lit_none rs ray woven woven_is leaves none =
     lit_when_none rs ray woven (hit_from ray 0 rs) (map (numbered_claims woven rs) (hit_from ray 0 rs)) woven_is refl refl leaves
     (ap (map (numbered_claims woven rs)) (nothing_hit ray rs (sym woven_is ∙ none)))
+
+-- the regions of what is lit are those of the scene
+pub lit_within : (rs : List Region) (ray : Ray) (numbers : List ℕ) (parts : List Partition) → All (λ n. n < length rs) numbers → All (λ (p : Partition). p.region < length numbers) parts
+    → All (λ (l : Lit). l.region < length rs) (map (λ (p : Partition). lit_by rs ray (renumbered numbers p)) parts)
+lit_within rs ray numbers parts below within =
+    All-map (λ (l : Lit). l.region < length rs) (λ (p : Partition). lit_by rs ray (renumbered numbers p)) parts
+    (All-weaker (λ (p : Partition). p.region < length numbers) (λ (p : Partition). get_or numbers p.region 0 < length rs) (λ (p : Partition) h. below p.region 0 h) parts within)

@@ -129,6 +129,7 @@ pub fn shoot<L: Ledger>(
 ) -> Result<Vec<Lit>, Memory>
     requires { IsWithin WORLD ray.now.origin }
     ensures lit { IfOk result (λ v. v.items ≡ lit_of scene.now ray.now) }
+    ensures regions { IfOk result (λ v. All (λ l. l.region < length scene.now) v.items) }
     ensures steps { HasRisen (met_count scene.now ray.now) steps.old steps.new }
 {
     let mut weave = Weave::new(alloc)?;

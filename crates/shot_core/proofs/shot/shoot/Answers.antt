@@ -1,12 +1,13 @@
-use Rattle.std.proofs.Common.{rules, ◌≡◌, ◌<◌, ◌∙◌, ℕ, List, All, length, map, ap, sym, subst, refl}
+use Rattle.std.proofs.Common.{rules, ◌≡◌, ◌<◌, ◌∙◌, ℕ, List, All, length, map, ap, sym, subst, refl, arith}
 use Rattle.std.proofs.lemmas.Result.{IfOk-weaker}
 use Rattle.bool_weave.specs.Claims.{intervals_of}
 use Rattle.overlap_list.specs.declared.region.RegionClaims.{RegionClaims}
 use Rattle.overlap_list.specs.declared.partition.Partition.{Partition}
 use Rattle.overlap_list.specs.Partitions.{partitions_of}
+use Rattle.shot_core.specs.declared.shot.Lit.{Lit}
 use Rattle.shot_core.specs.Shots.{lit_by, lit_of}
 use Rattle.shot_core.specs.Steps.{numbered_claims, IsHitOn, renumbered}
-use Rattle.shot_core.proofs.Shooting.{empty_from, lit_none, lit_picked, rows, few, parts_within, hits_on, numbers_below}
+use Rattle.shot_core.proofs.Shooting.{empty_from, lit_none, lit_picked, lit_within, rows, few, parts_within, hits_on, numbers_below}
 use Rattle.shot_core.proofs.shot.shoot.Goals as goal
 
 pub returns-then-is_empty-clause-lit : goal.returns-then-is_empty-clause-lit
@@ -69,3 +70,22 @@ returns-clause-lit g c =
     ∙ lit_picked c.args.scene.now c.args.ray.now c.weave_scene.new.weave c.in_ok-numbers.numbers.items c.in_ok-regions.regions.items c.in_ok-numbers.ensures.woven c.in_ok-numbers.ensures.hit regions_are c.in_ok-numbers.ensures.leaves in
     IfOk-weaker c.lit_by_all.result (λ v. v.items ≡ map (λ (p : Partition). lit_by c.args.scene.now c.args.ray.now (renumbered c.deref-3.result.now p)) c.deref-4.result.now) (λ v. v.items ≡ lit_of c.args.scene.now c.args.ray.now)
     (λ v h. h ∙ whole) c.lit_by_all.ensures
+
+pub returns-then-is_empty-clause-regions : goal.returns-then-is_empty-clause-regions
+returns-then-is_empty-clause-regions g c = λ k d lt. absurd (omega (arith, lt, ap length c.new-then-is_empty.ensures.items))
+
+pub returns-clause-regions : goal.returns-clause-regions
+returns-clause-regions g c =
+    let regions_are : c.in_ok-regions.regions.items ≡ map (numbered_claims c.weave_scene.new.weave c.args.scene.now) c.in_ok-numbers.numbers.items =
+    c.in_ok-regions.ensures ∙ ap (map (numbered_claims c.weave_scene.new.weave c.args.scene.now)) c.deref.ensures.value in
+    let parts : c.deref-4.result.now ≡ partitions_of c.weave_scene.new.weave c.in_ok-regions.regions.items =
+    c.deref-4.ensures.value ∙ c.in_ok-partitions.ensures ∙ ap (partitions_of c.weave_scene.new.weave) c.deref-2.ensures.value in
+    let below : All (λ n. n < length c.args.scene.now) c.in_ok-numbers.numbers.items =
+    numbers_below c.args.scene.now c.args.ray.now c.weave_scene.new.weave c.in_ok-numbers.numbers.items c.in_ok-regions.regions.items c.in_ok-numbers.ensures.woven c.in_ok-numbers.ensures.hit regions_are c.in_ok-numbers.ensures.leaves in
+    let within : All (λ (p : Partition). p.region < length c.in_ok-numbers.numbers.items) c.deref-4.result.now =
+    subst (All (λ (p : Partition). p.region < length c.in_ok-numbers.numbers.items)) (sym parts)
+    (parts_within c.args.scene.now c.args.ray.now c.weave_scene.new.weave c.in_ok-numbers.numbers.items c.in_ok-regions.regions.items c.in_ok-numbers.ensures.woven c.in_ok-numbers.ensures.hit regions_are c.in_ok-numbers.ensures.leaves) in
+    IfOk-weaker c.lit_by_all.result (λ v. v.items ≡ map (λ (p : Partition). lit_by c.args.scene.now c.args.ray.now (renumbered c.deref-3.result.now p)) c.deref-4.result.now) (λ v. All (λ (l : Lit). l.region < length c.args.scene.now) v.items)
+    (λ v h. subst (All (λ (l : Lit). l.region < length c.args.scene.now))
+    (sym (h ∙ ap (λ ns. map (λ (p : Partition). lit_by c.args.scene.now c.args.ray.now (renumbered ns p)) c.deref-4.result.now) c.deref-3.ensures.value))
+    (lit_within c.args.scene.now c.args.ray.now c.in_ok-numbers.numbers.items c.deref-4.result.now below within)) c.lit_by_all.ensures

@@ -26,10 +26,10 @@ op_size directory op.U = refl
 op_size directory op.N = refl
 op_size directory op.Minus = refl
 
-one_size : (directory : Entries) (node : CombNode) → nodes_size directory (node ∷ []) ≡ node_size directory node
+pub one_size : (directory : Entries) (node : CombNode) → nodes_size directory (node ∷ []) ≡ node_size directory node
 one_size directory node = omega arith
 
-tree_sized : (directory : Entries) (t : Tree Member) → nodes_size directory (postfix leaf apply t) ≡ sum_by (λ member. size_of_name directory member.name) (leaves t)
+pub tree_sized : (directory : Entries) (t : Tree Member) → nodes_size directory (postfix leaf apply t) ≡ sum_by (λ member. size_of_name directory member.name) (leaves t)
 tree_sized directory (Leaf member) = refl
 tree_sized directory (Join o l r) =
     omega (

@@ -19,18 +19,18 @@ use Rattle.scene_prep.specs.Regions.{NamedRegion, within_comb, placed_region, wh
 use Rattle.scene_prep.specs.Sizes.{size_of_name, names_size, size_within, body_size, object_size}
 use Rattle.scene_prep.proofs.Numbers.{leaves-map, tree_count, within_count}
 
-abbrev total : List NamedRegion → ℕ
+abbrev pub total : List NamedRegion → ℕ
 total regions = sum_by (λ region. length (leaves region.tree)) regions
 
-abbrev tree_size : (Name → ℕ) → Tree Member → ℕ
+abbrev pub tree_size : (Name → ℕ) → Tree Member → ℕ
 tree_size size t = sum_by (λ member. size member.name) (leaves t)
 
-sum_first : {X : Type 0} (f : X → ℕ) (x : X) (xs : List X) → sum_by f (x ∷ xs) ≡ f x + sum_by f xs
+pub sum_first : {X : Type 0} (f : X → ℕ) (x : X) (xs : List X) → sum_by f (x ∷ xs) ≡ f x + sum_by f xs
 sum_first f x xs =
     let one : sum_by f (x ∷ []) ≡ f x = omega arith in
     sum_by-append f (x ∷ []) xs ∙ ap (λ n. n + sum_by f xs) one
 
-total_first : (region : NamedRegion) (regions : List NamedRegion) → total (region ∷ regions) ≡ length (leaves region.tree) + total regions
+pub total_first : (region : NamedRegion) (regions : List NamedRegion) → total (region ∷ regions) ≡ length (leaves region.tree) + total regions
 total_first region regions = sum_first (λ region. length (leaves region.tree)) region regions
 
 total-append : (xs ys : List NamedRegion) → total (xs ++ ys) ≡ total xs + total ys
@@ -51,7 +51,7 @@ total-within name attr (region ∷ regions) =
     ∙ ap (λ n. length (leaves region.tree) + n) (total-within name attr regions)
     ∙ sym (total_first region regions)
 
-of_united : (size : Name → ℕ) (t : Tree Member) → sum_by (tree_size size) (united_parts t) ≡ tree_size size t
+pub of_united : (size : Name → ℕ) (t : Tree Member) → sum_by (tree_size size) (united_parts t) ≡ tree_size size t
 of_united size (Leaf member) = omega arith
 of_united size (Join U l r) = omega (arith, sum_by-append (tree_size size) (united_parts l) (united_parts r), sum_by-append (λ (member : Member). size member.name) (leaves l) (leaves r), of_united size l, of_united size r)
 of_united size (Join N l r) = omega arith
@@ -95,7 +95,7 @@ within_levels : (levels : ℕ) (directory : Entries) (name : Name) → total (re
 within_levels zero directory name = omega arith
 within_levels (suc levels) directory name = of_object levels directory name (object_of directory name) (within_levels levels directory)
 
-within_name : (directory : Entries) (name : Name) → total (regions_of_name directory name) ≤ size_of_name directory name
+pub within_name : (directory : Entries) (name : Name) → total (regions_of_name directory name) ≤ size_of_name directory name
 unfolding regions_of_name size_of_name
 within_name directory name = within_levels most_levels directory name
 

@@ -40,23 +40,23 @@ use Rattle.scene_prep.proofs.Worlds.{same_world}
 pub solids_joined : (o : Op) (l r : Expanded) → solids_of (Join o l r) ≡ solids_of l ++ solids_of r
 solids_joined o l r = filter_map-append (λ leaf. leaf) (leaves l) (leaves r)
 
-worlds_joined : (o : Op) (l r : Expanded) → map in_world (solids_of (Join o l r)) ≡ map in_world (solids_of l) ++ map in_world (solids_of r)
+pub worlds_joined : (o : Op) (l r : Expanded) → map in_world (solids_of (Join o l r)) ≡ map in_world (solids_of l) ++ map in_world (solids_of r)
 worlds_joined o l r = ap (λ (xs : List PlacedSolid). map in_world xs) (solids_joined o l r) ∙ map-append in_world (solids_of l) (solids_of r)
 
-count_joined : (o : Op) (l r : Expanded) → length (solids_of (Join o l r)) ≡ length (solids_of l) + length (solids_of r)
+pub count_joined : (o : Op) (l r : Expanded) → length (solids_of (Join o l r)) ≡ length (solids_of l) + length (solids_of r)
 count_joined o l r = ap length (solids_joined o l r) ∙ length-append (solids_of l) (solids_of r)
 
-count_placed : (by : Placement) (t : Expanded) → length (solids_of (placed_tree by t)) ≡ length (solids_of t)
+pub count_placed : (by : Placement) (t : Expanded) → length (solids_of (placed_tree by t)) ≡ length (solids_of t)
 count_placed by (Leaf None) = refl
 count_placed by (Leaf (Some one)) = refl
 count_placed by (Join o l r) = count_joined o (placed_tree by l) (placed_tree by r) ∙ omega (arith, count_placed by l, count_placed by r, count_joined o l r)
 
-solids_within : (t : Expanded) → length (solids_of t) ≤ length (leaves t)
+pub solids_within : (t : Expanded) → length (solids_of t) ≤ length (leaves t)
 solids_within (Leaf None) = omega arith
 solids_within (Leaf (Some one)) = omega arith
 solids_within (Join o l r) = omega (arith, count_joined o l r, length-append (leaves l) (leaves r), solids_within l, solids_within r)
 
-numbered_placed : (first : ℕ) (by : Placement) (t : Expanded) → numbered first (placed_tree by t) ≡ numbered first t
+pub numbered_placed : (first : ℕ) (by : Placement) (t : Expanded) → numbered first (placed_tree by t) ≡ numbered first t
 numbered_placed first by (Leaf None) = refl
 numbered_placed first by (Leaf (Some one)) = refl
 numbered_placed first by (Join o l r) =
@@ -64,7 +64,7 @@ numbered_placed first by (Join o l r) =
     ∙ ap (λ (x : Mask). Join o (numbered first l) x) (numbered_placed (first + length (solids_of (placed_tree by l))) by r)
     ∙ ap (λ (n : ℕ). Join o (numbered first l) (numbered (first + n) r)) (count_placed by l)
 
-worlds_composed : (both upper lower : Placement) → IsComposed both upper lower → (t : Expanded)
+pub worlds_composed : (both upper lower : Placement) → IsComposed both upper lower → (t : Expanded)
     → map in_world (solids_of (placed_tree both t)) ≡ map in_world (solids_of (placed_tree upper (placed_tree lower t)))
 worlds_composed both upper lower composed (Leaf None) = refl
 worlds_composed both upper lower composed (Leaf (Some one)) =

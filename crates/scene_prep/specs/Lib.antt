@@ -1,11 +1,14 @@
 pub mod Solids
 pub mod Expanding
 pub mod Regions
+pub mod Parts
 pub mod Scenes
 pub mod Sizes
 pub mod Steps
 pub mod Levels
 pub mod Writing
+pub mod Walking
 pub mod Outcomes
 pub mod Laws
+pub mod UnionLess
 pub mod Examples

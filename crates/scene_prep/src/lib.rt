@@ -1,14 +1,25 @@
 //! Scenes: what a list of names in a directory comes to as regions that rays can be shot at.
 #![tactic(auto)]
 
+mod body;
 mod colour;
+mod context;
 mod expand;
 mod expansion;
 mod fault;
 mod laws;
+mod part;
 mod path;
+mod preparing;
 mod size;
+mod walk;
 
 pub use fault::PrepFault;
 pub use laws::region_laws;
+pub use preparing::prepare;
 pub use size::MOST_SIZE;
+
+#[cfg(test)]
+mod samples;
+#[cfg(test)]
+mod tests;

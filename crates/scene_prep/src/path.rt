@@ -1,16 +1,15 @@
 ghost use Rattle.std.specs.Prelude.{◌≡◌, [], IfOk};
 ghost use Rattle.std.specs.Arc.{arc_value};
+ghost use Rattle.shot_core.specs.Regions.{IsPathText};
 ghost use Rattle.scene_prep.specs.Steps.{path_to, path_to_node};
 
 use fixed_text::FixedText;
 use item_list::Items;
 use memory_core::Memory;
 use name_core::Name;
+use shot_core::PathText;
 use std::alloc::Global;
 use std::sync::Arc;
-
-/// The path of names that leads to a region.
-pub type PathText = Items<u8>;
 
 /// The path under which a list of names begins.
 pub(crate) fn no_path(alloc: Global) -> Result<Arc<PathText>, Memory>
@@ -21,7 +20,9 @@ pub(crate) fn no_path(alloc: Global) -> Result<Arc<PathText>, Memory>
 
 /// The path that leads one name further.
 pub(crate) fn path_to(alloc: Global, above: &PathText, name: &Name) -> Result<Arc<PathText>, Memory>
-    ensures { IfOk result (λ p. arc_value p ≡ path_to above.now name.now) }
+    requires { IsPathText above.now }
+    ensures path { IfOk result (λ p. arc_value p ≡ path_to above.now name.now) }
+    ensures line { IfOk result (λ p. IsPathText (arc_value p)) }
 {
     let mut bytes = Vec::from_slice(alloc, above.items())?;
     bytes.push(b'/')?;
@@ -35,7 +36,9 @@ pub(crate) fn path_of_node(
     comb: &PathText,
     number: u32,
 ) -> Result<Arc<PathText>, Memory>
-    ensures { IfOk result (λ p. arc_value p ≡ path_to_node comb.now number) }
+    requires { IsPathText comb.now }
+    ensures path { IfOk result (λ p. arc_value p ≡ path_to_node comb.now number) }
+    ensures line { IfOk result (λ p. IsPathText (arc_value p)) }
 {
     let mut text: FixedText<16> = FixedText::new();
     text.push(b"#");

@@ -1,0 +1,45 @@
+-- The combinations of the tests.
+use Rattle.std.proofs.Common.{◌≡◌, ◌∙◌, ◌≤◌, ◌<◌, suc, List, [], ◌∷◌, All, length, map, refl, ap, sym, subst, arith}
+use Rattle.std.specs.Prelude.{Some}
+use Rattle.std.proofs.lemmas.Int.{ints}
+use Rattle.std.proofs.lemmas.List.{length-map}
+use Rattle.std.proofs.lemmas.List.Elements.{All-cons, All-nil}
+use Rattle.tree_forms.specs.Trees.{Tree, Leaf, Join, leaves}
+use Rattle.lattice_core.specs.declared.limit.TheConstants.{COORD}
+use Rattle.lattice_core.specs.Limits.{IsWithin}
+use Rattle.lattice_core.specs.Vectors.{zero_vector}
+use Rattle.region_attr.specs.declared.attr.Attr.{Attr}
+use Rattle.region_attr.specs.Ranges.{HasRanges}
+use Rattle.comb_tree.specs.declared.node.CombNode.{CombNode}
+use Rattle.comb_tree.specs.declared.node.ListEntry.{ListEntry}
+use Rattle.comb_tree.specs.Nodes.{Comb, Member, members, comb_nodes, comb_of}
+use Rattle.comb_tree.specs.Lists.{member, tree_of_list}
+use Rattle.comb_tree.proofs.Reading.{comb_back}
+use Rattle.comb_tree.proofs.Written.{members_of_list}
+use Rattle.object_set.specs.Objects.{IsComb}
+use Rattle.scene_prep.specs.UnionLess.{union_less, IsUnionLess}
+
+all_near : (l : List ListEntry) → All (λ (e : ListEntry). IsWithin COORD e.placement.shift) l → All (λ (m : Member). IsWithin COORD m.placement.shift) (map member l)
+all_near [] h = All-nil (λ (m : Member). IsWithin COORD m.placement.shift)
+all_near (e ∷ es) h = All-cons (λ (m : Member). IsWithin COORD m.placement.shift) (member e) (map member es) (h 0 e (omega arith)) (all_near es (λ k d lt. h (suc k) d (omega (arith, lt))))
+
+pub list_made : (attr : Attr) (l : List ListEntry) (t : Comb) → t ≡ tree_of_list l → length l ≤ 4096 → HasRanges attr → All (λ (e : ListEntry). IsWithin COORD e.placement.shift) l → IsComb attr t
+list_made attr l t is few ranges near =
+    let are : members t ≡ map member l = ap members is ∙ members_of_list l in record {
+      ranges = ranges;
+      few = omega (arith, ap length are, length-map l member, few);
+      near = subst (λ (ms : List Member). All (λ (m : Member). IsWithin COORD m.placement.shift) ms) (sym are) (all_near l near);
+    }
+
+pub zero_within : IsWithin COORD zero_vector
+zero_within = record { x = (omega (arith, ints), omega (arith, ints)); y = (omega (arith, ints), omega (arith, ints)); z = (omega (arith, ints), omega (arith, ints)) }
+
+pub union_made : (attr : Attr) (nodes : List CombNode) (t : Comb) → IsUnionLess nodes → comb_nodes t ≡ nodes → HasRanges attr → IsComb attr t
+union_made attr nodes t h is ranges =
+    let same : t ≡ Some (union_less h.one h.two h.less) = sym (comb_back t) ∙ ap comb_of (is ∙ sym h.nodes_are) ∙ comb_back (Some (union_less h.one h.two h.less)) in
+    let near : All (λ (m : Member). IsWithin COORD m.placement.shift) (h.one ∷ h.two ∷ h.less ∷ []) =
+    All-cons (λ (m : Member). IsWithin COORD m.placement.shift) h.one (h.two ∷ h.less ∷ []) h.one_near
+    (All-cons (λ (m : Member). IsWithin COORD m.placement.shift) h.two (h.less ∷ []) h.two_near
+    (All-cons (λ (m : Member). IsWithin COORD m.placement.shift) h.less [] h.less_near (All-nil (λ (m : Member). IsWithin COORD m.placement.shift)))) in
+    let made : IsComb attr (Some (union_less h.one h.two h.less)) = record { ranges = ranges; few = omega arith; near = near } in
+    subst (λ (x : Comb). IsComb attr x) (sym same) made

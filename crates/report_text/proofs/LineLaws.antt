@@ -1,5 +1,5 @@
--- The lines of names stand on one line each, and how long their text is.
-use Rattle.std.proofs.Common.{◌≡◌, ◌≤◌, ◌<◌, ◌+◌, ◌++◌, ◌∙◌, ℕ, suc, ap, take, drop, Some, None, Err, zero, Bool, true, false, cond, List, [], ◌∷◌, All, length, codes, refl, sym, subst, arith, true≢false, length-append}
+-- Names with their marks stand on one line, and how long the text of a list of lines is.
+use Rattle.std.proofs.Common.{◌≡◌, ◌≤◌, ◌<◌, ◌+◌, ◌++◌, ◌∙◌, ℕ, suc, ap, take, drop, Some, None, Err, zero, Bool, true, false, cond, List, [], ◌∷◌, All, length, codes, map, refl, sym, subst, arith, true≢false, length-append}
 use Rattle.std.proofs.lemmas.List.{take-append-drop, map-append}
 use Rattle.std.proofs.lemmas.List.Elements.{All-head, All-tail}
 use Rattle.std.specs.List.{slice_get}
@@ -9,13 +9,9 @@ use Rattle.object_set.specs.declared.object.Body.TheVariants.{Solid, Comb}
 use Rattle.transcript.specs.Lines.{Lacks, text_of, ended}
 use Rattle.transcript.proofs.LineLaws.{lacks_append}
 use Rattle.transcript.proofs.TranscriptLaws.{computed}
-use Rattle.name_core.specs.declared.name.Name.{Name}
-use Rattle.object_set.specs.Objects.{Parts}
-use Rattle.directory.specs.Walks.{Entries}
-use Rattle.directory.proofs.EditLemmas.{take_one_more}
 use Rattle.report_text.specs.declared.fault.TextFault.{TextFault}
 use Rattle.report_text.specs.declared.fault.TextFault.TheVariants.{Room, Memory}
-use Rattle.report_text.specs.Names.{mark_of, name_line, names_lines}
+use Rattle.report_text.specs.Names.{mark_of}
 use Rattle.report_text.specs.Texts.{IsText}
 
 rest_lacks : (bytes : List ℕ) → All (λ b. is_next_byte b ≡ true) bytes → Lacks 10 bytes
@@ -48,43 +44,51 @@ pub text_first : (one two : List (List ℕ)) → length (text_of one) ≤ length
 text_first [] two = omega arith
 text_first (l ∷ ls) two = omega (arith, text_first ls two, length-append (ended l) (text_of (ls ++ two)), length-append (ended l) (text_of ls))
 
--- the lines of one name more
-pub lines_next : (es : Entries) (place : ℕ) (name : Name) (object : Parts) → slice_get es place ≡ Some (name, object)
-    → names_lines (take (suc place) es) ≡ names_lines (take place es) ++ name_line name object ∷ []
-lines_next es place name object h =
-    ap names_lines (take_one_more es place (name, object) h) ∙ map-append (λ (e : Name × Parts). name_line e.0 e.1) (take place es) ((name, object) ∷ [])
+-- each line takes a byte at least
+pub few_lines : (lines : List (List ℕ)) → length lines ≤ length (text_of lines)
+few_lines [] = omega arith
+few_lines (l ∷ ls) = omega (arith, few_lines ls, length-append (ended l) (text_of ls), length-append l (10 ∷ []))
 
--- the first lines take no more room than all
-pub lines_first : (es : Entries) (place : ℕ) → length (text_of (names_lines (take place es))) ≤ length (text_of (names_lines es))
-lines_first es place =
-    let parts : names_lines es ≡ names_lines (take place es) ++ names_lines (drop place es) =
-    ap names_lines (sym (take-append-drop place es)) ∙ map-append (λ (e : Name × Parts). name_line e.0 e.1) (take place es) (drop place es) in
-    omega (arith, text_first (names_lines (take place es)) (names_lines (drop place es)), ap (λ (ls : List (List ℕ)). length (text_of ls)) parts)
+take_next : {X : Type 0} (xs : List X) (i : ℕ) (x : X) → slice_get xs i ≡ Some x → take (suc i) xs ≡ take i xs ++ x ∷ []
+take_next [] i x h = cc
+take_next {X} (y ∷ ys) zero x h = let same : y ≡ x = cc in ap (λ (z : X). z ∷ []) same
+take_next {X} (y ∷ ys) (suc i) x h = ap (λ (zs : List X). y ∷ zs) (take_next ys i x h)
 
--- not all lines have room where those up to one more have none
-pub too_long : (es : Entries) (place : ℕ) (name : Name) (object : Parts) (body : List (List ℕ)) (left room : ℕ)
-    → slice_get es place ≡ Some (name, object) → body ≡ names_lines (take place es) → left + length (text_of body) ≡ room → left < length (name_line name object) + 1
-    → room < length (text_of (names_lines es))
-too_long es place name object body left room h same used short =
-    let next : names_lines (take (suc place) es) ≡ body ++ name_line name object ∷ [] =
-    lines_next es place name object h ∙ ap (λ (ls : List (List ℕ)). ls ++ name_line name object ∷ []) (sym same) in
-    omega (arith, lines_first es (suc place), ap (λ (ls : List (List ℕ)). length (text_of ls)) next, text_more body (name_line name object), used, short)
+-- a line for each value of a list, by a function
+module _ {X : Type 0} (line_for : X → List ℕ) where
+  -- the lines of one value more
+  lines_next : (xs : List X) (place : ℕ) (x : X) → slice_get xs place ≡ Some x → map line_for (take (suc place) xs) ≡ map line_for (take place xs) ++ line_for x ∷ []
+  lines_next xs place x h = ap (map line_for) (take_next xs place x h) ∙ map-append line_for (take place xs) (x ∷ [])
+
+  -- the first lines take no more room than all
+  lines_first : (xs : List X) (place : ℕ) → length (text_of (map line_for (take place xs))) ≤ length (text_of (map line_for xs))
+  lines_first xs place =
+      let parts : map line_for xs ≡ map line_for (take place xs) ++ map line_for (drop place xs) =
+      ap (map line_for) (sym (take-append-drop place xs)) ∙ map-append line_for (take place xs) (drop place xs) in
+      omega (arith, text_first (map line_for (take place xs)) (map line_for (drop place xs)), ap (λ (ls : List (List ℕ)). length (text_of ls)) parts)
+
+  -- not all lines have room where those up to one more have none
+  pub too_long : (xs : List X) (place : ℕ) (x : X) (body : List (List ℕ)) (left room : ℕ) → slice_get xs place ≡ Some x → body ≡ map line_for (take place xs)
+      → left + length (text_of body) ≡ room → left < length (line_for x) + 1 → room < length (text_of (map line_for xs))
+  too_long xs place x body left room h same used short =
+      let next : map line_for (take (suc place) xs) ≡ body ++ line_for x ∷ [] = lines_next xs place x h ∙ ap (λ (ls : List (List ℕ)). ls ++ line_for x ∷ []) (sym same) in
+      omega (arith, lines_first xs (suc place), ap (λ (ls : List (List ℕ)). length (text_of ls)) next, text_more body (line_for x), used, short)
+
+  -- one line more, and the room that is left
+  pub one_more : (xs : List X) (place : ℕ) (x : X) (body new : List (List ℕ)) (left rest room : ℕ) → slice_get xs place ≡ Some x → body ≡ map line_for (take place xs)
+      → left + length (text_of body) ≡ room → new ≡ body ++ line_for x ∷ [] → rest + (length (line_for x) + 1) ≡ left
+      → (new ≡ map line_for (take (place + 1) xs)) × (rest + length (text_of new) ≡ room)
+  one_more xs place x body new left rest room h same used is taken =
+      let next : suc place ≡ place + 1 = omega arith in (
+        is ∙ ap (λ (ls : List (List ℕ)). ls ++ line_for x ∷ []) same ∙ sym (lines_next xs place x h) ∙ ap (λ n. map line_for (take n xs)) next,
+        omega (arith, ap (λ (ls : List (List ℕ)). length (text_of ls)) is, text_more body (line_for x), used, taken),
+      )
 
 -- within a list there is something at each place
 pub there_is : {X : Type 0} (xs : List X) (i : ℕ) → i < length xs → slice_get xs i ≡ None → ⊥
 there_is [] i lt e = absurd (omega (arith, lt))
 there_is (x ∷ xs) zero lt e = cc
 there_is (x ∷ xs) (suc i) lt e = there_is xs i (omega (arith, lt)) e
-
--- one line more, and the room that is left
-pub one_more : (es : Entries) (place : ℕ) (name : Name) (object : Parts) (body new : List (List ℕ)) (left rest room : ℕ) → slice_get es place ≡ Some (name, object)
-    → body ≡ names_lines (take place es) → left + length (text_of body) ≡ room → new ≡ body ++ name_line name object ∷ [] → rest + (length (name_line name object) + 1) ≡ left
-    → (new ≡ names_lines (take (place + 1) es)) × (rest + length (text_of new) ≡ room)
-one_more es place name object body new left rest room h same used is taken =
-    let next : suc place ≡ place + 1 = omega arith in (
-      is ∙ ap (λ (ls : List (List ℕ)). ls ++ name_line name object ∷ []) same ∙ sym (lines_next es place name object h) ∙ ap (λ n. names_lines (take n es)) next,
-      omega (arith, ap (λ (ls : List (List ℕ)). length (text_of ls)) is, text_more body (name_line name object), used, taken),
-    )
 
 -- a fault is answered for want of room only where the text has more
 pub refused : (fault : TextFault) (lines : List (List ℕ)) (room : ℕ) → (fault ≡ Room → room < length (text_of lines)) → IsText (Err fault) lines room

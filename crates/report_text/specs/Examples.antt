@@ -1,9 +1,16 @@
--- The lines of small directories, proved by computation.
-use Rattle.std.specs.Prelude.{◌≡◌, refl, [], ◌∷◌, None, codes}
+-- The lines of small directories and of single shots, proved by computation.
+use Rattle.std.specs.Prelude.{◌≡◌, refl, ℕ, pos, negsuc, List, [], ◌∷◌, None, true, false, codes}
+use Rattle.std.specs.Fmt.{digits}
+use Rattle.surd_order.specs.declared.position.Pos.{Pos}
+use Rattle.surd_order.specs.declared.position.Pos.TheVariants.{Frac, Surd}
 use Rattle.solid_set.specs.declared.solid.Solid.{Solid as AnySolid}
 use Rattle.region_attr.specs.Attrs.{region_attr, group_attr}
 use Rattle.object_set.specs.declared.object.Body.TheVariants.{Solid, Comb}
+use Rattle.overlap_list.specs.declared.hit.Hit.{Hit}
+use Rattle.shot_core.specs.Regions.{RegionBody, Region}
+use Rattle.shot_core.specs.declared.shot.Lit.{Lit}
 use Rattle.report_text.specs.Names.{names_lines}
+use Rattle.report_text.specs.Shots.{shot_lines}
 
 no_lines : names_lines [] ≡ []
 no_lines = refl
@@ -13,3 +20,30 @@ three_lines : (s : AnySolid)
     → names_lines ((codes "s1", record { body = Solid s; kept = [] }) ∷ (codes "a.r", record { body = Comb region_attr None; kept = [] }) ∷ (codes "b", record { body = Comb group_attr None; kept = [] }) ∷ [])
     ≡ codes "s1" ∷ codes "a.r/R" ∷ codes "b/" ∷ []
 three_lines s = refl
+
+-- a region and a part of a ray, by what their line tells
+abbrev region_at : RegionBody → ℕ → List ℕ → Region
+region_at body place path = record { place = place; path = path; body = body }
+
+abbrev part_of : Hit → ℕ → Pos → Pos → Lit
+part_of hit region start end = record { region = region; start = start; end = end; hit = hit; level = 255 }
+
+-- whatever the regions' bodies are, and whatever is hit
+module _ (body : RegionBody) (hit : Hit) where
+  nothing_met : shot_lines (region_at body 1 (codes "/s") ∷ []) [] ≡ []
+  nothing_met = refl
+
+  fractions : shot_lines (region_at body 1 (codes "/s") ∷ []) (part_of hit 0 (Frac (negsuc 0) (pos 3)) (Frac (pos 7) (pos 2)) ∷ []) ≡ codes "1 /s -1/3 7/2" ∷ []
+  unfolding digits
+  fractions = refl
+
+  roots : shot_lines (region_at body 12 (codes "/all/c.r") ∷ []) (part_of hit 0 (Surd (pos 10) false 23) (Surd (pos 0) true 2) ∷ []) ≡ codes "12 /all/c.r 10-sqrt(23) 0+sqrt(2)" ∷ []
+  unfolding digits
+  roots = refl
+
+  -- the lines come in the order of the ray, with the places of the regions in the scene
+  two_lines : shot_lines (region_at body 2 (codes "/a") ∷ region_at body 5 (codes "/b#1") ∷ [])
+      (part_of hit 1 (Frac (pos 0) (pos 1)) (Frac (pos 5) (pos 1)) ∷ part_of hit 0 (Frac (pos 5) (pos 1)) (Surd (pos 10) true 23) ∷ [])
+      ≡ codes "5 /b#1 0 5" ∷ codes "2 /a 5 10+sqrt(23)" ∷ []
+  unfolding digits
+  two_lines = refl

@@ -1,3 +1,4 @@
 pub mod Names
+pub mod Shots
 pub mod Texts
 pub mod Examples

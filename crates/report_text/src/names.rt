@@ -4,6 +4,7 @@ ghost use Rattle.report_text.specs.Names.{mark_of, name_line, names_lines};
 ghost use Rattle.report_text.specs.Texts.{IsText};
 
 use crate::fault::TextFault;
+use crate::lines::push_line;
 use directory::Directory;
 use fixed_text::FixedText;
 use name_core::Name;
@@ -32,21 +33,6 @@ fn write_line(name: &Name, object: &Object, out: &mut NameLine)
     out.clear();
     out.push(name.bytes());
     out.push(mark(object));
-}
-
-/// Puts a line at the end of a body, where there is room for it.
-fn push_line(body: &mut Body, line: &[u8], room: u64) -> Result<u64, TextFault>
-    requires one_line { Lacks 10 line.now }
-    requires few { length body.old + 1 < 2 ^ 32 }
-    ensures ok { IfOk result (λ left. (body.new ≡ body.old ++ line.now ∷ []) × (left + (length line.now + 1) ≡ room)) }
-    ensures room { result ≡ Err TextFault.Room → room < length line.now + 1 }
-{
-    let size = line.len() as u64 + 1;
-    if room < size {
-        return Err(TextFault::Room);
-    }
-    body.push_line(line)?;
-    Ok(room - size)
 }
 
 /// One line for each object, in order: its name with its mark, which is nothing for a solid, `/R` for a region and `/` for

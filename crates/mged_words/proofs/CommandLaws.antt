@@ -79,10 +79,14 @@ g_names [] d n = absurd (omega (arith, n))
 g_names (a ∷ []) d n = absurd (omega (arith, n))
 g_names (a ∷ b ∷ rest) d n = refl
 
+-- the slice from a place to the end
+pub rest_from : (n : ℕ) (atoms : List (Bor (List ℕ))) → take (length atoms - n) (drop n atoms) ≡ drop n atoms
+rest_from n atoms =
+    let len : length atoms - n ≡ length (drop n atoms) = omega (arith, length-drop {A = Bor (List ℕ)} n atoms) in
+    ap (λ k. take k (drop n atoms)) len ∙ take-length (drop n atoms)
+
 rest_whole : (atoms : List (Bor (List ℕ))) → take (length atoms - 1) (drop 1 atoms) ≡ drop 1 atoms
-rest_whole atoms =
-    let len : length atoms - 1 ≡ length (drop 1 atoms) = omega (arith, length-drop {A = Bor (List ℕ)} 1 atoms) in
-    ap (λ k. take k (drop 1 atoms)) len ∙ take-length (drop 1 atoms)
+rest_whole atoms = rest_from 1 atoms
 
 pub not_empty : (n : ℕ) (b : Bool) → b ≡ (n == 0) → b ≡ false → 0 < n
 not_empty zero b e h = absurd cc

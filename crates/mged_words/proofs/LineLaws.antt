@@ -1,5 +1,5 @@
 -- The words of a line, and numbers among them.
-use Rattle.std.proofs.Common.{All, subst, ◌≡◌, ◌<◌, ◌+◌, ◌++◌, ◌∷◌, [], ◌∙◌, ℕ, ℤ, List, set, take, length, get_or, drop, map, Option, Some, None, arith, ap, sym, refl}
+use Rattle.std.proofs.Common.{All, subst, ◌≡◌, ◌<◌, ◌≤◌, ◌+◌, ◌++◌, ◌∷◌, [], ◌∙◌, ℕ, ℤ, List, set, take, length, get_or, drop, map, Option, Some, None, arith, ap, sym, refl}
 use Rattle.std.specs.Borrow.{Bor}
 use Rattle.std.proofs.lemmas.Grind.{common_steps}
 use Rattle.std.proofs.lemmas.List.Elements.{All-cons, All-append}
@@ -44,25 +44,24 @@ in_short [] lt = refl
 in_short (a ∷ []) lt = refl
 in_short (a ∷ b ∷ rest) lt = absurd (omega (arith, lt))
 
--- another number of words behind `nirt` than five
-pub nirt_other : (atoms : List (Bor (List ℕ))) → (length atoms ≡ 5 → ⊥) → Bad Syntax ≡ nirt_command (map (λ (a : Bor (List ℕ)). a.now) atoms)
-nirt_other [] n = refl
-nirt_other (a ∷ []) n = refl
-nirt_other (a ∷ b ∷ []) n = refl
-nirt_other (a ∷ b ∷ c ∷ []) n = refl
-nirt_other (a ∷ b ∷ c ∷ d ∷ []) n = refl
-nirt_other (a ∷ b ∷ c ∷ d ∷ e ∷ []) n = absurd (n refl)
-nirt_other (a ∷ b ∷ c ∷ d ∷ e ∷ f ∷ rest) n = refl
+-- fewer words behind `nirt` than five
+pub nirt_short : (atoms : List (Bor (List ℕ))) → length atoms < 5 → Bad Syntax ≡ nirt_command (map (λ (a : Bor (List ℕ)). a.now) atoms)
+nirt_short [] lt = refl
+nirt_short (a ∷ []) lt = refl
+nirt_short (a ∷ b ∷ []) lt = refl
+nirt_short (a ∷ b ∷ c ∷ []) lt = refl
+nirt_short (a ∷ b ∷ c ∷ d ∷ []) lt = refl
+nirt_short (a ∷ b ∷ c ∷ d ∷ e ∷ rest) lt = absurd (omega (arith, lt))
 
-pub nirt_five : (atoms : List (Bor (List ℕ))) (d : Bor (List ℕ)) → length atoms ≡ 5
-    → nirt_command (map (λ (a : Bor (List ℕ)). a.now) atoms) ≡ shot_command (map view_number (map (λ (a : Bor (List ℕ)). a.now) (take 3 atoms))) (direction_of (get_or atoms 3 d).now) (get_or atoms 4 d).now
-nirt_five (a ∷ b ∷ c ∷ e ∷ f ∷ []) d n = refl
-nirt_five [] d n = absurd (omega (arith, n))
-nirt_five (a ∷ []) d n = absurd (omega (arith, n))
-nirt_five (a ∷ b ∷ []) d n = absurd (omega (arith, n))
-nirt_five (a ∷ b ∷ c ∷ []) d n = absurd (omega (arith, n))
-nirt_five (a ∷ b ∷ c ∷ e ∷ []) d n = absurd (omega (arith, n))
-nirt_five (a ∷ b ∷ c ∷ e ∷ f ∷ g ∷ rest) d n = absurd (omega (arith, n))
+-- at least five
+pub nirt_long : (atoms : List (Bor (List ℕ))) (d : Bor (List ℕ)) → 5 ≤ length atoms
+    → nirt_command (map (λ (a : Bor (List ℕ)). a.now) atoms) ≡ shot_command (map view_number (map (λ (a : Bor (List ℕ)). a.now) (take 3 atoms))) (direction_of (get_or atoms 3 d).now) (map (λ (a : Bor (List ℕ)). a.now) (drop 4 atoms))
+nirt_long (a ∷ b ∷ c ∷ e ∷ f ∷ rest) d le = refl
+nirt_long [] d le = absurd (omega (arith, le))
+nirt_long (a ∷ []) d le = absurd (omega (arith, le))
+nirt_long (a ∷ b ∷ []) d le = absurd (omega (arith, le))
+nirt_long (a ∷ b ∷ c ∷ []) d le = absurd (omega (arith, le))
+nirt_long (a ∷ b ∷ c ∷ e ∷ []) d le = absurd (omega (arith, le))
 
 all_one : {X : Type 0} (P : X → Type 0) (x : X) → P x → All P (x ∷ [])
 all_one P x h = All-cons P x [] h (λ i d lt. absurd (omega (arith, lt)))

@@ -158,13 +158,6 @@ world_read origin h =
     let xy = and_parts (is_in_world origin.x) (is_in_world origin.y) z.0 in
     record { x = in_range origin.x xy.0; y = in_range origin.y xy.1; z = in_range origin.z z.1 }
 
-shot_plain : (numbers : List (Option ℤ)) (dir : Option Dir) (name : List ℕ) → IsPlain (shot_command numbers dir name)
-shot_plain numbers None name = plain_syntax
-shot_plain numbers (Some dir) name =
-    unless_plain (name_fault 6 name ∷ number_fault 2 numbers ∷ world_fault (vector_at numbers 0) ∷ []) (Query (Shot (ray_of (vector_at numbers 0) dir) (name ∷ [])))
-    (may_if (is_ok (read_name name)) (Name 6) (plain_name 6), (may_number 2 numbers, (may_if (is_from_world (vector_at numbers 0)) (View World) plain_world, tt)))
-    (λ all. record { one_line = (name_read 6 name all.0, tt); in_world = world_read (vector_at numbers 0) all.1.1.0 })
-
 either_plain : (t : Bool) (x y : Command) → IsPlain x → IsPlain y → IsPlain (cond t x y)
 either_plain true x y h k = h
 either_plain false x y h k = k
@@ -179,15 +172,6 @@ in_plain [] = plain_syntax
 in_plain (a ∷ []) = plain_syntax
 in_plain (name ∷ kind ∷ atoms) = kind_plain name (kind_of kind) atoms
 
-nirt_plain : (atoms : List (List ℕ)) → IsPlain (nirt_command atoms)
-nirt_plain [] = plain_syntax
-nirt_plain (a ∷ []) = plain_syntax
-nirt_plain (a ∷ b ∷ []) = plain_syntax
-nirt_plain (a ∷ b ∷ c ∷ []) = plain_syntax
-nirt_plain (a ∷ b ∷ c ∷ d ∷ []) = plain_syntax
-nirt_plain (x ∷ y ∷ z ∷ dir ∷ name ∷ []) = shot_plain (map view_number (x ∷ y ∷ z ∷ [])) (direction_of dir) name
-nirt_plain (a ∷ b ∷ c ∷ d ∷ e ∷ f ∷ rest) = plain_syntax
-
 -- names that were read
 both_fine : (t : Bool) (x : Option Refusal) (refusal : Refusal) → cond t x (Some refusal) ≡ None → (t ≡ true) × (x ≡ None)
 both_fine true x refusal h = (refl, h)
@@ -198,6 +182,21 @@ names_plain word step [] h = tt
 names_plain word step (atom ∷ rest) h =
     let fine = both_fine (is_ok (read_name atom)) (names_fault (word + step) step rest) (Name word) h in
     (name_lacks atom ((accepted atom).0 fine.0), names_plain (word + step) step rest fine.1)
+
+shot_plain : (numbers : List (Option ℤ)) (dir : Option Dir) (names : List (List ℕ)) → IsPlain (shot_command numbers dir names)
+shot_plain numbers None names = plain_syntax
+shot_plain numbers (Some dir) names =
+    unless_plain (names_fault 6 1 names ∷ number_fault 2 numbers ∷ world_fault (vector_at numbers 0) ∷ []) (Query (Shot (ray_of (vector_at numbers 0) dir) names))
+    (may_names 6 1 names, (may_number 2 numbers, (may_if (is_from_world (vector_at numbers 0)) (View World) plain_world, tt)))
+    (λ all. record { one_line = names_plain 6 1 names all.0; in_world = world_read (vector_at numbers 0) all.1.1.0 })
+
+nirt_plain : (atoms : List (List ℕ)) → IsPlain (nirt_command atoms)
+nirt_plain [] = plain_syntax
+nirt_plain (a ∷ []) = plain_syntax
+nirt_plain (a ∷ b ∷ []) = plain_syntax
+nirt_plain (a ∷ b ∷ c ∷ []) = plain_syntax
+nirt_plain (a ∷ b ∷ c ∷ d ∷ []) = plain_syntax
+nirt_plain (x ∷ y ∷ z ∷ dir ∷ name ∷ rest) = shot_plain (map view_number (x ∷ y ∷ z ∷ [])) (direction_of dir) (name ∷ rest)
 
 members_plain : (members : List (List ℕ)) → ArePlain members → ArePlain (names_of (map (entry_of U) members))
 members_plain [] h = tt

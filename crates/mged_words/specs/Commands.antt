@@ -130,17 +130,17 @@ world_fault origin = if is_from_world origin then None else Some (View World)
 abbrev pub ray_of : V3 → Dir → Ray
 ray_of origin dir = record { origin = origin; dir = dir }
 
-abbrev pub shot_from : V3 → Dir → List ℕ → Command
-shot_from origin dir name = unless_refused (world_fault origin ∷ []) (Query (Shot (ray_of origin dir) (name ∷ [])))
+abbrev pub shot_from : V3 → Dir → List (List ℕ) → Command
+shot_from origin dir names = unless_refused (world_fault origin ∷ []) (Query (Shot (ray_of origin dir) names))
 
--- `nirt X Y Z DIR NAME`
-abbrev pub shot_command : List (Option ℤ) → Option Dir → List ℕ → Command
-shot_command numbers None name = Bad Syntax
-shot_command numbers (Some dir) name =
-    unless_refused (name_fault 6 name ∷ number_fault 2 numbers ∷ world_fault (vector_at numbers 0) ∷ []) (Query (Shot (ray_of (vector_at numbers 0) dir) (name ∷ [])))
+-- `nirt X Y Z DIR NAME ..`
+abbrev pub shot_command : List (Option ℤ) → Option Dir → List (List ℕ) → Command
+shot_command numbers None names = Bad Syntax
+shot_command numbers (Some dir) names =
+    unless_refused (names_fault 6 1 names ∷ number_fault 2 numbers ∷ world_fault (vector_at numbers 0) ∷ []) (Query (Shot (ray_of (vector_at numbers 0) dir) names))
 
 abbrev pub nirt_command : List (List ℕ) → Command
-nirt_command (x ∷ y ∷ z ∷ dir ∷ name ∷ []) = shot_command (map view_number (x ∷ y ∷ z ∷ [])) (direction_of dir) name
+nirt_command (x ∷ y ∷ z ∷ dir ∷ name ∷ rest) = shot_command (map view_number (x ∷ y ∷ z ∷ [])) (direction_of dir) (name ∷ rest)
 nirt_command _ = Bad Syntax
 
 abbrev pub operator_of : List ℕ → Option Op

@@ -54,6 +54,13 @@ a_sphere = refl
 pub a_shot : command_of (codes "nirt 1 2 3 -x s") ≡ Query (Shot (ray_of (vector (pos 1) (pos 2) (pos 3)) MinusX) (codes "s" ∷ []))
 a_shot = refl
 
+-- a shot at several names, in the order of the line; one may be given twice
+pub a_shot_at_three : command_of (codes "nirt 1 2 3 -x s {t} s") ≡ Query (Shot (ray_of (vector (pos 1) (pos 2) (pos 3)) MinusX) (codes "s" ∷ codes "t" ∷ codes "s" ∷ []))
+a_shot_at_three = refl
+
+pub a_shot_at_nothing : command_of (codes "nirt 1 2 3 -x") ≡ Bad Syntax
+a_shot_at_nothing = refl
+
 -- a region
 pub a_region : command_of (codes "r a.r u s1 u s2 - s3") ≡ Edit (Region (codes "a.r") (entry_of U (codes "s1") ∷ entry_of U (codes "s2") ∷ entry_of Minus (codes "s3") ∷ []))
 a_region = refl
@@ -241,9 +248,18 @@ placed_in = refl
 pub placed_member : command_of (codes "place c m/ x 0 0 0 0 1 0 0 0 0 1 0 0 0 0 1") ≡ Bad (Name 3)
 placed_member = refl
 
--- the name of a shot stands behind its numbers, and is looked at first
+-- the names of a shot stand behind its numbers, and are looked at first
 pub shot_at : command_of (codes "nirt x 0 0 +x s/") ≡ Bad (Name 6)
 shot_at = refl
+
+pub second_shot_at : command_of (codes "nirt x 0 0 +x s t/") ≡ Bad (Name 7)
+second_shot_at = refl
+
+pub first_of_two_bad_names : command_of (codes "nirt 0 0 0 +x s t/ u v/") ≡ Bad (Name 7)
+first_of_two_bad_names = refl
+
+pub number_of_a_shot_at_two : command_of (codes "nirt 0 x 0 +x s t") ≡ Bad (Number 3)
+number_of_a_shot_at_two = refl
 
 -- each number has the number of its word
 pub first_of_an_origin : command_of (codes "nirt 1000000000 0 x +x s") ≡ Bad (Number 2)

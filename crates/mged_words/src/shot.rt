@@ -1,15 +1,14 @@
 //! Reads the commands that shoot rays.
-ghost use Rattle.std.specs.Prelude.{◌≡◌, length, map, Some, IfOk};
+ghost use Rattle.std.specs.Prelude.{◌≡◌, ◌<◌, ◌^◌, length, map, Some, IfOk};
 ghost use Rattle.mged_words.specs.Commands as commands;
 ghost use Rattle.mged_words.specs.Readings.{IsRead};
 
 use crate::atoms::{VIEW_NUMBER, read_numbers};
 use crate::fault::LineFault;
-use crate::names::read_name;
+use crate::names::read_names;
 use crate::solid::vector_at;
 use command_set::{Command, NameList, Query, Refusal, ViewFault, WorldRay};
 use lattice_core::{Dir, Ray};
-use name_core::Name;
 use std::alloc::Global;
 
 fn direction(word: &[u8]) -> Option<Dir>
@@ -27,43 +26,45 @@ fn direction(word: &[u8]) -> Option<Dir>
 }
 
 /// A shot from the world.
-fn shot_at(alloc: Global, ray: Ray, name: Name) -> Result<Command, LineFault>
-    ensures { IsRead result (commands.shot_from ray.origin ray.dir name) }
+fn shot_at(ray: Ray, names: NameList) -> Result<Command, LineFault>
+    ensures { IsRead result (commands.shot_from ray.origin ray.dir names) }
 {
-    let Some(ray) = WorldRay::of_ray(ray) else {
-        return Err(LineFault::Refused(Refusal::View(ViewFault::World)));
-    };
-    let mut names = Vec::new(alloc);
-    names.push(name)?;
-    Ok(Command::Query(Query::Shot {
-        ray,
-        names: NameList::of_vec(names),
-    }))
+    match WorldRay::of_ray(ray) {
+        Some(ray) => Ok(Command::Query(Query::Shot { ray, names })),
+        None => Err(LineFault::Refused(Refusal::View(ViewFault::World))),
+    }
 }
 
-/// Reads `nirt X Y Z DIR NAME`, with the direction read.
-fn shot_command(alloc: Global, atoms: &[&[u8]], dir: Dir, name: &[u8]) -> Result<Command, LineFault>
-    requires { length atoms.now ≡ 3 }
-    ensures { IsRead result (commands.shot_command (map commands.view_number (map (λ a. a.now) atoms.now)) (Some dir) name.now) }
+/// Reads `nirt X Y Z DIR NAME ..`, with the direction read.
+fn shot_command(
+    alloc: Global,
+    atoms: &[&[u8]],
+    dir: Dir,
+    names: &[&[u8]],
+) -> Result<Command, LineFault>
+    requires numbers { length atoms.now ≡ 3 }
+    requires few { length names.now < 2 ^ 31 }
+    ensures { IsRead result (commands.shot_command (map commands.view_number (map (λ a. a.now) atoms.now)) (Some dir) (map (λ a. a.now) names.now)) }
 {
-    let name = read_name(name, 6)?;
+    let names = NameList::of_vec(read_names(alloc, names, 6)?);
     let mut numbers = [0; 3];
     if let Some(refusal) = read_numbers(atoms, 2, VIEW_NUMBER, &mut numbers) {
         return Err(LineFault::Refused(refusal));
     }
     let origin = vector_at(&numbers, 0);
-    shot_at(alloc, Ray { origin, dir }, name)
+    shot_at(Ray { origin, dir }, names)
 }
 
-/// Reads what follows `nirt`: `X Y Z DIR NAME`.
+/// Reads what follows `nirt`: `X Y Z DIR NAME ..`.
 pub(crate) fn nirt_command(alloc: Global, atoms: &[&[u8]]) -> Result<Command, LineFault>
+    requires { length atoms.now < 2 ^ 31 }
     ensures { IsRead result (commands.nirt_command (map (λ a. a.now) atoms.now)) }
 {
-    if atoms.len() != 5 {
+    if atoms.len() < 5 {
         return Err(LineFault::Refused(Refusal::Syntax));
     }
     match direction(atoms[3]) {
-        Some(dir) => shot_command(alloc, &atoms[..3], dir, atoms[4]),
+        Some(dir) => shot_command(alloc, &atoms[..3], dir, &atoms[4..]),
         None => Err(LineFault::Refused(Refusal::Syntax)),
     }
 }

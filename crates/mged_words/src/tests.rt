@@ -166,7 +166,7 @@ fn shown(alloc: Global, command: &Command) -> Result<String, Fail> {
 
 #[test]
 fn lines_are_read(rt: HostRuntime) -> Result<(), Fail> {
-    let rows: [(&[u8], &str); 56] = [
+    let rows: [(&[u8], &str); 59] = [
         (b"in  {s} sph 0 0 0 +5.0\r", "make s sphere 0 0 0 5"),
         (
             b"\t{ in } {\ts}\r{sph} {1} 2 { 3 } 4 \t",
@@ -272,6 +272,9 @@ fn lines_are_read(rt: HostRuntime) -> Result<(), Fail> {
         ),
         (b"nirt {1} { 2 } 3 {-z} {s}", "shot MinusZ 1 2 3 s"),
         (b"nirt\t1\r2 3  -z nirt\r", "shot MinusZ 1 2 3 nirt"),
+        (b"nirt 0 0 0 +x s t", "shot PlusX 0 0 0 s t"),
+        (b"nirt 1 2 3 +y s s {t} s", "shot PlusY 1 2 3 s s t s"),
+        (b"nirt 0 0 0 -x 7 +x.a 0", "Name(7)"),
         (b"in s sph 0 0 0 0", "Shape(Radius)"),
         (b"frob", "Syntax"),
     ];
@@ -314,8 +317,8 @@ fn lines_without_the_form_of_a_command(rt: HostRuntime) -> Result<(), Fail> {
             12,
         ),
         (
-            b"nirt\nnirt 0 0 0 +x\nnirt 0 0 0 s\nnirt 0 0 0 x s\nnirt 0 0 0 +w s\nnirt 0 0 0 +X s\nnirt 0 0 0 +xx s\nnirt 0 0 0 {+ x} s\nnirt {0 0} 0 +x s\nnirt {0 0} 0 0 +x s\nnirt 0 0 0 +x {}\nnirt 0 0 0 +x {s t}",
-            12,
+            b"nirt\nnirt 0 0 0 +x\nnirt 0 0 0 s\nnirt 0 0 0 x s\nnirt 0 0 0 +w s\nnirt 0 0 0 +X s\nnirt 0 0 0 +xx s\nnirt 0 0 0 {+ x} s\nnirt {0 0} 0 +x s\nnirt {0 0} 0 0 +x s\nnirt 0 0 0 +x {}\nnirt 0 0 0 +x {s t}\nnirt 0 0 0 s t\nnirt 0 0 0 +x s {}\nnirt 0 0 0 +x s {t u}\nnirt 0 0 0 +x s {{t}}",
+            16,
         ),
         (
             b"ls }\nls {\nkill {a\nkill a}\nkill a{b}\nkill {a}b\nkill {a}{b}\nkill a\\\nkill {\\}\nkill a\x01\nkill a \x7f\nkill {a \x00}\nkill a\x0b\nkill $a\nkill \"a\"\nkill [a]\nkill a;\nls ;\ncattr c id {5}}\ncattr c id {\\}",
@@ -337,7 +340,7 @@ fn lines_without_the_form_of_a_command(rt: HostRuntime) -> Result<(), Fail> {
 
 #[test]
 fn form_before_names_before_numbers(rt: HostRuntime) -> Result<(), Fail> {
-    let rows: [(&[u8], Refusal); 52] = [
+    let rows: [(&[u8], Refusal); 60] = [
         (b"in s/ sph x 0 0", Refusal::Syntax),
         (b"in s/ cube x 0 0 5", Refusal::Syntax),
         (b"r s/ u a u", Refusal::Syntax),
@@ -349,6 +352,7 @@ fn form_before_names_before_numbers(rt: HostRuntime) -> Result<(), Fail> {
         (b"place c/ m/ {x}", Refusal::Syntax),
         (b"cattr c/ colour x", Refusal::Syntax),
         (b"nirt x 0 0 +w s/", Refusal::Syntax),
+        (b"nirt x 0 0 +x s/ {}", Refusal::Syntax),
         (b"in s/1 sph 0 0 0 5", Refusal::Name(2)),
         (b"in s/1 sph x 0 0 5", Refusal::Name(2)),
         (b"in -s sph 0 0 0 0", Refusal::Name(2)),
@@ -388,10 +392,16 @@ fn form_before_names_before_numbers(rt: HostRuntime) -> Result<(), Fail> {
         (b"cattr c/ id 5", Refusal::Name(2)),
         (b"nirt x 524289 0 +x s/", Refusal::Name(6)),
         (b"nirt 524289 0 0 +x -s", Refusal::Name(6)),
+        (b"nirt 0 0 0 +x s t/", Refusal::Name(7)),
+        (b"nirt 0 0 0 +x s/ t/", Refusal::Name(6)),
+        (b"nirt 0 0 0 +x s t/ u/ v", Refusal::Name(7)),
+        (b"nirt x 524289 0 +x s t u/", Refusal::Name(8)),
+        (b"nirt 0 0 524289 +x s {t/}", Refusal::Name(7)),
         (b"in s sph 0 0 x 0", Refusal::Number(6)),
         (b"in h half 0 0 0 x", Refusal::Number(7)),
         (b"in b rpp 0 0 0 0 0 16385", Refusal::Number(9)),
         (b"nirt 524289 0 x +x s", Refusal::Number(4)),
+        (b"nirt 524289 y x +x s t", Refusal::Number(3)),
         (
             b"place c m 2 0 0 0 0 1 0 0 0 0 1 0 0 0 0 x",
             Refusal::Number(19),
@@ -403,6 +413,7 @@ fn form_before_names_before_numbers(rt: HostRuntime) -> Result<(), Fail> {
         (b"nirt 524289 0 0 +x s", Refusal::View(ViewFault::World)),
         (b"nirt 0 -524289 0 +x s", Refusal::View(ViewFault::World)),
         (b"nirt 0 0 999999999 +x s", Refusal::View(ViewFault::World)),
+        (b"nirt 524289 0 0 +x s t", Refusal::View(ViewFault::World)),
         (b"in t sph 0 0 0 -1", Refusal::Shape(ShapeFault::Radius)),
         (
             b"in h half 0 -0 0.0 5",
@@ -560,6 +571,9 @@ fn outline(alloc: Global, command: &Command) -> Result<String, Fail> {
             format!(in alloc; "set {}", setting.value().len())?
         }
         Command::Edit(_) => format!(in alloc; "edit")?,
+        Command::Query(Query::Shot { names, .. }) => {
+            format!(in alloc; "shot {}", names.items().len())?
+        }
         Command::Query(_) => format!(in alloc; "query")?,
         Command::Bad(refusal) => format!(in alloc; "{refusal:?}")?,
     };
@@ -568,7 +582,7 @@ fn outline(alloc: Global, command: &Command) -> Result<String, Fail> {
 
 #[test]
 fn long_lines(rt: HostRuntime) -> Result<(), Fail> {
-    let rows: [(&[u8], &[u8], u32, &[u8], &str); 18] = [
+    let rows: [(&[u8], &[u8], u32, &[u8], &str); 20] = [
         (b"r a", b" u s", 4096, b"", "region 4096"),
         (b"r a", b" u s", 4097, b"\r", "region 4097"),
         (b"r a", b" u s", 4096, b" - s/", "Name(8196)"),
@@ -586,6 +600,8 @@ fn long_lines(rt: HostRuntime) -> Result<(), Fail> {
         (b"in s sph 0 0 0 ", b"0", 65520, b"9", "edit"),
         (b"in s sph 0 0 1.", b"0", 65519, b" x", "Number(7)"),
         (b"nirt 0 0 0 +x ", b"a", 65522, b"", "Name(6)"),
+        (b"nirt 0 0 0 +x", b" s", 32761, b"", "shot 32761"),
+        (b"nirt 0 0 0 +x", b" s", 32760, b" /", "Name(32766)"),
         (b"{", b"\t", 65532, b"ls}", "query"),
     ];
     for (front, piece, count, end, wanted) in rows {
@@ -647,8 +663,8 @@ fn scripts_are_cut_into_lines(rt: HostRuntime) -> Result<(), Fail> {
         (b"\n\n\n@", "Session(4)"),
         (b"#@9\n\r\n@@1\n", "Session(3)"),
         (
-            b"# all\nin s sph 0 0 0 5\nr a.r u s - t\ng a s t\nrm a s\nkill s t\nmvall s t\nplace a s {1 0 0 0 0 1 0 0 0 0 1 0 0 0 0 1}\n\ncattr a region {yes}\nls\nnirt 0 0 0 +x s\nfrob",
-            "1:make s sphere 0 0 0 5;1:region a.r u s - t;1:group a u s u t;1:remove a s;1:kill s t;1:rename s t;1:place a s 1 0 0 0 0 1 0 0 0 0 1 0 0 0 0 1;1:set a region yes;1:names;1:shot PlusX 0 0 0 s;1:Syntax;",
+            b"# all\nin s sph 0 0 0 5\nr a.r u s - t\ng a s t\nrm a s\nkill s t\nmvall s t\nplace a s {1 0 0 0 0 1 0 0 0 0 1 0 0 0 0 1}\n\ncattr a region {yes}\nls\nnirt 0 0 0 +x s t\nfrob",
+            "1:make s sphere 0 0 0 5;1:region a.r u s - t;1:group a u s u t;1:remove a s;1:kill s t;1:rename s t;1:place a s 1 0 0 0 0 1 0 0 0 0 1 0 0 0 0 1;1:set a region yes;1:names;1:shot PlusX 0 0 0 s t;1:Syntax;",
         ),
     ];
     for (text, wanted) in rows {

@@ -20,7 +20,7 @@ use Rattle.object_set.specs.Objects.{Parts}
 use Rattle.command_set.specs.declared.command.Edit.{Edit}
 use Rattle.command_set.specs.declared.command.Edit.TheVariants.{Make, Region, Group, Remove, Kill, RenameAll, Place, Title, Keep, Set}
 use Rattle.command_set.specs.declared.refusal.Refusal.{Refusal}
-use Rattle.command_set.specs.declared.refusal.Refusal.TheVariants.{Exists, Missing, NotComb, NotList, Absent, Heads, Members, Full, Cycle, Deep}
+use Rattle.command_set.specs.declared.refusal.Refusal.TheVariants.{Exists, Missing, NotComb, NotList, Absent, Heads, Members, Full, Cycle, Deep, Instances}
 use Rattle.directory.specs.declared.fault.DirFault.TheVariants as faults
 use Rattle.directory.specs.Listing.{Listing}
 use Rattle.directory.specs.Walks.{Entries, most_objects, most_depth, unbounded, deepest, object_of}
@@ -30,13 +30,13 @@ use Rattle.edit_core.specs.Edits.{object_at, tree_at, own_list, made, set_object
 use Rattle.edit_core.specs.Refused.{refusal_of, edited, unless, first_refusal, exists, missing, not_comb, not_list, absent, heads, too_many, full, too_deep, at_name, when, is_there, is_solid, fresh, wanted, combination, listed, put, edited_name, over_members, of_judgement}
 use Rattle.report_text.specs.Names.{names_lines, mark_of}
 use Rattle.mged_words.specs.Readable.{IsPlainRefusal, ArePlain, IsPlainEdit}
-use Rattle.mged_top.proofs.PlaceLaws.{decimal_one_line}
+use Rattle.report_text.proofs.ShotLaws.{number_lacks}
 
 abbrev pub MayBePlain : Option Refusal → Type 0
 MayBePlain None = Unit {0}
 MayBePlain (Some refusal) = IsPlainRefusal refusal
 
-abbrev IsPlainName : Option Name → Type 0
+abbrev pub IsPlainName : Option Name → Type 0
 IsPlainName None = Unit {0}
 IsPlainName (Some name) = Lacks 10 name
 
@@ -44,7 +44,7 @@ IsPlainName (Some name) = Lacks 10 name
 plain_exists : (name : Name) → Lacks 10 name → IsPlainRefusal (Exists name)
 plain_exists name h = record { one_line = lacks_append 10 (codes "exists ") name (computed 10 (codes "exists ") refl) h; other = refl }
 
-plain_missing : (name : Name) → Lacks 10 name → IsPlainRefusal (Missing name)
+pub plain_missing : (name : Name) → Lacks 10 name → IsPlainRefusal (Missing name)
 plain_missing name h = record { one_line = lacks_append 10 (codes "missing ") name (computed 10 (codes "missing ") refl) h; other = refl }
 
 plain_not_comb : (name : Name) → Lacks 10 name → IsPlainRefusal (NotComb name)
@@ -60,7 +60,7 @@ plain_heads : (name : Name) → Lacks 10 name → IsPlainRefusal (Heads name)
 plain_heads name h = record { one_line = lacks_append 10 (codes "heads ") name (computed 10 (codes "heads ") refl) h; other = refl }
 
 plain_members : (n : ℕ) → IsPlainRefusal (Members n)
-plain_members n = record { one_line = lacks_append 10 (codes "members ") (decimal n) (computed 10 (codes "members ") refl) (decimal_one_line n); other = refl }
+plain_members n = record { one_line = lacks_append 10 (codes "members ") (decimal n) (computed 10 (codes "members ") refl) (number_lacks n); other = refl }
 
 plain_full : IsPlainRefusal Full
 plain_full = record { one_line = computed 10 (codes "full") refl; other = refl }
@@ -68,8 +68,11 @@ plain_full = record { one_line = computed 10 (codes "full") refl; other = refl }
 plain_cycle : (name : Name) → Lacks 10 name → IsPlainRefusal (Cycle name)
 plain_cycle name h = record { one_line = lacks_append 10 (codes "cycle ") name (computed 10 (codes "cycle ") refl) h; other = refl }
 
+pub plain_instances : (n : ℕ) → IsPlainRefusal (Instances n)
+plain_instances n = record { one_line = lacks_append 10 (codes "instances ") (decimal n) (computed 10 (codes "instances ") refl) (number_lacks n); other = refl }
+
 plain_deep : (n : ℕ) → IsPlainRefusal (Deep n)
-plain_deep n = record { one_line = lacks_append 10 (codes "deep ") (decimal n) (computed 10 (codes "deep ") refl) (decimal_one_line n); other = refl }
+plain_deep n = record { one_line = lacks_append 10 (codes "deep ") (decimal n) (computed 10 (codes "deep ") refl) (number_lacks n); other = refl }
 
 may_when : (t : Bool) (refusal : Refusal) → IsPlainRefusal refusal → MayBePlain (when t refusal)
 may_when true refusal h = h
@@ -87,7 +90,7 @@ find_step : (t : Bool) (name : Name) (rest : Option Name) → Lacks 10 name → 
 find_step true name rest h k = h
 find_step false name rest h k = k
 
-find_plain : (p : Name → Bool) (names : List Name) → ArePlain names → IsPlainName (find p names)
+pub find_plain : (p : Name → Bool) (names : List Name) → ArePlain names → IsPlainName (find p names)
 find_plain p [] h = tt
 find_plain p (n ∷ ns) h = find_step (p n) n (find p ns) h.0 (find_plain p ns h.1)
 
@@ -165,7 +168,7 @@ edited_plain (Keep name pairs) h = tt
 edited_plain (Set name setting) h = tt
 
 -- a name that is among plain names is plain
-same_plain : (x y : Name) → Lacks 10 y → same_name x y ≡ true → Lacks 10 x
+pub same_plain : (x y : Name) → Lacks 10 y → same_name x y ≡ true → Lacks 10 x
 same_plain x y h e = elim (name_tells x y) [ inl t ↦ subst (Lacks 10) (sym t.1) h | inr t ↦ let wrong : true ≡ false = sym e ∙ t.0 in cc ]
 
 either_plain : (t u : Bool) (x : Name) → (t ≡ true → Lacks 10 x) → (u ≡ true → Lacks 10 x) → (t || u) ≡ true → Lacks 10 x

@@ -1,4 +1,3 @@
-pub mod PlaceLaws
 pub mod ShotLaws
 pub mod WriteLaws
 pub mod EditLaws

@@ -1,6 +1,7 @@
 -- The transcript of a script that is run in the order of its lines.
-use Rattle.std.proofs.Common.{◌≡◌, ◌≢◌, ℕ, zero, suc, ◌<◌, ◌≤◌, ◌+◌, ◌-◌, ◌^◌, ◌==◌, ◌||◌, Bool, true, false, cond, List, [], ◌∷◌, ◌++◌, All, map, length, append_assoc, replicate, get_or, set, nat_le, eqb-true, bytes_eq, codes, refl, ap, ap₂, sym, ◌∙◌, subst, arith, Option, Some, None, Result, Ok, Err, is_err}
+use Rattle.std.proofs.Common.{◌≡◌, ◌≢◌, ℕ, zero, suc, ◌<◌, ◌≤◌, ◌+◌, ◌-◌, ◌^◌, ◌==◌, ◌||◌, Bool, true, false, cond, List, [], ◌∷◌, ◌++◌, All, map, length, append_assoc, replicate, get_or, set, nat_le, eqb-true, bytes_eq, codes, refl, ap, ap₂, sym, ◌∙◌, subst, arith, Option, Some, None, is_some, not, nat_lt, Result, Ok, Err, is_err}
 use Rattle.std.specs.List.{AllByRecursion, list_any}
+use Rattle.std.specs.Option.{option_map, option_or}
 use Rattle.std.proofs.lemmas.Bool.{eqb-false, leb-true}
 use Rattle.std.proofs.lemmas.List.{length-map}
 use Rattle.std.proofs.lemmas.List.Elements.{All-head, All-tail}
@@ -12,18 +13,18 @@ use Rattle.transcript.specs.Merge.{Entry, order_of, lane}
 use Rattle.transcript.specs.Run as run
 use Rattle.transcript.specs.Run.{Marked, Reply, Accepted, Refused, State, stepped, answered, run_of, refuses, answer_refuses, any_refused, files_of, file_in}
 use Rattle.transcript.specs.Transcript.{transcript, transcript_of}
-use Rattle.transcript.proofs.LineLaws.{lacks_append}
 use Rattle.transcript.proofs.Printable.{says_memory, IsPrintableReply}
 use Rattle.transcript.proofs.Readable.{KeepsLines, IfSomeKeeps, good_outcome, good_reading, run_ranges, lane_no_longer, run_length}
 use Rattle.transcript.proofs.RefusedLaws.{any_of_lanes, among_eight}
 use Rattle.transcript.proofs.RunLaws.{run_order, memory_of}
 use Rattle.transcript.proofs.TranscriptLaws.{computed}
-use Rattle.surd_order.specs.declared.position.Seg.{Seg}
-use Rattle.solid_set.specs.Segments.{segment_of}
 use Rattle.name_core.specs.declared.name.Name.{Name}
-use Rattle.object_set.specs.declared.object.Body.{Body}
-use Rattle.object_set.specs.declared.object.Body.TheVariants.{Solid, Comb}
-use Rattle.object_set.specs.Objects.{Parts}
+use Rattle.scene_prep.specs.declared.fault.PrepFault.{PrepFault}
+use Rattle.scene_prep.specs.declared.fault.PrepFault.TheVariants as prep
+use Rattle.scene_prep.specs.declared.fault.PrepFault.TheVariants.{TooMany}
+use Rattle.scene_prep.specs.Outcomes.{first_missing, too_many}
+use Rattle.scene_prep.specs.Scenes.{scene_of}
+use Rattle.scene_prep.specs.Sizes.{names_size, most_size, told_size}
 use Rattle.command_set.specs.Refusals.{refusal_text}
 use Rattle.command_set.specs.declared.command.Command.{Command}
 use Rattle.command_set.specs.declared.command.Command.TheVariants.{Bad, Edit as IsEdit, Query as IsQuery}
@@ -32,18 +33,17 @@ use Rattle.command_set.specs.declared.command.Query.TheVariants as queries
 use Rattle.command_set.specs.declared.refusal.Refusal.{Refusal}
 use Rattle.command_set.specs.declared.refusal.Refusal.TheVariants.{Syntax, Quota}
 use Rattle.directory.specs.Listing.{Listing}
-use Rattle.directory.specs.Walks.{Entries}
-use Rattle.edit_core.specs.Edits.{object_at, made}
+use Rattle.directory.specs.Walks.{Entries, object_of}
+use Rattle.edit_core.specs.Edits.{made}
 use Rattle.edit_core.specs.Refused.{refusal_of, unless}
 use Rattle.mged_words.specs.Entries.{HasSession, session_of}
 use Rattle.mged_words.specs.Readable.{IsPlain, IsPlainRefusal, IsPlainQuery, ArePlain, IsReadable}
 use Rattle.mged_top.specs.Answers.{marked_entry, unmarked, core_answer, core_answers, answers_at, used_at, is_refused}
 use Rattle.mged_top.specs.Outcomes.{IsLineOutcome}
-use Rattle.mged_top.specs.Replies.{Outcome, core_rules, start_from, no_objects, most_used, within_quota, shot_body, shot_at, shot_of, found, edit_outcome, outcome_of, directory_made, shown}
-use Rattle.mged_top.specs.Shots.{own_surface, partition_lines}
+use Rattle.mged_top.specs.Replies.{Outcome, core_rules, start_from, no_objects, most_used, within_quota, lines_unless, lines_of_scene, shot_of, found, edit_outcome, outcome_of, directory_made, shown}
 use Rattle.mged_top.specs.declared.answer.Answer.{Answer}
-use Rattle.mged_top.proofs.EditLaws.{MayBePlain, IsPlainListing, refusal_plain, edit_keeps, names_plain, lines_few}
-use Rattle.mged_top.proofs.PlaceLaws.{partition_one_line}
+use Rattle.mged_top.proofs.EditLaws.{MayBePlain, IsPlainName, IsPlainListing, HasPlainNames, find_plain, plain_missing, plain_instances, refusal_plain, edit_keeps, names_plain, lines_few}
+use Rattle.mged_top.proofs.ShotLaws.{shot_plain}
 
 abbrev Any_own : ℕ → Type 0
 Any_own used = Unit {0}
@@ -79,29 +79,25 @@ within_fits used (Ok lines) h =
     (λ e. let small : used + length (text_of lines) ≤ 67108864 = leb-true (used + length (text_of lines)) 67108864 e in omega (arith, small, lines_few lines))
 within_fits used (Err refusal) h = h.one_line
 
-lines_plain : (name : List ℕ) (seg : Option Seg) → Lacks 10 name → AllByRecursion (Lacks 10) (partition_lines name seg)
-lines_plain name None h = tt
-lines_plain name (Some seg) h = (partition_one_line name seg h, tt)
+missing_plain : (missing : Option Name) (size : Option PrepFault) (lines : List (List ℕ)) → IsPlainName missing → IsPlainOutcome (lines_unless size lines) → IsPlainOutcome (lines_unless (option_or (option_map prep.Missing missing) size) lines)
+missing_plain None size lines h k = k
+missing_plain (Some name) size lines h k = plain_missing name h
 
-body_plain : (ray : Ray) (name : Name) (body : Body) → Lacks 10 name → IsPlainOutcome (shot_body ray name body)
-body_plain ray name (Solid solid) h = lines_plain name (segment_of (own_surface solid) ray) h
-body_plain ray name (Comb attr tree) h = record { one_line = lacks_append 10 (codes "not-list ") name (computed 10 (codes "not-list ") refl) h; other = refl }
+size_plain : (t : Bool) (size : ℕ) (lines : List (List ℕ)) → AllByRecursion (Lacks 10) lines → IsPlainOutcome (lines_unless (cond t (Some (TooMany size)) None) lines)
+size_plain true size lines h = plain_instances size
+size_plain false size lines h = h
 
-shot_plain : (ray : Ray) (name : Name) (there : Option Parts) → Lacks 10 name → IsPlainOutcome (shot_at ray name there)
-shot_plain ray name None h = record { one_line = lacks_append 10 (codes "missing ") name (computed 10 (codes "missing ") refl) h; other = refl }
-shot_plain ray name (Some object) h = body_plain ray name object.body h
-
-shots_plain : (d : Listing) (ray : Ray) (names : List Name) → ArePlain names → IsPlainOutcome (shot_of d ray names)
-shots_plain d ray [] h = plain_syntax
-shots_plain d ray (name ∷ []) h = shot_plain ray name (object_at d name) h.0
-shots_plain d ray (name ∷ other ∷ names) h = plain_syntax
+shots_plain : (es : Entries) (ray : Ray) (names : List Name) → HasPlainNames es → ArePlain names → IsPlainOutcome (shot_of es ray names)
+shots_plain es ray names h k =
+    missing_plain (first_missing es names) (too_many es names) (lines_of_scene (scene_of es names) ray) (find_plain (λ name. not (is_some (object_of es name))) names k)
+    (size_plain (nat_lt most_size (names_size es names)) (told_size (names_size es names)) (lines_of_scene (scene_of es names) ray) (shot_plain es names ray h))
 
 found_plain : (d : Listing) (query : Query) → IsPlainListing d → IsPlainQuery query → IsPlainOutcome (found d query)
 found_plain d (queries.List names) h k = plain_syntax
 found_plain d queries.Names h k = names_plain d.objects h
 found_plain d (queries.Tree names) h k = plain_syntax
 found_plain d (queries.Save file) h k = plain_syntax
-found_plain d (queries.Shot ray names) h k = shots_plain d ray names k.one_line
+found_plain d (queries.Shot ray names) h k = shots_plain d.objects ray names h k.one_line
 
 reply_fits : (d : Listing) (used : ℕ) (c : Command) → IsPlainListing d → Any_own used → IsPlain c → IsPrintableReply (shown (outcome_of d used c))
 reply_fits d used (Bad refusal) h q k = k.one_line
@@ -125,25 +121,25 @@ within_tells : (used : ℕ) (outcome : Outcome) → Tells outcome → says_memor
 within_tells used (Ok lines) h = tells_by (nat_le (used + length (text_of lines)) most_used) lines
 within_tells used (Err refusal) h = h
 
-body_tells : (ray : Ray) (name : Name) (body : Body) → Tells (shot_body ray name body)
-body_tells ray name (Solid solid) = tt
-body_tells ray name (Comb attr tree) = refl
+missing_tells : (missing : Option Name) (size : Option PrepFault) (lines : List (List ℕ)) → Tells (lines_unless size lines) → Tells (lines_unless (option_or (option_map prep.Missing missing) size) lines)
+missing_tells None size lines k = k
+missing_tells (Some name) size lines k = refl
 
-shot_tells : (ray : Ray) (name : Name) (there : Option Parts) → Tells (shot_at ray name there)
-shot_tells ray name None = refl
-shot_tells ray name (Some object) = body_tells ray name object.body
+size_tells : (t : Bool) (size : ℕ) (lines : List (List ℕ)) → Tells (lines_unless (cond t (Some (TooMany size)) None) lines)
+size_tells true size lines = refl
+size_tells false size lines = tt
 
-shots_tell : (d : Listing) (ray : Ray) (names : List Name) → Tells (shot_of d ray names)
-shots_tell d ray [] = refl
-shots_tell d ray (name ∷ []) = shot_tells ray name (object_at d name)
-shots_tell d ray (name ∷ other ∷ names) = refl
+shots_tell : (es : Entries) (ray : Ray) (names : List Name) → Tells (shot_of es ray names)
+shots_tell es ray names =
+    missing_tells (first_missing es names) (too_many es names) (lines_of_scene (scene_of es names) ray)
+    (size_tells (nat_lt most_size (names_size es names)) (told_size (names_size es names)) (lines_of_scene (scene_of es names) ray))
 
 found_tells : (d : Listing) (query : Query) → Tells (found d query)
 found_tells d (queries.List names) = refl
 found_tells d queries.Names = tt
 found_tells d (queries.Tree names) = refl
 found_tells d (queries.Save file) = refl
-found_tells d (queries.Shot ray names) = shots_tell d ray names
+found_tells d (queries.Shot ray names) = shots_tell d.objects ray names
 
 reply_tells : (d : Listing) (used : ℕ) (c : Command) → IsPlain c → says_memory (shown (outcome_of d used c)) ≡ false
 reply_tells d used (Bad refusal) k = k.other

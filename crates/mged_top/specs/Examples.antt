@@ -11,8 +11,10 @@ use Rattle.object_set.specs.declared.object.Body.TheVariants.{Solid, Comb}
 use Rattle.command_set.specs.declared.command.Command.TheVariants.{Bad, Edit as IsEdit, Query as IsQuery}
 use Rattle.command_set.specs.declared.command.Edit.TheVariants.{Make, Kill}
 use Rattle.command_set.specs.declared.command.Query.TheVariants as queries
-use Rattle.command_set.specs.declared.refusal.Refusal.TheVariants.{Syntax, Exists, Missing, NotList, Quota}
+use Rattle.command_set.specs.declared.refusal.Refusal.TheVariants.{Syntax, Exists, Missing, Quota}
 use Rattle.directory.specs.Listing.{Listing}
+use Rattle.scene_prep.specs.Regions.{regions_of_name}
+use Rattle.scene_prep.specs.Sizes.{size_of_name}
 use Rattle.mged_words.specs.declared.script.ScriptFlaw.TheVariants.{Size, Session}
 use Rattle.mged_top.specs.declared.status.Status.TheVariants as status
 use Rattle.mged_top.specs.Replies.{no_objects, outcome_of, directory_made, used_after}
@@ -47,18 +49,26 @@ nothing_used : used_after 67108856 (outcome_of three 67108856 (IsQuery queries.N
 nothing_used = refl
 
 a_shot : outcome_of three 0 (IsQuery (queries.Shot along_x (codes "h" ∷ []))) ≡ Ok (codes "1 /h 0 5" ∷ [])
-unfolding place_cmp digits
+unfolding place_cmp digits regions_of_name size_of_name
 a_shot = refl
 
--- a combination is not shot at yet, and a name that is not there comes before the bytes used
-a_shot_of_a_combination : outcome_of three 0 (IsQuery (queries.Shot along_x (codes "g" ∷ []))) ≡ Err (NotList (codes "g"))
-a_shot_of_a_combination = refl
+-- a combination without members has no region, and takes no place
+a_shot_of_several_names : outcome_of three 0 (IsQuery (queries.Shot along_x (codes "g" ∷ codes "r" ∷ codes "h" ∷ []))) ≡ Ok (codes "1 /h 0 5" ∷ [])
+unfolding place_cmp digits regions_of_name size_of_name
+a_shot_of_several_names = refl
 
-missing_before_quota : outcome_of three 67108864 (IsQuery (queries.Shot along_x (codes "x" ∷ []))) ≡ Err (Missing (codes "x"))
+-- a name that is given twice has two regions, and the first of them has the ray
+a_shot_of_one_name_twice : outcome_of three 0 (IsQuery (queries.Shot along_x (codes "h" ∷ codes "h" ∷ []))) ≡ Ok (codes "1 /h 0 5" ∷ [])
+unfolding place_cmp digits regions_of_name size_of_name
+a_shot_of_one_name_twice = refl
+
+-- the first name that is not there is told, before the bytes used
+missing_before_quota : outcome_of three 67108864 (IsQuery (queries.Shot along_x (codes "h" ∷ codes "x" ∷ codes "y" ∷ []))) ≡ Err (Missing (codes "x"))
+unfolding size_of_name
 missing_before_quota = refl
 
 no_bytes_left : outcome_of three 67108864 (IsQuery (queries.Shot along_x (codes "h" ∷ []))) ≡ Err Quota
-unfolding place_cmp digits
+unfolding place_cmp digits regions_of_name size_of_name
 no_bytes_left = refl
 
 -- an edit takes no bytes, and gives the new directory

@@ -1,4 +1,3 @@
-pub mod Shots
 pub mod Replies
 pub mod Answers
 pub mod Outcomes

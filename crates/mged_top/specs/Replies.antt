@@ -1,26 +1,29 @@
 -- What a command is answered, the directory after it, and the bytes that its session has used.
-use Rattle.std.specs.Prelude.{ℕ, ◌+◌, nat_le, cond, List, [], ◌∷◌, Option, Some, None, Result, Ok, Err, length}
+use Rattle.std.specs.Prelude.{ℕ, ◌+◌, nat_le, cond, List, [], Option, Some, None, Result, Ok, Err, length}
 use Rattle.std.specs.Result.{result_ok}
 use Rattle.name_core.specs.declared.name.Name.{Name}
 use Rattle.lattice_core.specs.declared.ray.Ray.{Ray}
 use Rattle.outside_core.specs.declared.traits.File.{File}
 use Rattle.transcript.specs.Lines.{text_of}
 use Rattle.transcript.specs.Run.{Reply, Accepted, Refused, Rules, State}
-use Rattle.object_set.specs.declared.object.Body.{Body}
-use Rattle.object_set.specs.declared.object.Body.TheVariants.{Solid, Comb}
-use Rattle.object_set.specs.Objects.{Parts}
 use Rattle.command_set.specs.Refusals.{refusal_text}
 use Rattle.command_set.specs.declared.command.Command.{Command}
 use Rattle.command_set.specs.declared.command.Command.TheVariants.{Bad, Edit as IsEdit, Query as IsQuery}
 use Rattle.command_set.specs.declared.command.Query.{Query}
 use Rattle.command_set.specs.declared.command.Query.TheVariants as queries
 use Rattle.command_set.specs.declared.refusal.Refusal.{Refusal}
-use Rattle.command_set.specs.declared.refusal.Refusal.TheVariants.{Syntax, Missing, NotList, Quota}
+use Rattle.command_set.specs.declared.refusal.Refusal.TheVariants.{Syntax, Missing, Instances, Quota, Memory}
 use Rattle.directory.specs.Listing.{Listing}
-use Rattle.edit_core.specs.Edits.{object_at}
+use Rattle.directory.specs.Walks.{Entries}
 use Rattle.edit_core.specs.Refused.{edited}
 use Rattle.report_text.specs.Names.{names_lines}
-use Rattle.mged_top.specs.Shots.{shot_lines}
+use Rattle.report_text.specs.Shots.{shot_lines}
+use Rattle.shot_core.specs.Regions.{Region}
+use Rattle.shot_core.specs.Shots.{lit_of}
+use Rattle.scene_prep.specs.declared.fault.PrepFault.{PrepFault}
+use Rattle.scene_prep.specs.declared.fault.PrepFault.TheVariants as prep
+use Rattle.scene_prep.specs.Scenes.{scene_of}
+use Rattle.scene_prep.specs.Outcomes.{prep_fault}
 
 -- what a command is answered: the lines of its body, or why it is refused
 abbrev pub Outcome : Type 0
@@ -35,25 +38,28 @@ abbrev pub within_quota : ℕ → Outcome → Outcome
 within_quota used (Ok lines) = cond (nat_le (used + length (text_of lines)) most_used) (Ok lines) (Err Quota)
 within_quota used (Err refusal) = Err refusal
 
--- the partitions of a ray and an object; those of combinations are not told yet
-abbrev pub shot_body : Ray → Name → Body → Outcome
-shot_body ray name (Solid solid) = Ok (shot_lines ray name solid)
-shot_body ray name (Comb attr tree) = Err (NotList name)
+-- why names are not shot at
+abbrev pub refusal_of_prep : PrepFault → Refusal
+refusal_of_prep (prep.Missing name) = Missing name
+refusal_of_prep (prep.TooMany size) = Instances size
+refusal_of_prep prep.Memory = Memory
 
--- the partitions of a ray and the object of a name, which is there or not
-abbrev pub shot_at : Ray → Name → Option Parts → Outcome
-shot_at ray name None = Err (Missing name)
-shot_at ray name (Some object) = shot_body ray name object.body
+abbrev pub lines_unless : Option PrepFault → List (List ℕ) → Outcome
+lines_unless None lines = Ok lines
+lines_unless (Some fault) lines = Err (refusal_of_prep fault)
 
--- a shot has one name yet
-abbrev pub shot_of : Listing → Ray → List Name → Outcome
-shot_of d ray (name ∷ []) = shot_at ray name (object_at d name)
-shot_of d ray _ = Err Syntax
+-- a line for each partition of a ray and a scene
+abbrev pub lines_of_scene : List Region → Ray → List (List ℕ)
+lines_of_scene scene ray = shot_lines scene (lit_of scene ray)
+
+-- the partitions of a ray and the regions of the names, or why these make no scene
+abbrev pub shot_of : Entries → Ray → List Name → Outcome
+shot_of directory ray names = lines_unless (prep_fault directory names) (lines_of_scene (scene_of directory names) ray)
 
 -- what a query finds; of the others than these two no line asks yet
 abbrev pub found : Listing → Query → Outcome
 found d queries.Names = Ok (names_lines d.objects)
-found d (queries.Shot ray names) = shot_of d ray names
+found d (queries.Shot ray names) = shot_of d.objects ray names
 found d _ = Err Syntax
 
 abbrev pub edit_outcome : Result Listing Refusal → Outcome

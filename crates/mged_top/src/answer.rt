@@ -1,22 +1,31 @@
-ghost use Rattle.std.specs.Prelude.{◌≡◌, ◌≤◌, ◌<◌, ◌+◌, ◌^◌, Ok, IfOk, OnOk, OnErr};
+ghost use Rattle.std.specs.Prelude.{◌≡◌, ◌≤◌, ◌<◌, ◌+◌, ◌^◌, ℕ, List, Ok, Err, IfOk, OnOk, OnErr, All, length};
 ghost use Rattle.std.specs.Result.{result_ok};
 ghost use Rattle.transcript.specs.Run.{answer_of, book_after, committed, own_after};
-ghost use Rattle.object_set.specs.Objects.{Parts};
-ghost use Rattle.edit_core.specs.Edits.{object_at};
+ghost use Rattle.lattice_core.specs.declared.limit.TheConstants.{WORLD};
+ghost use Rattle.lattice_core.specs.Limits.{IsWithin};
+ghost use Rattle.lattice_core.specs.declared.ray.Ray.{Ray};
+ghost use Rattle.name_core.specs.declared.name.Name.{Name};
+ghost use Rattle.directory.specs.Walks.{Entries};
+ghost use Rattle.shot_core.specs.Shots.{lit_of};
+ghost use Rattle.scene_prep.specs.Outcomes.{IsSceneOf};
 ghost use Rattle.edit_core.specs.Refused.{edited};
 ghost use Rattle.report_text.specs.Names.{names_lines};
 ghost use Rattle.mged_top.specs.Answers.{core_book, core_answer, unmarked};
-ghost use Rattle.mged_top.specs.Replies.{core_rules, most_used, within_quota, shot_at, shot_of, found, edit_outcome, outcome_of, directory_made, used_after};
+ghost use Rattle.mged_top.specs.Replies.{core_rules, most_used, within_quota, lines_of_scene, shot_of, found, edit_outcome, outcome_of, directory_made, used_after};
 
-use crate::shot::shoot;
 use command_set::{Command, Edit, Query, Refusal, WorldRay};
 use directory::Directory;
 use edit_core::apply;
+use lattice_core::Ray;
 use memory_core::Memory;
 use name_core::Name;
-use object_set::Body as ObjectBody;
-use report_text::{Body, TextFault, names_text};
+use report_text::{Body, TextFault, names_text, shot_text};
+use scene_prep::{PrepFault, prepare};
+use shot_core::{Lit, Scene, shoot};
 use std::alloc::Global;
+use std::marker::Brand;
+use std::sync::ledger::{Blank, Ledger};
+use step_counter::Steps;
 
 /// The most bytes that the bodies and files of one session may have.
 pub const MOST_USED: u64 = 67_108_864;
@@ -51,35 +60,67 @@ fn look_at_names(
     }
 }
 
-/// The body, where there is room for it.
-fn fit(used: u64, body: Body) -> Result<Body, Refusal>
-    requires { used ≤ most_used }
-    ensures { result ≡ within_quota used (Ok body) }
+/// What a ray meets of a scene. Its steps are counted for nobody.
+fn shoot_uncounted<L: Ledger>(
+    blank: Blank,
+    alloc: Global,
+    scene: &Scene,
+    ray: &Ray,
+) -> Result<Vec<Lit>, Memory>
+    requires name { blank.name ≡ L.name }
+    requires parts { blank.parts ≡ L.parts }
+    requires some { 0 < blank.parts }
+    requires origin { IsWithin WORLD ray.now.origin }
+    ensures lit { IfOk result (λ v. v.items ≡ lit_of scene.now ray.now) }
+    ensures regions { IfOk result (λ v. All (λ l. l.region < length scene.now) v.items) }
 {
-    if body.text().len() as u64 > MOST_USED - used {
-        Err(Refusal::Quota)
-    } else {
-        Ok(body)
+    let mut steps: Steps<L> = Steps::new(blank);
+    shoot(alloc, scene, ray, &mut steps)
+}
+
+/// The partitions of a ray and a scene, where there is room for them.
+fn shoot_scene(
+    alloc: Global,
+    scene: &Scene,
+    used: u64,
+    ray: &WorldRay,
+) -> Result<Result<Body, Refusal>, Memory>
+    requires { used ≤ most_used }
+    ensures { IfOk result (λ outcome. outcome ≡ within_quota used (Ok (lines_of_scene scene.now ray.now))) }
+{
+    let lit = shoot_uncounted::<Brand>(Blank::new(1), alloc, scene, &ray.ray())?;
+    match shot_text(alloc, scene, &lit, MOST_USED - used) {
+        Ok(body) => Ok(Ok(body)),
+        Err(TextFault::Room) => Ok(Err(Refusal::Quota)),
+        Err(TextFault::Memory) => Err(Memory),
     }
 }
 
-/// The partitions of a ray and the object of a name.
-fn shoot_at(
+/// The refusal of names that make no scene.
+fn refused(fault: PrepFault) -> Result<Result<Body, Refusal>, Memory>
+    ensures { IfOk result (λ outcome. (directory : Entries) (names : List Name) → IsSceneOf (Err fault) directory names → (used : ℕ) (ray : Ray) → outcome ≡ within_quota used (shot_of directory ray names)) }
+{
+    match fault {
+        PrepFault::Missing(name) => Ok(Err(Refusal::Missing(name))),
+        PrepFault::TooMany(size) => Ok(Err(Refusal::Instances(size))),
+        PrepFault::Memory => Err(Memory),
+    }
+}
+
+/// The partitions of a ray and the regions of names.
+fn look_along(
     alloc: Global,
     directory: &Directory,
     used: u64,
     ray: &WorldRay,
-    name: &Name,
+    names: &[Name],
 ) -> Result<Result<Body, Refusal>, Memory>
     requires { used ≤ most_used }
-    ensures { IfOk result (λ outcome. outcome ≡ within_quota used (shot_at ray.now name.now (object_at directory.now name.now))) }
+    ensures { IfOk result (λ outcome. outcome ≡ within_quota used (shot_of directory.now.objects ray.now names.now)) }
 {
-    let Some(object) = directory.get(name) else {
-        return Ok(Err(Refusal::Missing(*name)));
-    };
-    match object.body() {
-        ObjectBody::Solid(solid) => Ok(fit(used, shoot(alloc, &ray.ray(), name, solid)?)),
-        ObjectBody::Comb { .. } => Ok(Err(Refusal::NotList(*name))),
+    match prepare(alloc, directory, names) {
+        Ok(scene) => shoot_scene(alloc, &scene, used, ray),
+        Err(fault) => refused(fault),
     }
 }
 
@@ -95,10 +136,7 @@ fn look(
 {
     match query {
         Query::Names => look_at_names(alloc, directory, used),
-        Query::Shot { ray, names } => match names.items() {
-            [name] => shoot_at(alloc, directory, used, ray, name),
-            _ => Ok(Err(Refusal::Syntax)),
-        },
+        Query::Shot { ray, names } => look_along(alloc, directory, used, ray, names.items()),
         _ => Ok(Err(Refusal::Syntax)),
     }
 }

@@ -4,7 +4,6 @@
 mod answer;
 mod main_call;
 mod run;
-mod shot;
 mod status;
 
 pub use answer::{Answer, Book, MOST_USED};

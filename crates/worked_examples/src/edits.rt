@@ -112,14 +112,6 @@ fn edits_look_at_members(rt: HostRuntime) -> Result<(), Fail> {
             "not-comb s",
         ),
         ("a solid before an absent member", "rm s z", "not-comb s"),
-        // Combinations aren't shot yet.
-        ("shot at a region", "nirt 0 0 0 +x c", "not-list c"),
-        (
-            "shot at a combination",
-            "nirt 524288 0 0 +x e",
-            "not-list e",
-        ),
-        ("shot at dangling members", "nirt 0 0 0 +x f", "not-list f"),
         // A member that is no leaf there.
         ("removal of no member", "rm c z", "absent z"),
         ("the first given name of two", "rm c t z s y", "absent z"),
@@ -247,7 +239,7 @@ fn matrices_and_settings_have_their_form(rt: HostRuntime) -> Result<(), Fail> {
         ("key of a kept attribute", "cattr c maker me", "syntax"),
         ("names of some", "ls s", "syntax"),
         ("listing in capitals", "LS", "syntax"),
-        ("two names in a shot", "nirt 0 0 0 +x s t", "syntax"),
+        ("no name in a shot", "nirt 0 0 0 +x", "syntax"),
     ];
     for (name, line, refusal) in table {
         check_refused(&rt, name, line, refusal)?;

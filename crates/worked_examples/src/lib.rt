@@ -5,6 +5,8 @@
 #[cfg(test)]
 mod commands;
 #[cfg(test)]
+mod comparing;
+#[cfg(test)]
 mod edits;
 #[cfg(test)]
 mod faults;
@@ -14,5 +16,7 @@ mod limits;
 mod run;
 #[cfg(test)]
 mod scripts;
+#[cfg(test)]
+mod shots;
 #[cfg(test)]
 mod solids;

@@ -1,0 +1,4 @@
+pub mod Lists
+pub mod Putting
+pub mod Landing
+pub mod Laying

@@ -1,0 +1,8 @@
+use Rattle.std.proofs.Common.{◌≡◌, ◌+◌, ◌++◌, map, drop}
+use Rattle.shot_core.specs.Prepared.{instance_of}
+use Rattle.shot_core.specs.Shots.{woven_from}
+use Rattle.plain_shot.proofs.segment.add_segments.Given as goal
+
+abbrev pub invariant-loop-i : goal.invariant-loop-i
+invariant-loop-i l =
+    l.segments.items ++ woven_from l.ray (l.first + l.i) (map instance_of (drop l.i l.solids)) ≡ l.initial.segments.items ++ woven_from l.ray l.first (map instance_of l.solids)

@@ -22,31 +22,55 @@ pub trait Tables {
 
 /// How many rows there were, and how many of these differ.
 #[derive(Clone, Copy, Debug, PartialEq, Eq, Drop)]
-struct Tally {
+pub struct Tally {
     rows: u64,
     differ: u64,
 }
 
 impl Tally {
-    fn none() -> Tally {
+    /// Of no rows.
+    pub fn none() -> Tally {
         Tally { rows: 0, differ: 0 }
     }
 
-    fn count(&mut self, is_alike: bool) {
+    /// Counts a row, which is as wanted or not.
+    pub fn count(&mut self, is_alike: bool) {
         self.rows = self.rows.saturating_add(1);
         if !is_alike {
             self.differ = self.differ.saturating_add(1);
         }
     }
 
-    fn add(&mut self, more: Tally) {
+    /// Adds what was counted elsewhere.
+    pub fn add(&mut self, more: Tally) {
         self.rows = self.rows.saturating_add(more.rows);
         self.differ = self.differ.saturating_add(more.differ);
+    }
+
+    /// Puts in how many rows there were and how many of them differ, and how many wrong ones were noticed. It answers
+    /// whether all is as it is to be: there are rows, none of them differs, and each wrong one does.
+    pub fn tell(
+        self,
+        alloc: Global,
+        what: &str,
+        wrong: Tally,
+        report: &mut Vec<u8>,
+    ) -> Result<bool, CaseFault> {
+        let Tally { rows, differ } = self;
+        let line = format!(in alloc; "{rows} {what}, {differ} differ\n")?;
+        report.extend_from_slice(line.as_bytes())?;
+        let Tally {
+            rows: all,
+            differ: noticed,
+        } = wrong;
+        let line = format!(in alloc; "{all} wrong {what}, {noticed} noticed\n")?;
+        report.extend_from_slice(line.as_bytes())?;
+        Ok(rows > 0 && differ == 0 && noticed == all)
     }
 }
 
 /// Puts in a text with what isn't a printed byte of ASCII as `\xHH`.
-fn push_shown(alloc: Global, report: &mut Vec<u8>, text: &[u8]) -> Result<(), CaseFault> {
+pub fn push_shown(alloc: Global, report: &mut Vec<u8>, text: &[u8]) -> Result<(), CaseFault> {
     for byte in text {
         if byte.is_ascii_graphic() || *byte == b' ' {
             report.push(*byte)?;
@@ -142,16 +166,7 @@ fn run_files<T: Tables>(
             right.add(tally);
         }
     }
-    let Tally { rows, differ } = right;
-    let line = format!(in alloc; "{rows} rows, {differ} differ\n")?;
-    report.extend_from_slice(line.as_bytes())?;
-    let Tally {
-        rows: all,
-        differ: noticed,
-    } = wrong;
-    let line = format!(in alloc; "{all} wrong rows, {noticed} noticed\n")?;
-    report.extend_from_slice(line.as_bytes())?;
-    Ok(rows > 0 && differ == 0 && noticed == all)
+    right.tell(alloc, "rows", wrong, report)
 }
 
 /// Runs the files of rows that the words of the program name, and prints each row that differs and how many there

@@ -22,5 +22,3 @@ pub use matrix::placement_of;
 pub use script::{SCRIPT_SIZE, ScriptFault, ScriptFlaw, read_script};
 pub use solid::SolidKind;
 
-#[cfg(test)]
-mod tests;

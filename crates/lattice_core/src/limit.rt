@@ -1,3 +1,6 @@
+ghost use Rattle.std.specs.Prelude.{◌≡◌, pos};
+ghost use Rattle.lattice_core.specs.declared.limit.TheConstants.{COORD, SHIFT, WORLD, FAR};
+
 /// The greatest size of a coordinate, a radius, a component of a half-space's normal or of a shift, in millimetres.
 pub const COORD: i64 = 16_384;
 
@@ -12,3 +15,11 @@ pub const FAR: i64 = 1_048_576;
 
 /// Points and shifts that are placed or composed have components below this size, in millimetres.
 pub const REACH: i64 = 1_048_576;
+
+/// The limits are these numbers. This law is what refuses another constant.
+pub fn limit_laws()
+    ensures coordinate { COORD ≡ pos 16384 }
+    ensures shift { SHIFT ≡ pos 262144 }
+    ensures world { WORLD ≡ pos 524288 }
+    ensures ray { FAR ≡ pos 1048576 }
+{}

@@ -10,7 +10,7 @@ mod winner;
 
 pub use hit::Hit;
 pub use laws::{overlap_laws, partition_laws};
-pub use overlap::{CheckFault, MOST_PAIRS, OverlapRun, overlaps};
+pub use overlap::{CheckFault, MOST_PAIRS, OverlapRun, limit_laws, overlaps};
 pub use partition::{Partition, settle};
 pub use region::RegionClaims;
 

@@ -3,6 +3,7 @@ ghost use Rattle.std.specs.List.{filter_map};
 ghost use Rattle.bool_weave.specs.Cuts.{cuts_of};
 ghost use Rattle.bool_weave.specs.Claims.{intervals_of};
 ghost use Rattle.overlap_list.specs.Overlaps.{pairs_from, first_overlap, overlaps_of, IsTooMany, IsCheckFault};
+ghost use Rattle.overlap_list.specs.declared.overlap.TheConstants.{MOST_PAIRS};
 ghost use Rattle.overlap_list.specs.Steps.{do_both, IsFirst, IsEnd, IsFirstRun, do_overlap};
 
 use crate::region::RegionClaims;
@@ -160,4 +161,10 @@ pub fn overlaps(
         }
     }
     Ok(runs)
+}
+
+/// The limit is this number. This law is what refuses another constant.
+pub fn limit_laws()
+    ensures pairs { MOST_PAIRS ≡ 2097152 }
+{
 }

@@ -10,7 +10,7 @@ mod shot;
 mod tree_box;
 
 pub use laws::box_laws;
-pub use limit::MOST_LEAVES;
+pub use limit::{MOST_LEAVES, limit_laws};
 pub use region::{PathText, PrepRegion, SceneRegion};
 pub use scene::Scene;
 pub use shot::{Lit, check_ray, shoot};

@@ -1,4 +1,4 @@
-use crate::shown::push_number;
+use crate::shown::{push_number, push_text};
 use crate::words::{Words, parted, whole_within};
 use case_text::CaseFault;
 use lattice_core::{Box3, FAR, Side, box_meets_ray, hull, meet};
@@ -41,27 +41,21 @@ fn box_of(word: &[u8]) -> Result<Box3, CaseFault> {
 
 fn push_side(side: Side, out: &mut Vec<u8>) -> Result<(), CaseFault> {
     match side {
-        Side::Open => {
-            out.push(b'*')?;
-            Ok(())
-        }
+        Side::Open => push_text(b"*", out),
         Side::At(at) => push_number(at, out),
     }
 }
 
 fn push_extent(low: Side, high: Side, out: &mut Vec<u8>) -> Result<(), CaseFault> {
     push_side(low, out)?;
-    out.extend_from_slice(b"..")?;
+    push_text(b"..", out)?;
     push_side(high, out)
 }
 
 /// Puts in a box as rows have it.
 pub fn push_box(shown: &Box3, out: &mut Vec<u8>) -> Result<(), CaseFault> {
     match *shown {
-        Box3::Empty => {
-            out.extend_from_slice(b"empty")?;
-            Ok(())
-        }
+        Box3::Empty => push_text(b"empty", out),
         Box3::Span {
             xlo,
             xhi,
@@ -71,9 +65,9 @@ pub fn push_box(shown: &Box3, out: &mut Vec<u8>) -> Result<(), CaseFault> {
             zhi,
         } => {
             push_extent(xlo, xhi, out)?;
-            out.push(b',')?;
+            push_text(b",", out)?;
             push_extent(ylo, yhi, out)?;
-            out.push(b',')?;
+            push_text(b",", out)?;
             push_extent(zlo, zhi, out)
         }
     }
@@ -100,6 +94,5 @@ pub fn answer_box_meets_ray(words: &mut Words, out: &mut Vec<u8>) -> Result<(), 
     } else {
         b"no"
     };
-    out.extend_from_slice(answer)?;
-    Ok(())
+    push_text(answer, out)
 }

@@ -1,4 +1,4 @@
-use crate::shown::{push_number, push_point};
+use crate::shown::{push_number, push_point, push_text};
 use crate::words::{Words, byte, whole_within};
 use case_text::CaseFault;
 use lattice_core::{COORD, MatrixFault, Placement, Turn, WORLD, compose, of_matrix};
@@ -11,7 +11,7 @@ fn push_matrix(matrix: [i64; 16], out: &mut Vec<u8>) -> Result<(), CaseFault> {
     let mut is_first = true;
     for entry in matrix {
         if !is_first {
-            out.push(b' ')?;
+            push_text(b" ", out)?;
         }
         is_first = false;
         push_number(entry, out)?;
@@ -25,10 +25,7 @@ pub fn answer_turn(words: &mut Words, out: &mut Vec<u8>) -> Result<(), CaseFault
     let v = words.point(COORD)?;
     match turn {
         Some(turn) => push_point(turn.apply(v), out),
-        None => {
-            out.extend_from_slice(b"none")?;
-            Ok(())
-        }
+        None => push_text(b"none", out),
     }
 }
 
@@ -64,13 +61,7 @@ fn matrix(words: &mut Words) -> Result<[i64; 16], CaseFault> {
 pub fn answer_matrix(words: &mut Words, out: &mut Vec<u8>) -> Result<(), CaseFault> {
     match of_matrix(&matrix(words)?) {
         Ok(placement) => push_matrix(placement.matrix(), out),
-        Err(MatrixFault::NotLattice) => {
-            out.extend_from_slice(b"not lattice")?;
-            Ok(())
-        }
-        Err(MatrixFault::TooFar) => {
-            out.extend_from_slice(b"too far")?;
-            Ok(())
-        }
+        Err(MatrixFault::NotLattice) => push_text(b"not lattice", out),
+        Err(MatrixFault::TooFar) => push_text(b"too far", out),
     }
 }

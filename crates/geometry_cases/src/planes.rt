@@ -3,7 +3,7 @@ ghost use Rattle.lattice_core.specs.Limits.{IsAtMost};
 ghost use Rattle.plane_geom.specs.declared.limit.TheConstants.{OFFSET};
 ghost use Rattle.plane_geom.specs.Planes.{IsSolidPlane, IsWorldPlane};
 
-use crate::shown::{push_number, push_point};
+use crate::shown::{push_number, push_point, push_text};
 use crate::words::{Words, parted, point_within, whole_within};
 use case_text::CaseFault;
 use lattice_core::{COORD, WORLD};
@@ -26,7 +26,7 @@ fn plane(word: &[u8]) -> Result<Plane, CaseFault>
 /// Puts in a plane as rows have it.
 pub fn push_plane(plane: &Plane, out: &mut Vec<u8>) -> Result<(), CaseFault> {
     push_point(plane.n, out)?;
-    out.push(b':')?;
+    push_text(b":", out)?;
     push_number(plane.d, out)
 }
 
@@ -34,10 +34,7 @@ pub fn push_plane(plane: &Plane, out: &mut Vec<u8>) -> Result<(), CaseFault> {
 pub fn push_plane_or_none(plane: Option<Plane>, out: &mut Vec<u8>) -> Result<(), CaseFault> {
     match plane {
         Some(plane) => push_plane(&plane, out),
-        None => {
-            out.extend_from_slice(b"none")?;
-            Ok(())
-        }
+        None => push_text(b"none", out),
     }
 }
 
@@ -51,7 +48,7 @@ pub fn answer_through(words: &mut Words, out: &mut Vec<u8>) -> Result<(), CaseFa
 
 fn push_fraction(p: i128, q: i128, out: &mut Vec<u8>) -> Result<(), CaseFault> {
     push_number(p, out)?;
-    out.push(b'/')?;
+    push_text(b"/", out)?;
     push_number(q, out)
 }
 
@@ -61,21 +58,15 @@ pub fn answer_crossing(words: &mut Words, out: &mut Vec<u8>) -> Result<(), CaseF
     let ray = words.ray()?;
     match plane.crossing(&ray) {
         Crossing::Enters(p, q) => {
-            out.extend_from_slice(b"enters ")?;
+            push_text(b"enters ", out)?;
             push_fraction(p, q, out)
         }
         Crossing::Leaves(p, q) => {
-            out.extend_from_slice(b"leaves ")?;
+            push_text(b"leaves ", out)?;
             push_fraction(p, q, out)
         }
-        Crossing::Holds => {
-            out.extend_from_slice(b"holds")?;
-            Ok(())
-        }
-        Crossing::Misses => {
-            out.extend_from_slice(b"misses")?;
-            Ok(())
-        }
+        Crossing::Holds => push_text(b"holds", out),
+        Crossing::Misses => push_text(b"misses", out),
     }
 }
 

@@ -2,7 +2,7 @@ ghost use Rattle.std.specs.Prelude.{IfOk};
 ghost use Rattle.surd_order.specs.Range.{IsInRange};
 ghost use Rattle.surd_order.specs.Spelling.{IsSpelled};
 
-use crate::shown::push_number;
+use crate::shown::{push_number, push_text};
 use crate::words::{Words, number, parted};
 use case_text::{CaseFault, words_of};
 use ranged_position::RangedPos;
@@ -18,8 +18,7 @@ const WHOLE: u64 = 1 << 62;
 pub fn push_position(position: &Pos, out: &mut Vec<u8>) -> Result<(), CaseFault> {
     let mut text = PosText::new();
     position.write_text(&mut text);
-    out.extend_from_slice(text.bytes())?;
-    Ok(())
+    push_text(text.bytes(), out)
 }
 
 /// The fraction that two words are, in no matter what spelling.
@@ -30,8 +29,12 @@ fn fraction(over: &[u8], under: &[u8]) -> Result<Pos, CaseFault> {
 
 /// The sum or difference of a whole number and a root that three words are, in no matter what spelling.
 fn surd(whole: &[u8], sign: u8, square: &[u8]) -> Result<Pos, CaseFault> {
-    let a = i64::try_from(number(whole)?).map_err(|_fault| CaseFault::Number)?;
-    let k = u64::try_from(number(square)?).map_err(|_fault| CaseFault::Number)?;
+    let (Ok(a), Ok(k)) = (
+        i64::try_from(number(whole)?),
+        u64::try_from(number(square)?),
+    ) else {
+        return Err(CaseFault::Number);
+    };
     match sign {
         b'+' => Ok(Pos::Surd { a, plus: true, k }),
         b'-' => Ok(Pos::Surd { a, plus: false, k }),
@@ -131,10 +134,9 @@ fn order_word(order: Ordering) -> &'static [u8] {
 pub fn answer_order(words: &mut Words, out: &mut Vec<u8>) -> Result<(), CaseFault> {
     let x = near_position(words.next())?;
     let y = near_position(words.next())?;
-    out.extend_from_slice(order_word(x.cmp(&y)))?;
-    out.push(b' ')?;
-    out.extend_from_slice(order_word(y.cmp(&x)))?;
-    Ok(())
+    push_text(order_word(x.cmp(&y)), out)?;
+    push_text(b" ", out)?;
+    push_text(order_word(y.cmp(&x)), out)
 }
 
 /// The position that a word is, in its one spelling and in range.
@@ -172,7 +174,7 @@ pub fn answer_sort(alloc: Global, words: &mut Words, out: &mut Vec<u8>) -> Resul
     let mut last: Option<&RangedPos> = None;
     for place in &places {
         if let Some(low) = last {
-            out.extend_from_slice(sign_between(low, place))?;
+            push_text(sign_between(low, place), out)?;
         }
         push_position(&place.place(), out)?;
         last = Some(place);

@@ -3,37 +3,29 @@ ghost use Rattle.lattice_core.specs.declared.limit.TheConstants.{COORD};
 ghost use Rattle.lattice_core.specs.Limits.{IsWithin};
 
 use crate::boxes::push_box;
+use crate::no_solid::NoSolid;
 use crate::planes::{push_plane, push_plane_or_none};
-use crate::shown::{push_number, push_point};
+use crate::shown::{push_number, push_point, push_text};
 use crate::words::{Words, parted, point_within, whole_within};
 use case_text::CaseFault;
 use lattice_core::{COORD, V3};
-use plane_geom::ShapeFault;
 use prim_arb8::Arb8;
 use prim_half::Half;
 use prim_sphere::{Chord, PLACED, Sphere, bounds_at, crossed_at};
-use std::alloc::Global;
-
-/// Puts in why numbers make no solid.
-pub fn push_fault(alloc: Global, fault: ShapeFault, out: &mut Vec<u8>) -> Result<(), CaseFault> {
-    let text = format!(in alloc; "{fault}")?;
-    out.extend_from_slice(text.as_bytes())?;
-    Ok(())
-}
 
 /// The half-space that a word `X,Y,Z:D` is, by its normal and its distance.
-pub fn half(word: &[u8]) -> Result<Result<Half, ShapeFault>, CaseFault> {
+pub fn half(word: &[u8]) -> Result<Half, NoSolid> {
     let (normal, distance) = parted(word, b':').ok_or(CaseFault::Number)?;
     let n = point_within(normal, COORD)?;
     let d = whole_within(distance, COORD)?;
-    Ok(Half::new(n, d))
+    Ok(Half::new(n, d)?)
 }
 
 /// The sphere of a centre and a radius.
-pub fn sphere(words: &mut Words) -> Result<Result<Sphere, ShapeFault>, CaseFault> {
+pub fn sphere(words: &mut Words) -> Result<Sphere, NoSolid> {
     let centre = words.point(COORD)?;
     let radius = words.whole(COORD)?;
-    Ok(Sphere::new(centre, radius))
+    Ok(Sphere::new(centre, radius)?)
 }
 
 /// Eight vertices.
@@ -52,74 +44,56 @@ fn vertices(words: &mut Words) -> Result<[V3; 8], CaseFault>
 }
 
 /// The solid of eight vertices.
-pub fn arb8(words: &mut Words) -> Result<Result<Arb8, ShapeFault>, CaseFault> {
-    Ok(Arb8::new(vertices(words)?))
+pub fn arb8(words: &mut Words) -> Result<Arb8, NoSolid> {
+    Ok(Arb8::new(vertices(words)?)?)
 }
 
 /// `half NX,NY,NZ:D => normal NX,NY,NZ distance D plane PLANE` or its fault
-pub fn answer_half(alloc: Global, words: &mut Words, out: &mut Vec<u8>) -> Result<(), CaseFault> {
-    match half(words.next())? {
-        Ok(half) => {
-            out.extend_from_slice(b"normal ")?;
-            push_point(half.normal(), out)?;
-            out.extend_from_slice(b" distance ")?;
-            push_number(half.distance(), out)?;
-            out.extend_from_slice(b" plane ")?;
-            push_plane(&half.plane(), out)
-        }
-        Err(fault) => push_fault(alloc, fault, out),
-    }
+pub fn answer_half(words: &mut Words, out: &mut Vec<u8>) -> Result<(), NoSolid> {
+    let half = half(words.next())?;
+    push_text(b"normal ", out)?;
+    push_point(half.normal(), out)?;
+    push_text(b" distance ", out)?;
+    push_number(half.distance(), out)?;
+    push_text(b" plane ", out)?;
+    push_plane(&half.plane(), out)?;
+    Ok(())
 }
 
 /// `sphere CENTRE RADIUS => centre CENTRE radius RADIUS` or its fault
-pub fn answer_sphere(alloc: Global, words: &mut Words, out: &mut Vec<u8>) -> Result<(), CaseFault> {
-    match sphere(words)? {
-        Ok(sphere) => {
-            out.extend_from_slice(b"centre ")?;
-            push_point(sphere.centre(), out)?;
-            out.extend_from_slice(b" radius ")?;
-            push_number(sphere.radius(), out)
-        }
-        Err(fault) => push_fault(alloc, fault, out),
-    }
+pub fn answer_sphere(words: &mut Words, out: &mut Vec<u8>) -> Result<(), NoSolid> {
+    let sphere = sphere(words)?;
+    push_text(b"centre ", out)?;
+    push_point(sphere.centre(), out)?;
+    push_text(b" radius ", out)?;
+    push_number(sphere.radius(), out)?;
+    Ok(())
 }
 
 /// `arb8 VERTEX*8 => PLANE*12`, of the faces 1 to 12, or its fault
-pub fn answer_arb8(alloc: Global, words: &mut Words, out: &mut Vec<u8>) -> Result<(), CaseFault> {
-    match arb8(words)? {
-        Ok(arb8) => {
-            for face in 1..13u8 {
-                if face > 1 {
-                    out.push(b' ')?;
-                }
-                push_plane_or_none(arb8.plane(face), out)?;
-            }
-            Ok(())
+pub fn answer_arb8(words: &mut Words, out: &mut Vec<u8>) -> Result<(), NoSolid> {
+    let arb8 = arb8(words)?;
+    for face in 1..13u8 {
+        if face > 1 {
+            push_text(b" ", out)?;
         }
-        Err(fault) => push_fault(alloc, fault, out),
+        push_plane_or_none(arb8.plane(face), out)?;
     }
+    Ok(())
 }
 
 /// `vertices VERTEX*8 => VERTEX*8`, of the solid that they make, or its fault
-pub fn answer_vertices(
-    alloc: Global,
-    words: &mut Words,
-    out: &mut Vec<u8>,
-) -> Result<(), CaseFault> {
-    match arb8(words)? {
-        Ok(arb8) => {
-            let mut is_first = true;
-            for p in arb8.vertices() {
-                if !is_first {
-                    out.push(b' ')?;
-                }
-                is_first = false;
-                push_point(p, out)?;
-            }
-            Ok(())
+pub fn answer_vertices(words: &mut Words, out: &mut Vec<u8>) -> Result<(), NoSolid> {
+    let arb8 = arb8(words)?;
+    let mut is_first = true;
+    for p in arb8.vertices() {
+        if !is_first {
+            push_text(b" ", out)?;
         }
-        Err(fault) => push_fault(alloc, fault, out),
+        is_first = false;
+        push_point(p, out)?;
     }
+    Ok(())
 }
 
 /// `chord CENTRE RADIUS RAY => a A k K` or `none`, of the sphere of a placed centre
@@ -129,15 +103,12 @@ pub fn answer_chord(words: &mut Words, out: &mut Vec<u8>) -> Result<(), CaseFaul
     let ray = words.ray()?;
     match crossed_at(centre, radius, &ray) {
         Some(chord) => {
-            out.extend_from_slice(b"a ")?;
+            push_text(b"a ", out)?;
             push_number(chord.a, out)?;
-            out.extend_from_slice(b" k ")?;
+            push_text(b" k ", out)?;
             push_number(chord.k, out)
         }
-        None => {
-            out.extend_from_slice(b"none")?;
-            Ok(())
-        }
+        None => push_text(b"none", out),
     }
 }
 

@@ -9,7 +9,7 @@ use case_text::{CaseFault, first_word};
 use lattice_core::{Dir, Placement, Ray, SHIFT, Turn, V3, WORLD};
 
 /// The words of a row that are still to be read.
-#[derive(Clone, Copy, Debug, Drop)]
+#[derive(Drop)]
 pub struct Words<'a> {
     rest: &'a [u8],
 }
@@ -22,8 +22,8 @@ impl<'a> Words<'a> {
 
     /// The next word, which is empty where there is none.
     pub fn next(&mut self) -> &'a [u8] {
-        let (word, rest) = first_word(self.rest);
-        self.rest = rest;
+        let (word, others) = first_word(self.rest);
+        self.rest = others;
         word
     }
 
@@ -96,19 +96,32 @@ pub fn parted(text: &[u8], at: u8) -> Option<(&[u8], &[u8])> {
 
 /// The number of at most 128 bits that a word is.
 pub fn number(word: &[u8]) -> Result<i128, CaseFault> {
-    let digits = str::from_utf8(word).map_err(|_fault| CaseFault::Number)?;
-    digits.parse::<i128>().map_err(|_fault| CaseFault::Number)
+    let Ok(digits) = str::from_utf8(word) else {
+        return Err(CaseFault::Number);
+    };
+    let Ok(number) = digits.parse::<i128>() else {
+        return Err(CaseFault::Number);
+    };
+    Ok(number)
 }
 
 /// The number of 0 or more that a word is.
 pub fn natural(word: &[u8]) -> Result<u128, CaseFault> {
-    let digits = str::from_utf8(word).map_err(|_fault| CaseFault::Number)?;
-    digits.parse::<u128>().map_err(|_fault| CaseFault::Number)
+    let Ok(digits) = str::from_utf8(word) else {
+        return Err(CaseFault::Number);
+    };
+    let Ok(number) = digits.parse::<u128>() else {
+        return Err(CaseFault::Number);
+    };
+    Ok(number)
 }
 
 /// The number of 8 bits that a word is.
 pub fn byte(word: &[u8]) -> Result<u8, CaseFault> {
-    u8::try_from(natural(word)?).map_err(|_fault| CaseFault::Number)
+    let Ok(number) = u8::try_from(natural(word)?) else {
+        return Err(CaseFault::Number);
+    };
+    Ok(number)
 }
 
 /// The number that a word is, of at most so large a size.
@@ -116,7 +129,9 @@ pub fn whole_within(word: &[u8], limit: i64) -> Result<i64, CaseFault>
     requires { pos 0 ≤ℤ limit }
     ensures { IfOk result (IsAtMost limit) }
 {
-    let number = i64::try_from(number(word)?).map_err(|_fault| CaseFault::Number)?;
+    let Ok(number) = i64::try_from(number(word)?) else {
+        return Err(CaseFault::Number);
+    };
     if number < -limit || limit < number {
         return Err(CaseFault::Number);
     }

@@ -7,8 +7,6 @@ mod limit;
 mod placement;
 mod ray;
 mod row;
-#[cfg(test)]
-mod tests;
 mod turn;
 mod vector;
 

@@ -5,8 +5,6 @@ mod fault;
 mod limit;
 mod measure;
 mod plane;
-#[cfg(test)]
-mod tests;
 
 pub use fault::ShapeFault;
 pub use limit::{NORMAL, OFFSET, WORLD_OFFSET};

@@ -4,7 +4,5 @@
 mod arb8;
 mod corner;
 mod face;
-#[cfg(test)]
-mod tests;
 
 pub use arb8::Arb8;

@@ -2,7 +2,5 @@
 #![tactic(auto)]
 
 mod half;
-#[cfg(test)]
-mod tests;
 
 pub use half::Half;

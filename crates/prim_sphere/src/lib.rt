@@ -8,6 +8,3 @@ mod sphere;
 pub use chord::{Chord, bounds_at, crossed_at};
 pub use limit::{PLACED, REMOTE};
 pub use sphere::Sphere;
-
-#[cfg(test)]
-mod tests;

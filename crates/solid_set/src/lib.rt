@@ -12,6 +12,3 @@ pub use crossed::Crossed;
 pub use placed::Placed;
 pub use solid::Solid;
 pub use surface::Surface;
-
-#[cfg(test)]
-mod tests;

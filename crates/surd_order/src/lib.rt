@@ -11,6 +11,3 @@ pub use laws::{order_laws, place_order_laws};
 pub use position::{Pos, Seg};
 pub use range::{OVER_LIMIT, SQUARE_LIMIT, UNDER_LIMIT, WHOLE_LIMIT};
 pub use text::PosText;
-
-#[cfg(test)]
-mod tests;

@@ -21,4 +21,3 @@ pub use line::read_line;
 pub use matrix::placement_of;
 pub use script::{SCRIPT_SIZE, ScriptFault, ScriptFlaw, read_script};
 pub use solid::SolidKind;
-

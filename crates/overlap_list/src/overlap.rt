@@ -166,5 +166,4 @@ pub fn overlaps(
 /// The limit is this number. This law is what refuses another constant.
 pub fn limit_laws()
     ensures pairs { MOST_PAIRS ≡ 2097152 }
-{
-}
+{}

@@ -10,6 +10,3 @@ pub use fault::TextFault;
 pub use names::names_text;
 pub use shots::shot_text;
 pub use transcript::Body;
-
-#[cfg(test)]
-mod tests;

@@ -7,5 +7,4 @@ pub const MOST_LEAVES: usize = 65_536;
 /// The limit is this number. This law is what refuses another constant.
 pub fn limit_laws()
     ensures leaves { MOST_LEAVES ≡ 65536 }
-{
-}
+{}

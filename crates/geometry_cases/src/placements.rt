@@ -1,5 +1,5 @@
 use crate::shown::{push_number, push_point, push_text};
-use crate::words::{Words, byte, whole_within};
+use crate::words::{Words, byte};
 use case_text::CaseFault;
 use lattice_core::{COORD, MatrixFault, Placement, Turn, WORLD, compose, of_matrix};
 
@@ -52,7 +52,7 @@ pub fn answer_compose(words: &mut Words, out: &mut Vec<u8>) -> Result<(), CaseFa
 fn matrix(words: &mut Words) -> Result<[i64; 16], CaseFault> {
     let mut matrix = [0; 16];
     for entry in &mut matrix {
-        *entry = whole_within(words.next(), ENTRY)?;
+        *entry = words.whole(ENTRY)?;
     }
     Ok(matrix)
 }

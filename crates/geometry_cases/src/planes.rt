@@ -1,6 +1,4 @@
 ghost use Rattle.std.specs.Prelude.{IfOk};
-ghost use Rattle.lattice_core.specs.Limits.{IsAtMost};
-ghost use Rattle.plane_geom.specs.declared.limit.TheConstants.{OFFSET};
 ghost use Rattle.plane_geom.specs.Planes.{IsSolidPlane, IsWorldPlane};
 
 use crate::shown::{push_number, push_point, push_text};

@@ -12,6 +12,3 @@ pub use fault::TreeFault;
 pub use node::{CombNode, ListEntry};
 pub use tree::{CombTree, LEAVES};
 pub use tree_forms::Op;
-
-#[cfg(test)]
-mod tests;

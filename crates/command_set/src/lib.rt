@@ -20,6 +20,3 @@ pub use refusal::{Refusal, RefusalText, ViewFault};
 pub use setting::Setting;
 pub use title_text::TitleText;
 pub use world_ray::WorldRay;
-
-#[cfg(test)]
-mod tests;

@@ -13,6 +13,3 @@ mod whole;
 
 pub use directory::Directory;
 pub use fault::DirFault;
-
-#[cfg(test)]
-mod tests;

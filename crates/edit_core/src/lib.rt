@@ -10,6 +10,3 @@ mod trees;
 
 pub use applying::apply;
 pub use law::list_laws;
-
-#[cfg(test)]
-mod tests;

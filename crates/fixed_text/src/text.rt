@@ -61,24 +61,3 @@ impl<const N: usize> FixedText<N> {
         self.push(buffer.format(number).as_bytes());
     }
 }
-
-#[cfg(test)]
-mod tests {
-    use super::*;
-
-    #[test]
-    fn holds_what_was_put_in(rt: HostRuntime) {
-        let mut text: FixedText<64> = FixedText::new();
-        text.push(b"order");
-        text.clear();
-        text.push(b"v");
-        text.push_number(65536u32);
-        assert_eq!(rt; text.bytes(), b"v65536".as_slice());
-        let mut signed: FixedText<64> = FixedText::new();
-        signed.push_number(-170141183460469231731687303715884105728i128);
-        assert_eq!(rt;
-            signed.bytes(),
-            b"-170141183460469231731687303715884105728".as_slice()
-        );
-    }
-}

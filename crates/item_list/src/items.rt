@@ -93,28 +93,3 @@ impl<T: Hash> Hash for Items<T> {
         self.items.as_slice().hash(state);
     }
 }
-
-#[cfg(test)]
-mod tests {
-    use super::*;
-    use std::collections::HashSet;
-    use std::test::Fail;
-
-    #[test]
-    fn keeps_order_and_compares_by_value(rt: HostRuntime) -> Result<(), Fail> {
-        let mut list = Items::new(rt.alloc());
-        list.push(7u32)?;
-        list.push(5)?;
-        assert_eq!(rt; list.items(), [7, 5].as_slice());
-        let same = Items::of_vec(vec![in rt.alloc(); 7u32, 5]?);
-        let other = Items::of_vec(vec![in rt.alloc(); 5u32, 7]?);
-        assert!(rt; list == same);
-        assert!(rt; !(list == other));
-        let mut seen = HashSet::new(rt.alloc());
-        assert!(rt; seen.insert(list)?);
-        assert!(rt; seen.contains(&same));
-        assert!(rt; !seen.contains(&other));
-        assert_eq!(rt; same.into_vec().as_slice(), [7, 5].as_slice());
-        Ok(())
-    }
-}

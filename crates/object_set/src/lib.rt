@@ -9,6 +9,3 @@ mod text_value;
 pub use kept::{KeptAttr, KeptAttrs, have_text_values};
 pub use object::{Body, Object};
 pub use text_value::is_text_value;
-
-#[cfg(test)]
-mod tests;

@@ -8,8 +8,6 @@ mod gate;
 mod shelf;
 mod sink;
 mod source;
-#[cfg(test)]
-mod tests;
 mod traits;
 mod transfer;
 

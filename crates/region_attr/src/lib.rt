@@ -4,8 +4,6 @@
 mod attr;
 mod colour;
 mod key;
-#[cfg(test)]
-mod tests;
 mod value;
 
 pub use attr::{Attr, AttrFault, Rgb};

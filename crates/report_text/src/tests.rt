@@ -3,38 +3,14 @@ ghost use Rattle.shot_core.specs.Regions.{IsPathText, size_of};
 
 use super::*;
 use bool_weave::{MaskNode, MaskTree};
-use directory::Directory;
 use item_list::Items;
-use lattice_core::V3;
-use name_core::Name;
-use object_set::Object;
 use overlap_list::Hit;
-use prim_half::Half;
 use region_attr::Rgb;
 use shot_core::{Lit, PrepRegion, Scene, SceneRegion};
-use solid_set::Solid;
 use std::alloc::Global;
 use std::sync::Arc;
 use std::test::Fail;
 use surd_order::Pos;
-
-fn half(alloc: Global) -> Result<Object, Fail> {
-    let half = Half::new(V3 { x: 1, y: 0, z: 0 }, 5)?;
-    Ok(Object::of_solid(alloc, Solid::Half(half)))
-}
-
-#[test]
-fn names_stand_in_order_where_they_have_room(rt: HostRuntime) -> Result<(), Fail> {
-    let alloc = rt.alloc();
-    let mut directory = Directory::new(alloc);
-    directory.put(&Name::read(b"s2")?, half(alloc)?)?;
-    directory.put(&Name::read(b"s10")?, half(alloc)?)?;
-    let body = names_text(alloc, &directory, 7)?;
-    assert_eq!(rt; body.lines(), 2);
-    assert_eq!(rt; body.text(), b"s2\ns10\n".as_slice());
-    assert!(rt; matches!(names_text(alloc, &directory, 6), Err(TextFault::Room)));
-    Ok(())
-}
 
 /// The region of that place and path, whose tree is one leaf that is always false.
 fn region(alloc: Global, place: u32, path: &[u8]) -> Result<SceneRegion, Fail>

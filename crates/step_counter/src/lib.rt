@@ -43,29 +43,3 @@ impl<L: Ledger> Steps<L> {
         self.book.add(&mut self.share, 1);
     }
 }
-
-#[cfg(test)]
-mod tests {
-    use super::*;
-    use std::marker::Brand;
-
-    fn two_steps<L: Ledger>(blank: Blank)
-        requires name { blank.name ≡ L.name }
-        requires parts { blank.parts ≡ L.parts }
-        requires some { 0 < blank.parts }
-    {
-        let mut steps: Steps<L> = Steps::new(blank);
-        steps.tick();
-        steps.tick();
-        two_made(&steps);
-    }
-
-    fn two_made<L: Ledger>(_steps: &Steps<L>)
-        requires { _steps.now ≡ 2 }
-    {}
-
-    #[test]
-    fn counts_from_nothing() {
-        two_steps::<Brand>(Blank::new(1));
-    }
-}

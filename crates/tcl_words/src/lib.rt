@@ -7,8 +7,6 @@ mod group_text;
 mod groups;
 mod number;
 mod read;
-#[cfg(test)]
-mod tests;
 mod token;
 mod write;
 

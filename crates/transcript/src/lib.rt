@@ -2,8 +2,6 @@
 #![tactic(auto)]
 
 mod body;
-#[cfg(test)]
-mod tests;
 mod write;
 
 pub use body::Body;

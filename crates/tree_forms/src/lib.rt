@@ -27,26 +27,3 @@ impl Op {
         }
     }
 }
-
-#[cfg(test)]
-mod tests {
-    use super::*;
-
-    #[test]
-    fn joins_by_operator(rt: HostRuntime) {
-        let sides = [(false, false), (false, true), (true, false), (true, true)];
-        let cases = [
-            (Op::U, [false, true, true, true]),
-            (Op::N, [false, false, false, true]),
-            (Op::Minus, [false, false, true, false]),
-        ];
-        for (op, wanted) in cases {
-            for (i, (left, right)) in sides.iter().enumerate() {
-                assert!(rt;
-                    op.join(*left, *right) == wanted[i],
-                    "{op:?} {left} {right}"
-                );
-            }
-        }
-    }
-}

@@ -5,7 +5,6 @@ pub mod EditLemmas
 pub mod FindLemmas
 pub mod PlaceLemmas
 pub mod ReplaceLemmas
-pub mod SmallTrees
 pub mod TellLemmas
 pub mod WalkLemmas
 pub mod WholeLemmas

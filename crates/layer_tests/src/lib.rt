@@ -1,0 +1,10 @@
+//! Tests of the lower layers that need fakes or types of this language: counters of steps, adapters over readers and
+//! writers, and gates. The other cases of these layers are rows of tables.
+#![tactic(auto)]
+
+#[cfg(test)]
+mod adapters;
+#[cfg(test)]
+mod counting;
+#[cfg(test)]
+mod gates;

@@ -1,4 +1,3 @@
-pub mod AddLemmas
 pub mod AloneLemmas
 pub mod CountLemmas
 pub mod EditLemmas

@@ -1,11 +1,11 @@
 //! What lies along a ray, and what trees claim of it.
 
 use crate::positions::push_position;
-use crate::texts::{fields_of, number_in, push};
-use crate::trees::{push_tree, tree_of};
+use crate::texts::{long_in, number_of, push, three_fields, two_fields, two_words};
+use crate::trees::{push_tree, tree_in};
 use crate::weaves::{push_woven, weave_of};
 use bool_weave::{ClaimRow, claims};
-use case_text::{CaseFault, numbers_of, words_of};
+use case_text::CaseFault;
 use std::alloc::Global;
 
 /// `cuts SEGMENTS => CUTS, WOVEN`
@@ -23,24 +23,16 @@ pub fn answer_cuts(alloc: Global, given: &[u8], out: &mut Vec<u8>) -> Result<(),
 
 /// `within SEGMENTS | FROM TO => WOVEN`: what is woven of the instances from one number up to, not including, another.
 pub fn answer_within(alloc: Global, given: &[u8], out: &mut Vec<u8>) -> Result<(), CaseFault> {
-    let fields = fields_of(alloc, given, b'|')?;
-    let [list, range] = *fields.as_slice() else {
-        return Err(CaseFault::Line);
-    };
+    let (list, range) = two_fields(given)?;
+    let (from, to) = two_words(alloc, range)?;
+    let (from, to) = (long_in(from)?, long_in(to)?);
     let weave = weave_of(alloc, list)?;
-    let numbers = numbers_of(alloc, range)?;
-    let [from, to] = *numbers.as_slice() else {
-        return Err(CaseFault::Line);
-    };
-    let from = u64::try_from(from).map_err(|_fault| CaseFault::Number)?;
-    let to = u64::try_from(to).map_err(|_fault| CaseFault::Number)?;
     push_woven(alloc, weave.woven_within(from, to), out)
 }
 
 /// `nodes TREE => tree TREE`
 pub fn answer_nodes(alloc: Global, given: &[u8], out: &mut Vec<u8>) -> Result<(), CaseFault> {
-    let words = words_of(alloc, given)?;
-    push_tree(alloc, &tree_of(alloc, &words)?, out)
+    push_tree(alloc, &tree_in(alloc, given)?, out)
 }
 
 /// Puts in 1 for each interval that is claimed and 0 for each other one, and `outside` where one is claimed outside of the
@@ -62,16 +54,9 @@ fn push_row(row: &ClaimRow, out: &mut Vec<u8>) -> Result<(), CaseFault> {
 
 /// `claims SEGMENTS | FIRST | TREE => INTERVALS`: which intervals the tree claims, of which leaf 0 is the instance FIRST.
 pub fn answer_claims(alloc: Global, given: &[u8], out: &mut Vec<u8>) -> Result<(), CaseFault> {
-    let fields = fields_of(alloc, given, b'|')?;
-    let [list, first, tree] = *fields.as_slice() else {
-        return Err(CaseFault::Line);
-    };
+    let (list, first, tree) = three_fields(given)?;
+    let first = number_of(alloc, first)?;
     let weave = weave_of(alloc, list)?;
-    let words = words_of(alloc, first)?;
-    let [first] = *words.as_slice() else {
-        return Err(CaseFault::Line);
-    };
-    let words = words_of(alloc, tree)?;
-    let tree = tree_of(alloc, &words)?;
-    push_row(&claims(alloc, &weave, &tree, number_in(first)?)?, out)
+    let tree = tree_in(alloc, tree)?;
+    push_row(&claims(alloc, &weave, &tree, first)?, out)
 }

@@ -6,8 +6,8 @@ ghost use Rattle.lattice_core.specs.Limits.{IsWithin};
 use crate::random::random_script;
 use crate::scripts::commands_of;
 use crate::shots::shoot_uncounted;
-use crate::texts::push;
-use case_text::{CaseFault, numbers_of};
+use crate::texts::{long_in, number_in, push, push_number, three_words, two_fields, two_words};
+use case_text::CaseFault;
 use command_set::{Command, Query};
 use directory::Directory;
 use edit_core::apply;
@@ -25,6 +25,43 @@ struct Compared {
     differ: usize,
     partitions: usize,
     overlaps: usize,
+}
+
+impl Compared {
+    fn none() -> Compared {
+        Compared {
+            shots: 0,
+            differ: 0,
+            partitions: 0,
+            overlaps: 0,
+        }
+    }
+
+    /// Whether none differ, and there are over so many.
+    fn is_more(&self, most: &Compared) -> bool {
+        self.differ == 0
+            && self.shots > most.shots
+            && self.partitions > most.partitions
+            && self.overlaps > most.overlaps
+    }
+
+    fn push_to(&self, alloc: Global, out: &mut Vec<u8>) -> Result<(), CaseFault> {
+        push_number(alloc, out, b"differ ", self.differ as u64)?;
+        push_number(alloc, out, b" shots ", self.shots as u64)?;
+        push_number(alloc, out, b" partitions ", self.partitions as u64)?;
+        push_number(alloc, out, b" overlaps ", self.overlaps as u64)
+    }
+}
+
+/// The numbers of `SHOTS PARTITIONS OVERLAPS`.
+fn most_of(alloc: Global, text: &[u8]) -> Result<Compared, CaseFault> {
+    let (shots, partitions, overlaps) = three_words(alloc, text)?;
+    Ok(Compared {
+        shots: number_in(shots)? as usize,
+        differ: 0,
+        partitions: number_in(partitions)? as usize,
+        overlaps: number_in(overlaps)? as usize,
+    })
 }
 
 /// Whether a ray meets of a scene what the plain evaluator says, with the number of partitions.
@@ -102,12 +139,7 @@ fn compare_script(alloc: Global, script: &[u8], compared: &mut Compared) -> Resu
 /// Compares the shots of so many scripts.
 fn compare_scripts(alloc: Global, seed: u64, scripts: u64) -> Result<Compared, CaseFault> {
     let mut state = seed;
-    let mut compared = Compared {
-        shots: 0,
-        differ: 0,
-        partitions: 0,
-        overlaps: 0,
-    };
+    let mut compared = Compared::none();
     for _turn in 0..scripts {
         let script = random_script(alloc, &mut state)?;
         compare_script(alloc, script.as_bytes(), &mut compared)?;
@@ -115,33 +147,15 @@ fn compare_scripts(alloc: Global, seed: u64, scripts: u64) -> Result<Compared, C
     Ok(compared)
 }
 
-/// A number that is at least 0 and below 2^64.
-fn long(number: i128) -> Result<u64, CaseFault> {
-    u64::try_from(number).map_err(|_fault| CaseFault::Number)
-}
-
-/// `compare SEED SCRIPTS SHOTS PARTITIONS OVERLAPS => all alike, enough`: shots of so many random scripts are answered as
+/// `compare SEED SCRIPTS | SHOTS PARTITIONS OVERLAPS => all alike, enough`: shots of so many random scripts are answered as
 /// the plain evaluator says, and there are over SHOTS shots, over PARTITIONS partitions and over OVERLAPS overlaps.
 pub fn answer_compare(alloc: Global, given: &[u8], out: &mut Vec<u8>) -> Result<(), CaseFault> {
-    let numbers = numbers_of(alloc, given)?;
-    let [seed, scripts, most_shots, most_partitions, most_overlaps] = *numbers.as_slice() else {
-        return Err(CaseFault::Line);
-    };
-    let compared = compare_scripts(alloc, long(seed)?, long(scripts)?)?;
-    let Compared {
-        shots,
-        differ,
-        partitions,
-        overlaps,
-    } = compared;
-    let is_enough = shots as i128 > most_shots
-        && partitions as i128 > most_partitions
-        && overlaps as i128 > most_overlaps;
-    if differ == 0 && is_enough {
+    let (made, most) = two_fields(given)?;
+    let (seed, scripts) = two_words(alloc, made)?;
+    let most = most_of(alloc, most)?;
+    let compared = compare_scripts(alloc, long_in(seed)?, long_in(scripts)?)?;
+    if compared.is_more(&most) {
         return push(out, b"all alike, enough");
     }
-    let text = format!(in alloc;
-        "{differ} differ, {shots} shots, {partitions} partitions, {overlaps} overlaps"
-    )?;
-    push(out, text.as_bytes())
+    compared.push_to(alloc, out)
 }

@@ -53,16 +53,6 @@ fn push_name(
     Ok(())
 }
 
-fn push_operator(script: &mut String, state: &mut u64) -> Result<(), CaseFault> {
-    let operator = match pick(state, 4) {
-        0 | 1 => " u",
-        2 => " -",
-        _ => " +",
-    };
-    script.push_str(operator)?;
-    Ok(())
-}
-
 /// Puts in the members of a combination, of which some are not there.
 fn push_members(
     alloc: Global,
@@ -71,7 +61,12 @@ fn push_members(
     members: u64,
 ) -> Result<(), CaseFault> {
     for _i in 0..members {
-        push_operator(script, state)?;
+        let operator = match pick(state, 4) {
+            0 | 1 => " u",
+            2 => " -",
+            _ => " +",
+        };
+        script.push_str(operator)?;
         push_name(alloc, script, state, 7)?;
     }
     Ok(())

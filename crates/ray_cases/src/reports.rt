@@ -4,9 +4,11 @@ ghost use Rattle.std.specs.Prelude.{◌<◌, ◌≤◌, IfOk, IsTrue, All, lengt
 ghost use Rattle.shot_core.specs.Regions.{IsPathText, IsScene};
 
 use crate::positions::read_position;
-use crate::texts::{fields_of, items_of, number_in, push, push_number};
+use crate::texts::{
+    items_of, number_in, number_of, push, push_number, three_fields, three_words, two_words,
+};
 use bool_weave::{MaskNode, MaskTree};
-use case_text::{CaseFault, words_of};
+use case_text::CaseFault;
 use item_list::Items;
 use overlap_list::Hit;
 use region_attr::Rgb;
@@ -42,13 +44,11 @@ fn no_body(alloc: Global) -> Result<PrepRegion, CaseFault> {
 
 /// The region of `PLACE PATH`.
 fn region_of(alloc: Global, item: &[u8]) -> Result<SceneRegion, CaseFault> {
-    let words = words_of(alloc, item)?;
-    let [place, path] = *words.as_slice() else {
-        return Err(CaseFault::Line);
-    };
+    let (place, path) = two_words(alloc, item)?;
+    let place = number_in(place)?;
     let path = Arc::new(alloc, path_of(alloc, path)?)?;
     let body = Arc::new(alloc, no_body(alloc)?)?;
-    Ok(SceneRegion::new(number_in(place)?, path, body))
+    Ok(SceneRegion::new(place, path, body))
 }
 
 /// Whether the places rise from at least 1, and there are few leaves and solids.
@@ -85,10 +85,7 @@ fn scene_of(alloc: Global, list: &[u8]) -> Result<Scene, CaseFault> {
 
 /// The part of a ray of `REGION START END`, REGION being counted from 0. Its hit and its level are not printed.
 fn lit_of(alloc: Global, item: &[u8]) -> Result<Lit, CaseFault> {
-    let words = words_of(alloc, item)?;
-    let [region, start, end] = *words.as_slice() else {
-        return Err(CaseFault::Line);
-    };
+    let (region, start, end) = three_words(alloc, item)?;
     Ok(Lit {
         region: number_in(region)?,
         start: read_position(start)?,
@@ -140,15 +137,9 @@ fn push_report(
 
 /// `report ROOM | PLACE PATH, .. | REGION START END, .. => COUNT lines`, a line feed and the text, or `no room`
 pub fn answer_report(alloc: Global, given: &[u8], out: &mut Vec<u8>) -> Result<(), CaseFault> {
-    let fields = fields_of(alloc, given, b'|')?;
-    let [room, places, list] = *fields.as_slice() else {
-        return Err(CaseFault::Line);
-    };
-    let words = words_of(alloc, room)?;
-    let [room] = *words.as_slice() else {
-        return Err(CaseFault::Line);
-    };
+    let (room, places, list) = three_fields(given)?;
+    let room = number_of(alloc, room)?;
     let scene = scene_of(alloc, places)?;
     let lit = all_lit_of(alloc, list)?;
-    push_report(alloc, &scene, &lit, number_in(room)?, out)
+    push_report(alloc, &scene, &lit, room, out)
 }

@@ -1,7 +1,7 @@
 //! Directories that scripts make. The commands of a script are parted by `;`.
 
 use case_text::{CaseFault, words_of};
-use command_set::{Command, Edit};
+use command_set::Command;
 use directory::Directory;
 use edit_core::apply;
 use item_list::Items;
@@ -24,21 +24,25 @@ pub fn commands_of(alloc: Global, script: &[u8]) -> Result<Items<ScriptCommand>,
 }
 
 /// Does an edit, which is to be accepted.
-pub fn edit(alloc: Global, directory: &mut Directory, edit: &Edit) -> Result<(), CaseFault> {
-    apply(alloc, directory, edit).map_err(|_refusal| CaseFault::Line)
+fn edit(alloc: Global, directory: &mut Directory, command: &Command) -> Result<(), CaseFault> {
+    match command {
+        Command::Edit(edit) => apply(alloc, directory, edit).map_err(|_refusal| CaseFault::Line),
+        _ => Err(CaseFault::Line),
+    }
+}
+
+/// The directory of edits.
+pub fn directory_by(alloc: Global, edits: &[ScriptCommand]) -> Result<Directory, CaseFault> {
+    let mut directory = Directory::new(alloc);
+    for next in edits {
+        edit(alloc, &mut directory, &next.command)?;
+    }
+    Ok(directory)
 }
 
 /// The directory of a script of edits.
 pub fn directory_of(alloc: Global, script: &[u8]) -> Result<Directory, CaseFault> {
-    let mut directory = Directory::new(alloc);
-    for next in commands_of(alloc, script)?.items() {
-        let command: &Command = &next.command;
-        let Command::Edit(one) = command else {
-            return Err(CaseFault::Line);
-        };
-        edit(alloc, &mut directory, one)?;
-    }
-    Ok(directory)
+    directory_by(alloc, commands_of(alloc, script)?.items())
 }
 
 /// The name of a word.

@@ -5,11 +5,11 @@ ghost use Rattle.std.specs.Prelude.{◌≡◌, IfOk, All, length};
 ghost use Rattle.bool_weave.specs.Claims.{intervals_of};
 
 use crate::positions::push_position;
-use crate::texts::{fields_of, items_of, number_in, push, push_comma, push_number, small};
-use crate::trees::{one_leaf, tree_of};
+use crate::texts::{items_of, number_in, push, push_comma, push_number, three_words, two_fields};
+use crate::trees::tree_of;
 use crate::weaves::weave_of;
-use bool_weave::{MaskNode, MaskTree, Weave, claims};
-use case_text::{CaseFault, numbers_of, words_of};
+use bool_weave::{MaskNode, Weave, claims};
+use case_text::{CaseFault, words_of};
 use overlap_list::{CheckFault, Hit, OverlapRun, Partition, RegionClaims, overlaps, settle};
 use std::alloc::Global;
 
@@ -22,25 +22,6 @@ fn leaf_count(nodes: &[MaskNode]) -> u32 {
         }
     }
     count
-}
-
-/// The region of a tree.
-fn claimed_by(
-    alloc: Global,
-    weave: &Weave,
-    air: bool,
-    first: u32,
-    tree: &MaskTree,
-) -> Result<RegionClaims, CaseFault>
-    ensures { IfOk result (λ r. length r.claims ≡ length (intervals_of weave.now)) }
-{
-    let row = claims(alloc, weave, tree, first)?;
-    Ok(RegionClaims {
-        air,
-        first,
-        count: leaf_count(tree.nodes()),
-        claims: row,
-    })
 }
 
 /// Whether a region of that word has air.
@@ -59,8 +40,15 @@ fn region_of(alloc: Global, weave: &Weave, item: &[u8]) -> Result<RegionClaims, 
     let [kind, first, tree @ ..] = words.as_slice() else {
         return Err(CaseFault::Line);
     };
+    let (air, first) = (is_air(*kind)?, number_in(*first)?);
     let tree = tree_of(alloc, tree)?;
-    claimed_by(alloc, weave, is_air(*kind)?, number_in(*first)?, &tree)
+    let row = claims(alloc, weave, &tree, first)?;
+    Ok(RegionClaims {
+        air,
+        first,
+        count: leaf_count(tree.nodes()),
+        claims: row,
+    })
 }
 
 /// What the regions of a list claim of a ray.
@@ -88,23 +76,28 @@ fn push_partition(alloc: Global, one: &Partition, out: &mut Vec<u8>) -> Result<(
     push_hit(alloc, &one.hit, out)
 }
 
-/// `partitions SEGMENTS | REGIONS => rREGION START END iINSTANCE fFACE, ..`
-pub fn answer_partitions(alloc: Global, given: &[u8], out: &mut Vec<u8>) -> Result<(), CaseFault> {
-    let fields = fields_of(alloc, given, b'|')?;
-    let [segments, list] = *fields.as_slice() else {
-        return Err(CaseFault::Line);
-    };
-    let weave = weave_of(alloc, segments)?;
-    let regions = regions_of(alloc, &weave, list)?;
-    if regions.len() > 100 {
-        return Err(CaseFault::Line);
-    }
-    let partitions = settle(alloc, &weave, &regions)?;
+/// Puts in partitions, each as `rREGION START END iINSTANCE fFACE`.
+fn push_partitions(
+    alloc: Global,
+    partitions: &[Partition],
+    out: &mut Vec<u8>,
+) -> Result<(), CaseFault> {
     for (i, one) in partitions.iter().enumerate() {
         push_comma(out, i)?;
         push_partition(alloc, one, out)?;
     }
     Ok(())
+}
+
+/// `partitions SEGMENTS | REGIONS => rREGION START END iINSTANCE fFACE, ..`
+pub fn answer_partitions(alloc: Global, given: &[u8], out: &mut Vec<u8>) -> Result<(), CaseFault> {
+    let (segments, list) = two_fields(given)?;
+    let weave = weave_of(alloc, segments)?;
+    let regions = regions_of(alloc, &weave, list)?;
+    if regions.len() > 10_000 {
+        return Err(CaseFault::Line);
+    }
+    push_partitions(alloc, &settle(alloc, &weave, &regions)?, out)
 }
 
 fn push_run(alloc: Global, run: &OverlapRun, out: &mut Vec<u8>) -> Result<(), CaseFault> {
@@ -115,7 +108,7 @@ fn push_run(alloc: Global, run: &OverlapRun, out: &mut Vec<u8>) -> Result<(), Ca
 }
 
 /// Puts in overlaps, each as `rONE rTWO START END`.
-pub fn push_runs(alloc: Global, runs: &[OverlapRun], out: &mut Vec<u8>) -> Result<(), CaseFault> {
+fn push_runs(alloc: Global, runs: &[OverlapRun], out: &mut Vec<u8>) -> Result<(), CaseFault> {
     for (i, run) in runs.iter().enumerate() {
         push_comma(out, i)?;
         push_run(alloc, run, out)?;
@@ -123,61 +116,56 @@ pub fn push_runs(alloc: Global, runs: &[OverlapRun], out: &mut Vec<u8>) -> Resul
     Ok(())
 }
 
-/// `overlaps SEGMENTS | REGIONS => rONE rTWO START END, ..`
-pub fn answer_overlaps(alloc: Global, given: &[u8], out: &mut Vec<u8>) -> Result<(), CaseFault> {
-    let fields = fields_of(alloc, given, b'|')?;
-    let [segments, list] = *fields.as_slice() else {
-        return Err(CaseFault::Line);
-    };
-    let weave = weave_of(alloc, segments)?;
-    let regions = regions_of(alloc, &weave, list)?;
-    if regions.len() > 100 {
-        return Err(CaseFault::Line);
-    }
-    match overlaps(alloc, &weave, &regions) {
+/// Puts in overlaps, or why they are not listed.
+pub fn push_overlaps(
+    alloc: Global,
+    found: Result<Vec<OverlapRun>, CheckFault>,
+    out: &mut Vec<u8>,
+) -> Result<(), CaseFault> {
+    match found {
         Ok(runs) => push_runs(alloc, &runs, out),
         Err(CheckFault::TooMany) => push(out, b"too many"),
         Err(CheckFault::Memory) => Err(CaseFault::Memory),
     }
 }
 
-/// Puts in that many regions of one instance.
-fn add_regions(
+/// Puts in how many overlaps there are, or why they are not listed.
+fn push_count(
     alloc: Global,
-    weave: &Weave,
-    regions: &mut Vec<RegionClaims>,
-    instance: u32,
-    count: u32,
-) -> Result<(), CaseFault>
-    requires { All (λ r. length r.claims ≡ length (intervals_of weave.now)) regions.old.items }
-    ensures { IfOk result (λ _. All (λ r. length r.claims ≡ length (intervals_of weave.now)) regions.new.items) }
-{
-    let tree = one_leaf(alloc, Some(0))?;
-    for _turn in 0..count {
-        let region = claimed_by(alloc, weave, false, instance, &tree)?;
-        regions.push(region)?;
-    }
-    Ok(())
-}
-
-/// `pairs FRONT BEHIND LONG => COUNT`: how many pairs overlap of so many regions in front, so many behind them, and so many
-/// as long as both together; `too many` where they are not listed.
-pub fn answer_pairs(alloc: Global, given: &[u8], out: &mut Vec<u8>) -> Result<(), CaseFault> {
-    let numbers = numbers_of(alloc, given)?;
-    let [front, behind, long] = *numbers.as_slice() else {
-        return Err(CaseFault::Line);
-    };
-    let weave = weave_of(alloc, b"0 5 15, 1 15 25, 2 5 25")?;
-    let mut regions = Vec::new(alloc);
-    add_regions(alloc, &weave, &mut regions, 0, small(front)?)?;
-    add_regions(alloc, &weave, &mut regions, 1, small(behind)?)?;
-    add_regions(alloc, &weave, &mut regions, 2, small(long)?)?;
-    if regions.len() > 10_000 {
-        return Err(CaseFault::Number);
-    }
-    match overlaps(alloc, &weave, &regions) {
+    found: Result<Vec<OverlapRun>, CheckFault>,
+    out: &mut Vec<u8>,
+) -> Result<(), CaseFault> {
+    match found {
         Ok(runs) => push_number(alloc, out, b"", runs.len() as u64),
         Err(CheckFault::TooMany) => push(out, b"too many"),
         Err(CheckFault::Memory) => Err(CaseFault::Memory),
+    }
+}
+
+/// What is told of overlaps.
+#[derive(Clone, Copy)]
+pub enum Told {
+    Runs,
+    Count,
+}
+
+/// `overlaps SEGMENTS | REGIONS => rONE rTWO START END, ..`, and `pairs SEGMENTS | REGIONS => COUNT`, how many there are;
+/// `too many` where they are not listed.
+pub fn answer_overlaps(
+    alloc: Global,
+    told: Told,
+    given: &[u8],
+    out: &mut Vec<u8>,
+) -> Result<(), CaseFault> {
+    let (segments, list) = two_fields(given)?;
+    let weave = weave_of(alloc, segments)?;
+    let regions = regions_of(alloc, &weave, list)?;
+    if regions.len() > 10_000 {
+        return Err(CaseFault::Line);
+    }
+    let found = overlaps(alloc, &weave, &regions);
+    match told {
+        Told::Runs => push_overlaps(alloc, found, out),
+        Told::Count => push_count(alloc, found, out),
     }
 }

@@ -1,4 +1,4 @@
-//! What the rays of scripts meet. A script makes a directory, and each `nirt` in it shoots a ray.
+//! What the ray of a script meets: its last command is a `nirt`, and those before make the directory.
 
 ghost use Rattle.std.specs.Prelude.{◌≡◌, ◌<◌};
 ghost use Rattle.lattice_core.specs.declared.limit.TheConstants.{WORLD};
@@ -6,8 +6,8 @@ ghost use Rattle.lattice_core.specs.Limits.{IsWithin};
 
 use crate::positions::push_position;
 use crate::scenes::push_fault;
-use crate::scripts::{commands_of, edit};
-use crate::settling::{push_hit, push_runs};
+use crate::scripts::{commands_of, directory_by};
+use crate::settling::{push_hit, push_overlaps};
 use crate::texts::{push, push_comma, push_number};
 use case_text::CaseFault;
 use command_set::{Command, Query, WorldRay};
@@ -15,7 +15,6 @@ use directory::Directory;
 use lattice_core::Ray;
 use memory_core::Memory;
 use name_core::Name;
-use overlap_list::CheckFault;
 use plain_shot::{plain_overlaps, plain_partitions};
 use scene_prep::prepare;
 use shot_core::{Lit, Scene, check_ray, shoot};
@@ -81,23 +80,23 @@ fn push_shot(alloc: Global, scene: &Scene, ray: &Ray, out: &mut Vec<u8>) -> Resu
 fn push_check(alloc: Global, scene: &Scene, ray: &Ray, out: &mut Vec<u8>) -> Result<(), CaseFault>
     requires { IsWithin WORLD ray.now.origin }
 {
-    let runs = match check_ray(alloc, scene, ray) {
-        Ok(runs) => runs,
-        Err(CheckFault::TooMany) => return push(out, b"too many"),
-        Err(CheckFault::Memory) => return Err(CaseFault::Memory),
-    };
+    let found = check_ray(alloc, scene, ray);
     let plain = plain_overlaps(alloc, scene, ray)?;
-    push_runs(alloc, &runs, out)?;
-    if runs.as_slice() != plain.as_slice() {
+    let differ = match &found {
+        Ok(runs) => runs.as_slice() != plain.as_slice(),
+        Err(_) => false,
+    };
+    push_overlaps(alloc, found, out)?;
+    if differ {
         push(out, b" plainly ")?;
-        push_runs(alloc, &plain, out)?;
+        push_overlaps(alloc, Ok(plain), out)?;
     }
     Ok(())
 }
 
 /// What is asked of a ray.
 #[derive(Clone, Copy)]
-enum Asked {
+pub enum Asked {
     Partitions,
     Overlaps,
 }
@@ -121,42 +120,35 @@ fn push_asked(
     }
 }
 
-/// Puts in what is asked of each ray of a script, parted by ` | `.
-fn push_rays(
+/// Puts in what is asked of the ray that a command shoots.
+fn push_ray(
+    alloc: Global,
+    asked: Asked,
+    directory: &Directory,
+    command: &Command,
+    out: &mut Vec<u8>,
+) -> Result<(), CaseFault> {
+    match command {
+        Command::Query(Query::Shot { ray, names }) => {
+            push_asked(alloc, asked, directory, ray, names.items(), out)
+        }
+        _ => Err(CaseFault::Line),
+    }
+}
+
+/// `shoot SCRIPT => rREGION START END iINSTANCE fFACE lLEVEL, ..`: what the ray of the last command meets, by `shoot` and by
+/// the plain evaluator. `check SCRIPT => rONE rTWO START END, ..`: the overlaps on it, by `check_ray` and by the plain
+/// evaluator.
+pub fn answer_ray(
     alloc: Global,
     asked: Asked,
     script: &[u8],
     out: &mut Vec<u8>,
 ) -> Result<(), CaseFault> {
-    let mut directory = Directory::new(alloc);
-    let mut count = 0usize;
-    for next in commands_of(alloc, script)?.items() {
-        let command: &Command = &next.command;
-        match command {
-            Command::Edit(one) => edit(alloc, &mut directory, one)?,
-            Command::Query(Query::Shot { ray, names }) => {
-                if count > 0 {
-                    push(out, b" | ")?;
-                }
-                push_asked(alloc, asked, &directory, ray, names.items(), out)?;
-                count = count.saturating_add(1);
-            }
-            _ => return Err(CaseFault::Line),
-        }
-    }
-    if count == 0 {
+    let commands = commands_of(alloc, script)?;
+    let Some((last, edits)) = commands.items().split_last() else {
         return Err(CaseFault::Line);
-    }
-    Ok(())
-}
-
-/// `shoot SCRIPT => rREGION START END iINSTANCE fFACE lLEVEL, ..`: what the rays of a script meet, by `shoot` and by the plain
-/// evaluator.
-pub fn answer_shoot(alloc: Global, given: &[u8], out: &mut Vec<u8>) -> Result<(), CaseFault> {
-    push_rays(alloc, Asked::Partitions, given, out)
-}
-
-/// `check SCRIPT => rONE rTWO START END, ..`: the overlaps on the rays of a script, by `check_ray` and by the plain evaluator.
-pub fn answer_check(alloc: Global, given: &[u8], out: &mut Vec<u8>) -> Result<(), CaseFault> {
-    push_rays(alloc, Asked::Overlaps, given, out)
+    };
+    let directory = directory_by(alloc, edits)?;
+    push_ray(alloc, asked, &directory, &last.command, out)
 }

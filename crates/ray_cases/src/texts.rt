@@ -9,32 +9,53 @@ pub fn cut(text: &[u8], at: u8) -> Option<(&[u8], &[u8])> {
     Some((&text[..end], &text[end + 1..]))
 }
 
-/// The fields of a text, which are parted by such bytes. There is at least one.
-pub fn fields_of<'a>(alloc: Global, text: &'a [u8], at: u8) -> Result<Vec<&'a [u8]>, CaseFault> {
-    let mut fields = Vec::new(alloc);
-    let mut rest = text;
-    for _turn in 0..text.len() {
-        let Some((field, others)) = cut(rest, at) else {
-            break;
-        };
-        fields.push(field)?;
-        rest = others;
+/// The two fields of a text that `|` parts.
+pub fn two_fields(text: &[u8]) -> Result<(&[u8], &[u8]), CaseFault> {
+    cut(text, b'|').ok_or(CaseFault::Line)
+}
+
+/// The three fields of a text that `|` parts.
+pub fn three_fields(text: &[u8]) -> Result<(&[u8], &[u8], &[u8]), CaseFault> {
+    let (first, rest) = two_fields(text)?;
+    let (second, third) = two_fields(rest)?;
+    Ok((first, second, third))
+}
+
+/// The two words of a text.
+pub fn two_words<'a>(alloc: Global, text: &'a [u8]) -> Result<(&'a [u8], &'a [u8]), CaseFault> {
+    match *words_of(alloc, text)?.as_slice() {
+        [first, second] => Ok((first, second)),
+        _ => Err(CaseFault::Line),
     }
-    fields.push(rest)?;
-    Ok(fields)
+}
+
+/// The three words of a text.
+pub fn three_words<'a>(
+    alloc: Global,
+    text: &'a [u8],
+) -> Result<(&'a [u8], &'a [u8], &'a [u8]), CaseFault> {
+    match *words_of(alloc, text)?.as_slice() {
+        [first, second, third] => Ok((first, second, third)),
+        _ => Err(CaseFault::Line),
+    }
 }
 
 /// The items of a list, which are parted by commas. A text of blanks alone has none.
 pub fn items_of<'a>(alloc: Global, text: &'a [u8]) -> Result<Vec<&'a [u8]>, CaseFault> {
-    if words_of(alloc, text)?.is_empty() {
-        return Ok(Vec::new(alloc));
+    let mut items = Vec::new(alloc);
+    if text.iter().all(|byte| *byte == b' ') {
+        return Ok(items);
     }
-    fields_of(alloc, text, b',')
-}
-
-/// The number below 2^32 that a whole number is.
-pub fn small(number: i128) -> Result<u32, CaseFault> {
-    u32::try_from(number).map_err(|_fault| CaseFault::Number)
+    let mut rest = text;
+    for _turn in 0..text.len() {
+        let Some((item, others)) = cut(rest, b',') else {
+            break;
+        };
+        items.push(item)?;
+        rest = others;
+    }
+    items.push(rest)?;
+    Ok(items)
 }
 
 /// The whole number of a word.
@@ -45,7 +66,20 @@ pub fn whole_in(word: &[u8]) -> Result<i128, CaseFault> {
 
 /// The number below 2^32 of a word.
 pub fn number_in(word: &[u8]) -> Result<u32, CaseFault> {
-    small(whole_in(word)?)
+    u32::try_from(whole_in(word)?).map_err(|_fault| CaseFault::Number)
+}
+
+/// The number below 2^64 of a word.
+pub fn long_in(word: &[u8]) -> Result<u64, CaseFault> {
+    u64::try_from(whole_in(word)?).map_err(|_fault| CaseFault::Number)
+}
+
+/// The one number below 2^32 of a text.
+pub fn number_of(alloc: Global, text: &[u8]) -> Result<u32, CaseFault> {
+    match *words_of(alloc, text)?.as_slice() {
+        [word] => number_in(word),
+        _ => Err(CaseFault::Line),
+    }
 }
 
 /// Puts in a text.

@@ -6,7 +6,7 @@ ghost use Rattle.bool_weave.specs.Masks.{leaf, apply};
 
 use crate::texts::{number_in, push, push_number};
 use bool_weave::{MaskNode, MaskTree};
-use case_text::CaseFault;
+use case_text::{CaseFault, words_of};
 use std::alloc::Global;
 use tree_forms::Op;
 
@@ -81,6 +81,11 @@ pub fn tree_of(alloc: Global, words: &[&[u8]]) -> Result<MaskTree, CaseFault> {
         return Err(CaseFault::Line);
     }
     Ok(tree)
+}
+
+/// The tree of a text.
+pub fn tree_in(alloc: Global, text: &[u8]) -> Result<MaskTree, CaseFault> {
+    tree_of(alloc, &words_of(alloc, text)?)
 }
 
 fn push_node(alloc: Global, node: &MaskNode, out: &mut Vec<u8>) -> Result<(), CaseFault> {

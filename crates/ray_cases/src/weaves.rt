@@ -7,9 +7,9 @@ ghost use Rattle.surd_order.specs.Spelling.{IsSpelled};
 ghost use Rattle.bool_weave.specs.Cuts.{IsSegment};
 
 use crate::positions::{push_position, read_position};
-use crate::texts::{items_of, number_in, push_comma, push_number};
+use crate::texts::{items_of, number_in, push_comma, push_number, three_words};
 use bool_weave::{Weave, Woven};
-use case_text::{CaseFault, words_of};
+use case_text::CaseFault;
 use lattice_core::FAR;
 use std::alloc::Global;
 use surd_order::{Pos, Seg};
@@ -74,17 +74,20 @@ fn add(weave: &mut Weave, instance: u32, start: Pos, end: Pos) -> Result<(), Cas
     Ok(())
 }
 
+/// Weaves in the segment of an item.
+fn add_item(alloc: Global, weave: &mut Weave, item: &[u8]) -> Result<(), CaseFault> {
+    let (instance, start, end) = three_words(alloc, item)?;
+    let instance = number_in(instance)?;
+    let start = read_position(start)?;
+    let end = read_position(end)?;
+    add(weave, instance, start, end)
+}
+
 /// The ray into which the segments of a list are woven.
 pub fn weave_of(alloc: Global, list: &[u8]) -> Result<Weave, CaseFault> {
     let mut weave = Weave::new(alloc)?;
     for item in items_of(alloc, list)? {
-        let words = words_of(alloc, item)?;
-        let [instance, start, end] = *words.as_slice() else {
-            return Err(CaseFault::Line);
-        };
-        let start = read_position(start)?;
-        let end = read_position(end)?;
-        add(&mut weave, number_in(instance)?, start, end)?;
+        add_item(alloc, &mut weave, item)?;
     }
     Ok(weave)
 }

@@ -1,0 +1,3 @@
+mod JoinedNodes
+mod PlacesRise
+mod UnionMade

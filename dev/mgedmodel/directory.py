@@ -50,18 +50,19 @@ class Directory:
         old = self.wanted_comb(name)
         products = self.products(name, old)
         self.refuse_absent(old, members)
-        left = []
+        gone, left = set(members), []
         for product in products:
-            kept = [(op, leaf) for op, leaf in product if leaf.name not in members]
+            kept = [(op, leaf) for op, leaf in product if leaf.name not in gone]
             head = product[0][1].name
-            if kept and head in members:
+            if kept and head in gone:
                 raise Refused(f"heads {head}")
             left += [kept] if kept else []
         self.objects[name] = old._replace(tree=tree_of(left))
 
     def kill(self, names):
         self.refuse_missing(names)
-        self.objects = {name: thing for name, thing in self.objects.items() if name not in names}
+        gone = set(names)
+        self.objects = {name: thing for name, thing in self.objects.items() if name not in gone}
 
     def rename(self, old, new):
         if new in self.objects:

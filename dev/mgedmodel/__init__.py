@@ -1,0 +1,16 @@
+"""A slow evaluator of scripts, written from README.md and docs/COMMANDS.md alone. `dev/model` runs it.
+
+refused     why a command is refused
+words       lines as words, numbers and names
+positions   exact places on a ray
+solids      planes, placements, solids, and the part of a ray in a solid
+trees       boolean trees and the lists that users give
+attributes  the seven attributes of a combination
+directory   the named objects and their edits
+shots       the regions of names, and the partitions of a ray
+lines       which command a line is, or why it is none
+script      the run of a script, its transcript and its status
+
+Each module stands on those above it only. A new command is a reader in `lines` that answers an edit of `directory` or
+a query; a new solid is a class in `solids` and a row in `lines`.
+"""

@@ -1,0 +1,142 @@
+"""Which command a line is, or why it is none: `syntax`, `name W`, `number W`, `view world`, `shape ..`, in this order."""
+
+from collections import namedtuple
+
+from . import attributes
+from .refused import Refused, syntax_unless
+from .shots import shot
+from .solids import DIRECTIONS, Arb8, Half, Ray, Sphere, box_of, placement_of
+from .words import atom, counts_as_atom, name_at, number, number_at, read_words
+
+FARTHEST = 16_384  # of a solid's numbers, and of a shift
+WORLD = 524_288
+ANY_NUMBER = 999_999_999
+OPERATORS = (b"u", b"+", b"-")
+
+# What a line asks for: whether it changes the directory, and what it does to one, which answers the body's lines.
+Command = namedtuple("Command", "is_edit act")
+
+# The count of numbers of each kind of solid, and what makes a solid of them.
+SOLIDS = {
+    b"half": (4, lambda given: Half(tuple(given[:3]), given[3])),
+    b"rpp": (6, box_of),
+    b"arb8": (24, lambda given: Arb8([tuple(given[first : first + 3]) for first in range(0, 24, 3)])),
+    b"sph": (4, lambda given: Sphere(tuple(given[:3]), given[3])),
+}
+
+
+def read_line(line):
+    words, end = read_words(line)
+    reader = READERS.get(atom(words[0]))
+    syntax_unless(reader)
+    return reader(line, words, end)
+
+
+def of_atoms(read):
+    """A reader of a command whose words are all atoms."""
+    return lambda line, words, end: read([atom(word) for word in words])
+
+
+def edit(act):
+    return Command(True, lambda directory: act(directory) or [])
+
+
+def names_from(atoms, *places):
+    return [name_at(atoms, place) for place in places]
+
+
+def read_in(atoms):
+    syntax_unless(len(atoms) > 2 and atoms[2] in SOLIDS)
+    count, make = SOLIDS[atoms[2]]
+    syntax_unless(len(atoms) == 3 + count)
+    name = name_at(atoms, 2)
+    solid = make([number_at(atoms, place, FARTHEST) for place in range(4, 4 + count)])
+    return edit(lambda directory: directory.make(name, solid))
+
+
+def read_r(atoms):
+    syntax_unless(len(atoms) > 3 and len(atoms) % 2 == 0 and all(op in OPERATORS for op in atoms[2::2]))
+    name, *members = names_from(atoms, *range(2, len(atoms) + 1, 2))
+    items = [(op.decode(), member) for op, member in zip(atoms[2::2], members)]
+    return edit(lambda directory: directory.extend(name, items, as_region=True))
+
+
+def read_g(atoms):
+    syntax_unless(len(atoms) > 2)
+    name, *members = names_from(atoms, *range(2, len(atoms) + 1))
+    return edit(lambda directory: directory.extend(name, [("u", member) for member in members], as_region=False))
+
+
+def read_rm(atoms):
+    syntax_unless(len(atoms) > 2)
+    name, *members = names_from(atoms, *range(2, len(atoms) + 1))
+    return edit(lambda directory: directory.remove(name, members))
+
+
+def read_kill(atoms):
+    syntax_unless(len(atoms) > 1)
+    names = names_from(atoms, *range(2, len(atoms) + 1))
+    return edit(lambda directory: directory.kill(names))
+
+
+def read_mvall(atoms):
+    syntax_unless(len(atoms) == 3)
+    old, new = names_from(atoms, 2, 3)
+    return edit(lambda directory: directory.rename(old, new))
+
+
+def read_place(line, words, end):
+    is_group = len(words) == 4 and not counts_as_atom(words[3])
+    atoms = [atom(word) for word in (words[:3] if is_group else words)]
+    matrix = [atom(word) for word in (words[3].words if is_group else words[3:])]
+    syntax_unless(len(atoms) >= 3 and len(matrix) == 16)
+    name, member = names_from(atoms, 2, 3)
+    numbers = [number(text, -ANY_NUMBER, ANY_NUMBER) for text in matrix]
+    if None in numbers:
+        raise Refused(f"number {4 if is_group else 4 + numbers.index(None)}")
+    placement = placement_of(numbers)
+    if placement is None or any(abs(part) > FARTHEST for part in placement.shift):
+        raise Refused("number 4")
+    return edit(lambda directory: directory.place(name, member, placement))
+
+
+def read_cattr(line, words, end):
+    syntax_unless(len(words) > 3)
+    atoms = [atom(word) for word in words[:3]]
+    key = atoms[2].decode("latin-1")
+    syntax_unless(key in attributes.NONE)
+    name = name_at(atoms, 2)
+    is_group = len(words) == 4 and not words[3].is_atom
+    value = attributes.value_of(key, words[3].text if is_group else line[words[3].start : end])
+    if value is None:
+        raise Refused("number 4")
+    return edit(lambda directory: directory.set_attribute(name, key, value))
+
+
+def read_ls(atoms):
+    syntax_unless(len(atoms) == 1)
+    return Command(False, lambda directory: directory.listing())
+
+
+def read_nirt(atoms):
+    syntax_unless(len(atoms) > 5 and atoms[4].decode("latin-1") in DIRECTIONS)
+    names = names_from(atoms, *range(6, len(atoms) + 1))
+    start = tuple(number_at(atoms, place, ANY_NUMBER) for place in (2, 3, 4))
+    if any(abs(part) > WORLD for part in start):
+        raise Refused("view world")
+    ray = Ray(start, DIRECTIONS[atoms[4].decode()])
+    return Command(False, lambda directory: shot(directory, ray, names))
+
+
+READERS = {
+    b"in": of_atoms(read_in),
+    b"r": of_atoms(read_r),
+    b"g": of_atoms(read_g),
+    b"rm": of_atoms(read_rm),
+    b"kill": of_atoms(read_kill),
+    b"mvall": of_atoms(read_mvall),
+    b"place": read_place,
+    b"cattr": read_cattr,
+    b"ls": of_atoms(read_ls),
+    b"nirt": of_atoms(read_nirt),
+}

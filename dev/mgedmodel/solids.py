@@ -1,0 +1,157 @@
+"""Planes, placements, solids, and the part of a ray in a solid."""
+
+from collections import namedtuple
+from fractions import Fraction
+
+from .positions import Position
+from .refused import Refused
+
+RAY_LENGTH = 1_048_576
+DIRECTIONS = {"+x": (1, 0, 0), "-x": (-1, 0, 0), "+y": (0, 1, 0), "-y": (0, -1, 0), "+z": (0, 0, 1), "-z": (0, 0, -1)}
+FACES = ((1, 2, 3, 4), (5, 6, 7, 8), (1, 2, 6, 5), (2, 3, 7, 6), (3, 4, 8, 7), (4, 1, 5, 8))
+
+Ray = namedtuple("Ray", "start along")
+Plane = namedtuple("Plane", "normal d")  # it holds the points p with normal * p at most d
+
+
+def dot(a, b):
+    return sum(x * y for x, y in zip(a, b))
+
+
+def less(a, b):
+    return tuple(x - y for x, y in zip(a, b))
+
+
+def cross(a, b):
+    return (a[1] * b[2] - a[2] * b[1], a[2] * b[0] - a[0] * b[2], a[0] * b[1] - a[1] * b[0])
+
+
+class Placement(namedtuple("Placement", "rows shift")):
+    """A turn of the axes, as the rows of a matrix, and then a shift."""
+
+    def turned(self, vector):
+        return tuple(dot(row, vector) for row in self.rows)
+
+    def placed(self, point):
+        return tuple(x + y for x, y in zip(self.turned(point), self.shift))
+
+    def after(self, lower):
+        """The placement that does what the lower one does and then what this one does."""
+        columns = list(zip(*lower.rows))
+        return Placement(tuple(tuple(dot(row, column) for column in columns) for row in self.rows), self.placed(lower.shift))
+
+
+IDENTITY = Placement(((1, 0, 0), (0, 1, 0), (0, 0, 1)), (0, 0, 0))
+
+
+def placement_of(numbers):
+    """The placement of sixteen numbers, row by row, or None where they are none."""
+    rows = [tuple(numbers[first : first + 4]) for first in (0, 4, 8, 12)]
+    turn, shift = tuple(row[:3] for row in rows[:3]), tuple(row[3] for row in rows[:3])
+    lines = list(turn) + list(zip(*turn))
+    is_turn = all(sorted(map(abs, line)) == [0, 0, 1] for line in lines)
+    return Placement(turn, shift) if is_turn and rows[3] == (0, 0, 0, 1) else None
+
+
+def held_inside(plane):
+    """Whether a plane holds a ray that lies in it."""
+    return next(part for part in plane.normal if part != 0) < 0
+
+
+def part_in_planes(planes, ray):
+    """The start and the end of a ray's part that all planes hold, or None."""
+    start, end = Position(0), Position(RAY_LENGTH)
+    for plane in planes:
+        slope, room = dot(plane.normal, ray.along), plane.d - dot(plane.normal, ray.start)
+        if slope > 0:
+            end = min(end, Position(Fraction(room, slope)))
+        elif slope < 0:
+            start = max(start, Position(Fraction(room, slope)))
+        elif room < 0 or room == 0 and not held_inside(plane):
+            return None
+    return (start, end) if start < end else None
+
+
+class Half:
+    def __init__(self, normal, d):
+        if not any(normal):
+            raise Refused("shape normal")
+        self.plane = Plane(normal, d)
+
+    def part(self, placement, ray):
+        normal = placement.turned(self.plane.normal)
+        return part_in_planes([Plane(normal, self.plane.d + dot(normal, placement.shift))], ray)
+
+
+class Sphere:
+    def __init__(self, centre, radius):
+        if radius < 1:
+            raise Refused("shape radius")
+        self.centre, self.radius = centre, radius
+
+    def part(self, placement, ray):
+        to_centre = less(placement.placed(self.centre), ray.start)
+        nearest = dot(to_centre, ray.along)
+        k = self.radius**2 - (dot(to_centre, to_centre) - nearest**2)
+        if k <= 0:
+            return None
+        start, end = max(Position(0), Position(nearest, -1, k)), min(Position(RAY_LENGTH), Position(nearest, 1, k))
+        return (start, end) if start < end else None
+
+
+class Arb8:
+    def __init__(self, vertices):
+        self.vertices = vertices
+        if all_in_one_plane(vertices):
+            raise Refused("shape flat")
+        for face in range(6):
+            plane = plane_of(vertices, face)
+            if plane is None:
+                continue
+            if any(dot(plane.normal, vertex) != plane.d for vertex in corners_of(vertices, face)):
+                raise Refused(f"shape planar {face + 1}")
+            if any(dot(plane.normal, vertex) > plane.d for vertex in vertices):
+                raise Refused(f"shape convex {face + 1}")
+
+    def part(self, placement, ray):
+        vertices = [placement.placed(vertex) for vertex in self.vertices]
+        planes = [plane for plane in (plane_of(vertices, face) for face in range(6)) if plane]
+        return part_in_planes(planes + box_sides(vertices), ray)
+
+
+def box_of(numbers):
+    """The solid of eight vertices that a box of six numbers is kept as."""
+    (x_min, x_max), (y_min, y_max), (z_min, z_max) = (sorted(numbers[first : first + 2]) for first in (0, 2, 4))
+    around = ((y_min, z_min), (y_max, z_min), (y_max, z_max), (y_min, z_max))
+    return Arb8([(x, y, z) for x in (x_min, x_max) for y, z in around])
+
+
+def all_in_one_plane(points):
+    sides = [less(point, points[0]) for point in points]
+    return not any(dot(cross(a, b), c) for a in sides for b in sides for c in sides)
+
+
+def corners_of(vertices, face):
+    return [vertices[number - 1] for number in FACES[face]]
+
+
+def plane_of(vertices, face):
+    """The plane of a face with its normal away from the other vertices, or None where its corners lie on one line."""
+    a, b, c, d = corners_of(vertices, face)
+    for p, q, r in ((a, b, c), (a, b, d), (a, c, d), (b, c, d)):
+        normal = cross(less(q, p), less(r, p))
+        if any(normal):
+            plane = Plane(normal, dot(normal, p))
+            beyond = any(dot(normal, vertex) > plane.d for vertex in vertices)
+            before = any(dot(normal, vertex) < plane.d for vertex in vertices)
+            return plane if before or not beyond else Plane(tuple(-part for part in normal), -plane.d)
+    return None
+
+
+def box_sides(vertices):
+    sides = []
+    for axis in range(3):
+        unit = tuple(int(axis == other) for other in range(3))
+        along = [vertex[axis] for vertex in vertices]
+        sides += [Plane(unit, max(along)), Plane(tuple(-part for part in unit), -min(along))]
+    return sides

@@ -14,6 +14,3 @@ pub use laws::{claim_laws, cut_laws};
 pub use mask::{MaskNode, MaskTree};
 pub use place::place_in;
 pub use woven::{Weave, Woven};
-
-#[cfg(test)]
-mod tests;

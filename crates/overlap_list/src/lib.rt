@@ -13,6 +13,3 @@ pub use laws::{overlap_laws, partition_laws};
 pub use overlap::{CheckFault, MOST_PAIRS, OverlapRun, overlaps};
 pub use partition::{Partition, settle};
 pub use region::RegionClaims;
-
-#[cfg(test)]
-mod tests;

@@ -16,6 +16,3 @@ mod winner;
 
 pub use overlap::plain_overlaps;
 pub use partition::plain_partitions;
-
-#[cfg(test)]
-mod tests;

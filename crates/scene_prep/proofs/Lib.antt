@@ -8,7 +8,6 @@ mod Numbers
 mod Parts
 mod PathLines
 mod Placements
-mod SampleLemmas
 mod Scening
 mod Settling
 mod Sizing

@@ -10,5 +10,4 @@ pub mod Writing
 pub mod Walking
 pub mod Outcomes
 pub mod Laws
-pub mod UnionLess
 pub mod Examples

@@ -18,8 +18,3 @@ pub use fault::PrepFault;
 pub use laws::region_laws;
 pub use preparing::prepare;
 pub use size::MOST_SIZE;
-
-#[cfg(test)]
-mod samples;
-#[cfg(test)]
-mod tests;

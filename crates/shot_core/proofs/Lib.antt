@@ -9,4 +9,3 @@ pub mod Weaving
 pub mod Claiming
 pub mod PickingOverlaps
 pub mod Shooting
-pub mod TestScenes

@@ -14,6 +14,3 @@ pub use limit::MOST_LEAVES;
 pub use region::{PathText, PrepRegion, SceneRegion};
 pub use scene::Scene;
 pub use shot::{Lit, check_ray, shoot};
-
-#[cfg(test)]
-mod tests;

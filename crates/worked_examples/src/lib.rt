@@ -5,8 +5,6 @@
 #[cfg(test)]
 mod commands;
 #[cfg(test)]
-mod comparing;
-#[cfg(test)]
 mod edits;
 #[cfg(test)]
 mod faults;

@@ -19,7 +19,7 @@ use shot_core::{Scene, check_ray};
 use std::alloc::Global;
 
 /// How many shots were compared, how many of these differ, and what they met.
-#[derive(Clone, Copy, Debug, PartialEq, Eq)]
+#[derive(Drop)]
 struct Compared {
     shots: usize,
     differ: usize,

@@ -3,7 +3,7 @@
 ghost use Rattle.std.specs.Prelude.{IfOk};
 ghost use Rattle.surd_order.specs.Spelling.{IsSpelled};
 
-use crate::texts::{cut, push, whole_in};
+use crate::texts::{cut, long_in, push, whole_in};
 use case_text::CaseFault;
 use surd_order::{Pos, PosText};
 
@@ -28,12 +28,11 @@ fn read_fraction(text: &[u8]) -> Result<Pos, CaseFault>
 fn read_root(whole: &[u8], plus: bool, under: &[u8]) -> Result<Pos, CaseFault>
     ensures { IfOk result IsSpelled }
 {
-    let a = i64::try_from(whole_in(whole)?).map_err(|_fault| CaseFault::Number)?;
-    let k = u64::try_from(whole_in(under)?).map_err(|_fault| CaseFault::Number)?;
-    if a.unsigned_abs() >= 1 << 62 {
-        return Err(CaseFault::Number);
+    let k = long_in(under)?;
+    match i64::try_from(whole_in(whole)?) {
+        Ok(a) if a.unsigned_abs() < 1 << 62 => Ok(Pos::surd(a, plus, k)),
+        _ => Err(CaseFault::Number),
     }
-    Ok(Pos::surd(a, plus, k))
 }
 
 /// The position of a word.

@@ -20,14 +20,20 @@ pub fn commands_of(alloc: Global, script: &[u8]) -> Result<Items<ScriptCommand>,
     if text.len() > SCRIPT_SIZE {
         return Err(CaseFault::Line);
     }
-    read_script(alloc, &text).map_err(|_fault| CaseFault::Line)
+    match read_script(alloc, &text) {
+        Ok(commands) => Ok(commands),
+        Err(_) => Err(CaseFault::Line),
+    }
 }
 
 /// Does an edit, which is to be accepted.
 fn edit(alloc: Global, directory: &mut Directory, command: &Command) -> Result<(), CaseFault> {
-    match command {
-        Command::Edit(edit) => apply(alloc, directory, edit).map_err(|_refusal| CaseFault::Line),
-        _ => Err(CaseFault::Line),
+    let Command::Edit(edit) = command else {
+        return Err(CaseFault::Line);
+    };
+    match apply(alloc, directory, edit) {
+        Ok(()) => Ok(()),
+        Err(_) => Err(CaseFault::Line),
     }
 }
 
@@ -47,7 +53,10 @@ pub fn directory_of(alloc: Global, script: &[u8]) -> Result<Directory, CaseFault
 
 /// The name of a word.
 pub fn name_of(word: &[u8]) -> Result<Name, CaseFault> {
-    Name::read(word).map_err(|_fault| CaseFault::Line)
+    match Name::read(word) {
+        Ok(name) => Ok(name),
+        Err(_) => Err(CaseFault::Line),
+    }
 }
 
 /// The names of a list of words.

@@ -43,7 +43,7 @@ pub fn three_words<'a>(
 /// The items of a list, which are parted by commas. A text of blanks alone has none.
 pub fn items_of<'a>(alloc: Global, text: &'a [u8]) -> Result<Vec<&'a [u8]>, CaseFault> {
     let mut items = Vec::new(alloc);
-    if text.iter().all(|byte| *byte == b' ') {
+    if words_of(alloc, text)?.is_empty() {
         return Ok(items);
     }
     let mut rest = text;
@@ -60,18 +60,29 @@ pub fn items_of<'a>(alloc: Global, text: &'a [u8]) -> Result<Vec<&'a [u8]>, Case
 
 /// The whole number of a word.
 pub fn whole_in(word: &[u8]) -> Result<i128, CaseFault> {
-    let digits = str::from_utf8(word).map_err(|_fault| CaseFault::Number)?;
-    digits.parse::<i128>().map_err(|_fault| CaseFault::Number)
+    let Ok(digits) = str::from_utf8(word) else {
+        return Err(CaseFault::Number);
+    };
+    match digits.parse::<i128>() {
+        Ok(number) => Ok(number),
+        Err(_) => Err(CaseFault::Number),
+    }
 }
 
 /// The number below 2^32 of a word.
 pub fn number_in(word: &[u8]) -> Result<u32, CaseFault> {
-    u32::try_from(whole_in(word)?).map_err(|_fault| CaseFault::Number)
+    match u32::try_from(whole_in(word)?) {
+        Ok(number) => Ok(number),
+        Err(_) => Err(CaseFault::Number),
+    }
 }
 
 /// The number below 2^64 of a word.
 pub fn long_in(word: &[u8]) -> Result<u64, CaseFault> {
-    u64::try_from(whole_in(word)?).map_err(|_fault| CaseFault::Number)
+    match u64::try_from(whole_in(word)?) {
+        Ok(number) => Ok(number),
+        Err(_) => Err(CaseFault::Number),
+    }
 }
 
 /// The one number below 2^32 of a text.

@@ -1,10 +1,9 @@
-use Rattle.std.proofs.Common.{◌≡◌, ◌∙◌, ◌∷◌, ◌++◌, [], Some, List, ap, sym, subst}
+use Rattle.std.proofs.Common.{◌∙◌, ◌∷◌, ◌++◌, [], List, ap, sym, subst}
 use Rattle.lattice_core.specs.declared.limit.TheConstants.{COORD}
 use Rattle.lattice_core.specs.Limits.{IsWithin}
 use Rattle.comb_tree.specs.declared.node.CombNode.{CombNode}
 use Rattle.comb_tree.specs.declared.node.CombNode.TheVariants.{Leaf, U, Minus}
-use Rattle.comb_tree.specs.Nodes.{Member, comb_nodes}
-use Rattle.ray_cases.specs.UnionLess.{union_less}
+use Rattle.comb_tree.specs.Nodes.{Member}
 use Rattle.ray_cases.proofs.UnionMade.{zero_within}
 use Rattle.ray_cases.proofs.scenes.nodes_of.Goals as goal
 

@@ -1,0 +1,259 @@
+-- Solids by their keys and numbers.
+use Rattle.std.proofs.Common.{All, ◌≡◌, ◌<◌, ◌≤◌, ◌+◌, ◌++◌, ◌∷◌, [], ◌&&◌, ◌==◌, ◌∙◌, ℕ, ℤ, Bool, true, false, not, cond, find, nat_le, List, get_or, length, take, drop, map, zero, suc, Option, Some, None, is_some, Result, length-append, length-take-le, append_assoc, arith, ap, sym, refl, subst, eqb-true}
+use Rattle.std.specs.List.{list_all}
+use Rattle.std.specs.Option.{option_map}
+use Rattle.std.specs.Int.RustNames.{unsigned_abs}
+use Rattle.std.proofs.lemmas.Int.{ints}
+use Rattle.std.proofs.lemmas.Bool.{leb-true}
+use Rattle.std.proofs.lemmas.List.{length-map}
+use Rattle.std.proofs.lemmas.List.Elements.{All-append}
+use Rattle.lattice_core.specs.declared.vector.V3.{V3}
+use Rattle.plane_geom.specs.declared.fault.ShapeFault.{ShapeFault}
+use Rattle.solid_set.specs.Rpps.{vector, rpp_vertices}
+use Rattle.solid_set.specs.declared.solid.Solid.{Solid}
+use Rattle.tcl_words.specs.Numbers.{number_of}
+use Rattle.tcl_words.specs.TopWords.{atom_of}
+use Rattle.tcl_words.specs.declared.token.Token.{Token}
+use Rattle.tcl_words.specs.declared.token.Word.{Word}
+use Rattle.word_values.specs.Atoms.{words_in, kept_to, solid_number}
+use Rattle.word_values.specs.Solids.{number_count, solid_made, half_made, sphere_made, arb8_made}
+use Rattle.word_values.specs.Solids as made
+use Rattle.word_values.specs.declared.solid.SolidKind.{SolidKind}
+use Rattle.word_values.specs.declared.solid.SolidKind.TheVariants as kinds
+use Rattle.put_form.specs.Kinds.{Key, keys_of, made_as}
+use Rattle.put_form.specs.Pairs.{Pair, pair_of}
+use Rattle.std.specs.Str.{bytes_eq}
+use Rattle.put_form.specs.Solids.{key_in, of_count, single, value_atoms, value_numbers, numbers_at, key_numbers, appended, all_numbers, numbers_of, pair_numbers, radius_in, is_good, bad_pair}
+use Rattle.put_form.specs.Solids as solids
+use Rattle.put_form.specs.Puts.{Put, unless_fault, name_fault, number_fault, solid_put, solid_of, solid_with}
+use Rattle.put_form.specs.Steps.{IsPutRead, word_of, word_fault}
+use Rattle.put_form.specs.SolidSteps.{key_at, has_axis, IsNear, or_zero, named_solid}
+use Rattle.put_form.specs.SolidSteps as steps
+use Rattle.put_form.specs.declared.kind.SolidForm.{SolidForm}
+use Rattle.put_form.specs.declared.kind.SolidForm.TheVariants.{Sphere, Ellipsoid, Half, Arb8}
+use Rattle.put_form.proofs.ListLaws.{all_none, all_mapped, found_here, found_end}
+
+-- the keys from a place on
+pub keys_more : (form : SolidForm) (i : ℕ) → i < length (keys_of form) → drop i (keys_of form) ≡ key_at form i ∷ drop (i + 1) (keys_of form)
+keys_more Sphere zero lt = refl
+keys_more Sphere (suc zero) lt = refl
+keys_more Sphere (suc (suc i)) lt = absurd (omega (arith, lt))
+keys_more Half zero lt = refl
+keys_more Half (suc zero) lt = refl
+keys_more Half (suc (suc i)) lt = absurd (omega (arith, lt))
+keys_more Ellipsoid zero lt = refl
+keys_more Ellipsoid (suc zero) lt = refl
+keys_more Ellipsoid (suc (suc zero)) lt = refl
+keys_more Ellipsoid (suc (suc (suc zero))) lt = refl
+keys_more Ellipsoid (suc (suc (suc (suc i)))) lt = absurd (omega (arith, lt))
+keys_more Arb8 zero lt = refl
+keys_more Arb8 (suc zero) lt = refl
+keys_more Arb8 (suc (suc zero)) lt = refl
+keys_more Arb8 (suc (suc (suc zero))) lt = refl
+keys_more Arb8 (suc (suc (suc (suc zero)))) lt = refl
+keys_more Arb8 (suc (suc (suc (suc (suc zero))))) lt = refl
+keys_more Arb8 (suc (suc (suc (suc (suc (suc zero)))))) lt = refl
+keys_more Arb8 (suc (suc (suc (suc (suc (suc (suc zero))))))) lt = refl
+keys_more Arb8 (suc (suc (suc (suc (suc (suc (suc (suc i)))))))) lt = absurd (omega (arith, lt))
+
+-- the numbers of one key more
+appended_assoc : (done found : List (Option ℤ)) (rest : Option (List (Option ℤ))) → appended (Some (done ++ found)) rest ≡ appended (Some done) (appended (Some found) rest)
+appended_assoc done found None = refl
+appended_assoc done found (Some rest) = ap (λ (xs : List (Option ℤ)). Some xs) (append_assoc done found rest)
+
+pub numbers_more : (text : List ℕ) (tokens : List Token) (pairs : List Pair) (form : SolidForm) (i : ℕ) (done found : List (Option ℤ)) → i < length (keys_of form)
+    → Some found ≡ key_numbers text tokens pairs (key_at form i)
+    → appended (Some (done ++ found)) (all_numbers text tokens pairs (drop (i + 1) (keys_of form))) ≡ appended (Some done) (all_numbers text tokens pairs (drop i (keys_of form)))
+numbers_more text tokens pairs form i done found lt is =
+    let rest : Option (List (Option ℤ)) = all_numbers text tokens pairs (drop (i + 1) (keys_of form)) in
+    appended_assoc done found rest ∙ ap (λ (o : Option (List (Option ℤ))). appended (Some done) (appended o rest)) is
+    ∙ sym (ap (λ (keys : List Key). appended (Some done) (all_numbers text tokens pairs keys)) (keys_more form i lt))
+
+pub numbers_missing : (text : List ℕ) (tokens : List Token) (pairs : List Pair) (form : SolidForm) (i : ℕ) (done : List (Option ℤ)) → i < length (keys_of form)
+    → None ≡ key_numbers text tokens pairs (key_at form i)
+    → None ≡ appended (Some done) (all_numbers text tokens pairs (drop i (keys_of form)))
+numbers_missing text tokens pairs form i done lt is =
+    let rest : Option (List (Option ℤ)) = all_numbers text tokens pairs (drop (i + 1) (keys_of form)) in
+    ap (λ (o : Option (List (Option ℤ))). appended (Some done) (appended o rest)) is
+    ∙ sym (ap (λ (keys : List Key). appended (Some done) (all_numbers text tokens pairs keys)) (keys_more form i lt))
+
+-- how many numbers there are
+counted : (count : ℕ) (atoms found : List (List ℕ)) (t : Bool) → (length atoms == count) ≡ t → cond t (Some atoms) None ≡ Some found → length found ≡ count
+counted count atoms found true e h = let same : atoms ≡ found = cc in sym (ap length same) ∙ eqb-true (length atoms) count e
+counted count atoms found false e h = absurd cc
+
+of_counted : (count : ℕ) (o : Option (List (List ℕ))) (found : List (List ℕ)) → of_count count o ≡ Some found → length found ≡ count
+of_counted count None found h = absurd cc
+of_counted count (Some atoms) found h = counted count atoms found (length atoms == count) refl h
+
+single_one : (o : Option (List ℕ)) (found : List (List ℕ)) → single o ≡ Some found → length found ≡ 1
+single_one None found h = absurd cc
+single_one (Some atom) found h = let same : atom ∷ [] ≡ found = cc in sym (ap length same)
+
+atoms_by : (count : ℕ) (t : Bool) (atom : Option (List ℕ)) (group : Option (List (List ℕ))) (found : List (List ℕ)) → (count == 1) ≡ t → cond t (single atom) (of_count count group) ≡ Some found → length found ≡ count
+atoms_by count true atom group found e h = single_one atom found h ∙ sym (eqb-true count 1 e)
+atoms_by count false atom group found e h = of_counted count group found h
+
+mapped_some : (o : Option (List (List ℕ))) (found : List (Option ℤ)) → option_map (λ atoms. map solid_number atoms) o ≡ Some found → (atoms : List (List ℕ)) × (o ≡ Some atoms) × (map solid_number atoms ≡ found)
+mapped_some None found h = absurd cc
+mapped_some (Some atoms) found h = (atoms, refl, cc)
+
+near_kept : (o : Option ℤ) → IsNear (kept_to 16384 o)
+near_kept None = tt
+near_kept (Some n) = by (nat_le (unsigned_abs n) 16384) refl
+  where
+    by : (t : Bool) → nat_le (unsigned_abs n) 16384 ≡ t → IsNear (cond t (Some n) None)
+    by true e = let small : unsigned_abs n ≤ 16384 = leb-true (unsigned_abs n) 16384 e in (omega (arith, ints, small), omega (arith, ints, small))
+    by false e = tt
+
+near_number : (atom : List ℕ) → IsNear (solid_number atom)
+near_number atom = near_kept (number_of atom)
+
+record Fits (room : ℕ) (numbers : List (Option ℤ)) : Type 0 where
+  pub count : length numbers ≡ room
+  pub near : All IsNear numbers
+
+value_fits : (text : List ℕ) (tokens : List Token) (count : ℕ) (value : Word) (found : List (Option ℤ)) → value_numbers text tokens count value ≡ Some found → Fits count found
+value_fits text tokens count value found h =
+    let m = mapped_some (value_atoms text tokens count value) found h in
+    let len : length m.0 ≡ count = atoms_by count (count == 1) (atom_of text tokens value) (words_in text tokens value) m.0 refl m.1 in
+    record {
+      count = sym (ap length m.2) ∙ length-map m.0 solid_number ∙ len;
+      near = subst (All IsNear) m.2 (all_mapped IsNear solid_number m.0 (λ i d lt. near_number (get_or m.0 i d)));
+    }
+
+key_fits : (text : List ℕ) (tokens : List Token) (count : ℕ) (o : Option Pair) (found : List (Option ℤ)) → numbers_at text tokens count o ≡ Some found → Fits count found
+key_fits text tokens count None found h = absurd cc
+key_fits text tokens count (Some p) found h = value_fits text tokens count p.value found h
+
+abbrev total : List Key → ℕ
+total [] = 0
+total (key ∷ keys) = key.count + total keys
+
+joined_some : (a b : Option (List (Option ℤ))) (found : List (Option ℤ)) → appended a b ≡ Some found
+    → (x : List (Option ℤ)) × (y : List (Option ℤ)) × (a ≡ Some x) × (b ≡ Some y) × (x ++ y ≡ found)
+joined_some None b found h = absurd cc
+joined_some (Some x) None found h = absurd cc
+joined_some (Some x) (Some y) found h = (x, y, refl, refl, cc)
+
+all_fit : (text : List ℕ) (tokens : List Token) (pairs : List Pair) (keys : List Key) (found : List (Option ℤ)) → all_numbers text tokens pairs keys ≡ Some found → Fits (total keys) found
+all_fit text tokens pairs [] found h = let same : [] ≡ found = cc in subst (Fits 0) same (record { count = refl; near = all_none IsNear })
+all_fit text tokens pairs (key ∷ keys) found h =
+    let j = joined_some (key_numbers text tokens pairs key) (all_numbers text tokens pairs keys) found h in
+    let first = key_fits text tokens key.count (pair_of key.name pairs) j.0 j.2 in
+    let rest = all_fit text tokens pairs keys j.1 j.3 in
+    subst (Fits (total (key ∷ keys))) j.4 (record {
+      count = omega (arith, length-append j.0 j.1, first.count, rest.count);
+      near = All-append IsNear j.0 j.1 first.near rest.near;
+    })
+
+enough : (form : SolidForm) → number_count (made_as form) ≤ total (keys_of form)
+enough Sphere = omega arith
+enough Ellipsoid = omega arith
+enough Half = omega arith
+enough Arb8 = omega arith
+
+numbers_if : (t : Bool) (o : Option (List (Option ℤ))) (found : List (Option ℤ)) → cond t o None ≡ Some found → o ≡ Some found
+numbers_if true o found h = h
+numbers_if false o found h = absurd cc
+
+numbers_fit : (text : List ℕ) (tokens : List Token) (form : SolidForm) (pairs : List Pair) (found : List (Option ℤ)) → numbers_of text tokens form pairs ≡ Some found → Fits (total (keys_of form)) found
+numbers_fit text tokens form pairs found h =
+    all_fit text tokens pairs (keys_of form) found (numbers_if (length pairs == length (keys_of form)) (all_numbers text tokens pairs (keys_of form)) found h)
+
+pub numbers_enough : (text : List ℕ) (tokens : List Token) (form : SolidForm) (pairs : List Pair) (found : List (Option ℤ)) → numbers_of text tokens form pairs ≡ Some found
+    → number_count (made_as form) ≤ length found
+numbers_enough text tokens form pairs found h = omega (arith, enough form, (numbers_fit text tokens form pairs found h).count)
+
+pub numbers_near : (text : List ℕ) (tokens : List Token) (form : SolidForm) (pairs : List Pair) (found : List (Option ℤ)) → numbers_of text tokens form pairs ≡ Some found → All IsNear found
+numbers_near text tokens form pairs found h = (numbers_fit text tokens form pairs found h).near
+
+-- the first bad pair, by the radius
+axis_same : (text : List ℕ) (tokens : List Token) (form : SolidForm) (pairs : List Pair) (p : Pair) → has_axis form p.key (radius_in text tokens pairs) (pair_numbers text tokens form p) ≡ solids.has_axis form text tokens pairs p
+axis_same text tokens Sphere pairs p = refl
+axis_same text tokens Ellipsoid pairs p = refl
+axis_same text tokens Half pairs p = refl
+axis_same text tokens Arb8 pairs p = refl
+
+good_same : (text : List ℕ) (tokens : List Token) (form : SolidForm) (pairs : List Pair) (p : Pair) → steps.is_good text tokens form (radius_in text tokens pairs) p ≡ is_good text tokens form pairs p
+good_same text tokens form pairs p = ap (λ b. list_all is_some (pair_numbers text tokens form p) && b) (axis_same text tokens form pairs p)
+
+pub bad_same : (text : List ℕ) (tokens : List Token) (form : SolidForm) (pairs : List Pair) → find (λ p. not (steps.is_good text tokens form (radius_in text tokens pairs) p)) pairs ≡ bad_pair text tokens form pairs
+bad_same text tokens form pairs = λ i. find (λ p. not (good_same text tokens form pairs p i)) pairs
+
+bad_from : (text : List ℕ) (tokens : List Token) (form : SolidForm) (pairs : List Pair) (r : Option ℤ) (i : ℕ) → r ≡ radius_in text tokens pairs
+    → find (λ p. not (steps.is_good text tokens form r p)) (drop i pairs) ≡ find (λ p. not (steps.is_good text tokens form r p)) pairs
+    → find (λ p. not (steps.is_good text tokens form r p)) (drop i pairs) ≡ bad_pair text tokens form pairs
+bad_from text tokens form pairs r i is h = h ∙ ap (λ (s : Option ℤ). find (λ p. not (steps.is_good text tokens form s p)) pairs) is ∙ bad_same text tokens form pairs
+
+pub bad_found : (text : List ℕ) (tokens : List Token) (form : SolidForm) (pairs : List Pair) (r : Option ℤ) (i : ℕ) (p : Pair) → r ≡ radius_in text tokens pairs
+    → find (λ p. not (steps.is_good text tokens form r p)) (drop i pairs) ≡ find (λ p. not (steps.is_good text tokens form r p)) pairs
+    → i < length pairs → p ≡ get_or pairs i p → steps.is_good text tokens form r p ≡ false → Some p.place ≡ word_of (bad_pair text tokens form pairs)
+bad_found text tokens form pairs r i p is h lt at bad =
+    let here : find (λ p. not (steps.is_good text tokens form r p)) (drop i pairs) ≡ Some p =
+    found_here (λ p. not (steps.is_good text tokens form r p)) pairs i p lt (ap (λ (q : Pair). not (steps.is_good text tokens form r q)) (sym at) ∙ ap not bad) ∙ ap (λ (q : Pair). Some q) (sym at) in
+    ap word_of (sym here ∙ bad_from text tokens form pairs r i is h)
+
+pub bad_none : (text : List ℕ) (tokens : List Token) (form : SolidForm) (pairs : List Pair) (r : Option ℤ) (i : ℕ) → r ≡ radius_in text tokens pairs
+    → find (λ p. not (steps.is_good text tokens form r p)) (drop i pairs) ≡ find (λ p. not (steps.is_good text tokens form r p)) pairs
+    → length pairs ≤ i → None ≡ word_of (bad_pair text tokens form pairs)
+bad_none text tokens form pairs r i is h le = ap word_of (sym (found_end (λ p. not (steps.is_good text tokens form r p)) pairs i le) ∙ bad_from text tokens form pairs r i is h)
+
+-- a number that is none counts as 0
+nth_same : (numbers : List (Option ℤ)) (i : ℕ) → made.nth_number (map (λ (n : ℤ). Some n) (map or_zero numbers)) i ≡ made.nth_number numbers i
+nth_same [] i = refl
+nth_same (x ∷ xs) zero = refl
+nth_same (x ∷ xs) (suc i) = nth_same xs i
+
+abbrev vector_by : (ℕ → ℤ) → ℕ → V3
+vector_by at i = vector (at i) (at (i + 1)) (at (i + 2))
+
+abbrev made_by : SolidKind → (ℕ → ℤ) → Result Solid ShapeFault
+made_by kinds.Half at = half_made (vector_by at 0) (at 3)
+made_by kinds.Rpp at = arb8_made (rpp_vertices (at 0) (at 1) (at 2) (at 3) (at 4) (at 5))
+made_by kinds.Arb8 at =
+    arb8_made (vector_by at 0 ∷ vector_by at 3 ∷ vector_by at 6 ∷ vector_by at 9 ∷ vector_by at 12 ∷ vector_by at 15 ∷ vector_by at 18 ∷ vector_by at 21 ∷ [])
+made_by kinds.Sphere at = sphere_made (vector_by at 0) (at 3)
+
+by_places : (kind : SolidKind) (numbers : List (Option ℤ)) → solid_made kind numbers ≡ made_by kind (made.nth_number numbers)
+by_places kinds.Half numbers = refl
+by_places kinds.Rpp numbers = refl
+by_places kinds.Arb8 numbers = refl
+by_places kinds.Sphere numbers = refl
+
+pub zeros_made : (kind : SolidKind) (numbers : List (Option ℤ)) → solid_made kind (map (λ (n : ℤ). Some n) (map or_zero numbers)) ≡ solid_made kind numbers
+zeros_made kind numbers =
+    let both : made.nth_number (map (λ (n : ℤ). Some n) (map or_zero numbers)) ≡ made.nth_number numbers = λ i k. nth_same numbers k i in
+    by_places kind (map (λ (n : ℤ). Some n) (map or_zero numbers)) ∙ ap (made_by kind) both ∙ sym (by_places kind numbers)
+
+pub filled : (kind : SolidKind) (numbers : List (Option ℤ)) (whole : List ℤ) (count : ℕ) → count ≡ number_count kind → count ≤ length numbers
+    → take (length (take count numbers)) whole ≡ map or_zero (take count numbers)
+    → solid_made kind (map (λ (n : ℤ). Some n) (take count whole)) ≡ solid_made kind (take (number_count kind) numbers)
+filled kind numbers whole count is le h =
+    let len : length (take count numbers) ≡ count = length-take-le count numbers le in
+    ap (λ n. solid_made kind (map (λ (n : ℤ). Some n) (take n whole))) (sym len) ∙ ap (λ (xs : List ℤ). solid_made kind (map (λ (n : ℤ). Some n) xs)) h
+    ∙ zeros_made kind (take count numbers) ∙ ap (λ n. solid_made kind (take n numbers)) is
+
+-- the numbers that were found, and the first bad word
+fault_same : (o : Option Pair) → number_fault o ≡ word_fault (word_of o)
+fault_same None = refl
+fault_same (Some p) = refl
+
+pub solid_read : (r : Put) (text : List ℕ) (tokens : List Token) (form : SolidForm) (name : Option (List ℕ)) (pairs : List Pair) (numbers : List (Option ℤ)) (bad : Option ℕ)
+    → Some numbers ≡ numbers_of text tokens form pairs → bad ≡ word_of (bad_pair text tokens form pairs) → IsPutRead r (named_solid name form numbers bad) → IsPutRead r (solid_of text tokens form name pairs)
+solid_read r text tokens form name pairs numbers bad is at h =
+    let made : Put = solid_put name (solid_made (made_as form) (take (number_count (made_as form)) numbers)) in
+    let same : solid_of text tokens form name pairs ≡ named_solid name form numbers bad =
+    ap (solid_with text tokens form name pairs) (sym is) ∙ ap (λ f. unless_fault (name_fault name ∷ f ∷ []) made) (fault_same (bad_pair text tokens form pairs) ∙ ap word_fault (sym at)) in
+    subst (IsPutRead r) (sym same) h
+
+-- a key of another name
+other_by : (t : Bool) (key : Key) (rest : Option Key) → t ≡ false → cond t (Some key) rest ≡ rest
+other_by true key rest e = absurd cc
+other_by false key rest e = refl
+
+pub other_key : (form : SolidForm) (i : ℕ) (name : List ℕ) → i < length (keys_of form) → bytes_eq (key_at form i).name name ≡ false
+    → key_in (drop (i + 1) (keys_of form)) (Some name) ≡ key_in (drop i (keys_of form)) (Some name)
+other_key form i name lt other =
+    sym (ap (λ (keys : List Key). key_in keys (Some name)) (keys_more form i lt)
+    ∙ other_by (bytes_eq (key_at form i).name name) (key_at form i) (key_in (drop (i + 1) (keys_of form)) (Some name)) other)

@@ -1,0 +1,14 @@
+use Rattle.std.proofs.Common.{◌≡◌, ◌∙◌, ℤ, Some, map, take, ap, arith}
+use Rattle.word_values.specs.Solids.{number_count, solid_made}
+use Rattle.word_values.specs.declared.solid.SolidKind.{SolidKind}
+use Rattle.put_form.specs.Kinds.{made_as}
+use Rattle.put_form.proofs.SolidLaws.{filled}
+use Rattle.put_form.proofs.solid.make_solid.Goals as goal
+
+pub returns : goal.returns
+returns c =
+    let kind : c.made_as-kind.result ≡ made_as c.args.form = c.made_as-kind.ensures in
+    let count = c.number_count-count.ensures.exact ∙ ap number_count kind in
+    c.make.ensures
+    ∙ ap (λ (k : SolidKind). solid_made k (map (λ (n : ℤ). Some n) (take c.number_count-count.result c.whole_numbers-numbers.result))) kind
+    ∙ filled (made_as c.args.form) c.args.numbers.now c.whole_numbers-numbers.result c.number_count-count.result count (omega (arith, count, c.requires.count)) c.whole_numbers-numbers.ensures.numbers

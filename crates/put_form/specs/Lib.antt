@@ -1,0 +1,14 @@
+pub mod Pairs
+pub mod Kinds
+pub mod Solids
+pub mod Combs
+pub mod Puts
+pub mod Keeps
+pub mod Steps
+pub mod KeepSteps
+pub mod SolidSteps
+pub mod CombSteps
+pub mod PutSteps
+pub mod Written
+pub mod WritingSteps
+pub mod Examples

@@ -1,0 +1,7 @@
+pub mod SolidLaws
+pub mod MatrixLaws
+pub mod TokenLaws
+pub mod GivenLaws
+pub mod ReadingLaws
+pub mod LevelLaws
+pub mod AnswerLaws

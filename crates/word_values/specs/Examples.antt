@@ -1,0 +1,86 @@
+-- Small texts of trees, and what the definitions make of them, each proved by computing.
+use Rattle.std.specs.Prelude.{◌≡◌, refl, ℕ, List, None, Some, Result, Ok, Err, codes}
+use Rattle.tree_forms.specs.declared.Op.TheVariants.{U, N, Minus}
+use Rattle.tree_forms.specs.Trees.{Tree, Leaf, Join}
+use Rattle.comb_tree.specs.Nodes.{Comb, Member}
+use Rattle.tcl_words.specs.Tokens.{tokens_of}
+use Rattle.word_values.specs.Groups.{Words, End, Atom, Group, words_of_tokens}
+use Rattle.word_values.specs.Matrices.{identity}
+use Rattle.word_values.specs.Trees.{tree_of}
+use Rattle.word_values.specs.declared.tree.TreeFault.{TreeFault}
+use Rattle.word_values.specs.declared.tree.TreeFault.TheVariants.{Form, Name, Number}
+
+abbrev words : List ℕ → Words
+words text = words_of_tokens text (tokens_of text)
+
+abbrev tree : List ℕ → Result Comb TreeFault
+tree text = tree_of (words text)
+
+abbrev member : List ℕ → Tree Member
+member name = Leaf (record { name = name; placement = identity })
+
+groups_in_groups : words (codes "a {b {c} } d") ≡ Atom (codes "a") (Group (Atom (codes "b") (Group (Atom (codes "c") End) End)) (Atom (codes "d") End))
+groups_in_groups = refl
+
+no_words : words (codes "  ") ≡ End
+no_words = refl
+
+empty_tree : tree (codes "") ≡ Ok None
+empty_tree = refl
+
+one_leaf : tree (codes "l a") ≡ Ok (Some (member (codes "a")))
+one_leaf = refl
+
+-- a union of a leaf, and the difference of two
+a_difference : tree (codes "u {l s1} {- {l s2} {l s3}}") ≡ Ok (Some (Join U (member (codes "s1")) (Join Minus (member (codes "s2")) (member (codes "s3")))))
+a_difference = refl
+
+both_intersections : tree (codes "n {l a} {+ {l b} {l c}}") ≡ Ok (Some (Join N (member (codes "a")) (Join N (member (codes "b")) (member (codes "c")))))
+both_intersections = refl
+
+-- a group of one atom counts as that atom
+grouped_atoms : tree (codes "{u} {{l} {a}} {l {b}}") ≡ Ok (Some (Join U (member (codes "a")) (member (codes "b"))))
+grouped_atoms = refl
+
+a_matrix : tree (codes "l b {1 0 0 0 0 1 0 0 0 0 1 0 0 0 0 {1.0}}") ≡ Ok (Some (member (codes "b")))
+a_matrix = refl
+
+-- two groups after `l`: the first is a name
+a_grouped_name : tree (codes "l {b} {1 0 0 0 0 1 0 0 0 0 1 0 0 0 0 1}") ≡ Ok (Some (member (codes "b")))
+a_grouped_name = refl
+
+fifteen_numbers : tree (codes "l b {1 0 0 0 0 1 0 0 0 0 1 0 0 0 0}") ≡ Err Form
+fifteen_numbers = refl
+
+no_number : tree (codes "l b {1 0 0 0 0 1 0 0 0 0 1 0 0 0 0 x}") ≡ Err Number
+no_number = refl
+
+no_placement : tree (codes "l b {2 0 0 0 0 1 0 0 0 0 1 0 0 0 0 1}") ≡ Err Number
+no_placement = refl
+
+too_far : tree (codes "l b {1 0 0 16385 0 1 0 0 0 0 1 0 0 0 0 1}") ≡ Err Number
+too_far = refl
+
+names_before_numbers : tree (codes "u {l b {2 0 0 0 0 1 0 0 0 0 1 0 0 0 0 1}} {l a/b}") ≡ Err Name
+names_before_numbers = refl
+
+form_before_names : tree (codes "u {l a/b} {l}") ≡ Err Form
+form_before_names = refl
+
+a_group_for_a_name : tree (codes "l {a b}") ≡ Err Form
+a_group_for_a_name = refl
+
+no_second_side : tree (codes "u {l a}") ≡ Err Form
+no_second_side = refl
+
+empty_side : tree (codes "u {l a} {}") ≡ Err Form
+empty_side = refl
+
+a_list_is_no_tree : tree (codes "u {l a} {l b} {l c}") ≡ Err Form
+a_list_is_no_tree = refl
+
+sides_without_groups : tree (codes "u l a l b") ≡ Err Form
+sides_without_groups = refl
+
+a_group_is_no_node : tree (codes "{l a}") ≡ Err Form
+a_group_is_no_node = refl

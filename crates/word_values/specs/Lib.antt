@@ -1,0 +1,7 @@
+pub mod Atoms
+pub mod Matrices
+pub mod Solids
+pub mod Groups
+pub mod Trees
+pub mod Reading
+pub mod Examples

@@ -1,0 +1,16 @@
+//! What words of a text stand for: atoms, numbers, matrices, solids by their numbers, and boolean trees.
+#![tactic(auto)]
+
+mod atoms;
+mod given;
+mod matrix;
+mod reading;
+mod solid;
+mod tree;
+mod value;
+
+pub use atoms::{SOLID_NUMBER, VIEW_NUMBER, group_atoms, number_to, word_atoms};
+pub use matrix::placement_of;
+pub use solid::{SolidKind, vector_at};
+pub use tree::{TreeFault, read_tree};
+pub use value::value_text;

@@ -1,0 +1,16 @@
+use Rattle.std.proofs.Common.{Err, subst, sym, Result, List, Option, ℕ}
+use Rattle.std.specs.Option.{option_copied}
+use Rattle.object_set.specs.declared.kept.KeptAttr.{KeptAttr}
+use Rattle.put_form.specs.Keeps.{IsKeptRead}
+use Rattle.put_form.specs.declared.fault.PutFault.{PutFault}
+use Rattle.asc_form.specs.Reading.{keep_with}
+use Rattle.asc_form.specs.Steps.{IsMade}
+use Rattle.asc_form.specs.declared.kinds.CommandFault.{CommandFault}
+use Rattle.asc_form.proofs.KeepLaws.{unkept_is}
+use Rattle.asc_form.proofs.keep.keep_command.Goals as goal
+
+pub returns-in-Err : goal.returns-in-Err
+returns-in-Err c = λ pairs h.
+    let word : Option (List ℕ) = option_copied c.args.word in
+    let read : IsKeptRead (Err c.in-Err.fault) pairs = subst (λ (r : Result (List KeptAttr) PutFault). IsKeptRead r pairs) c.in-Err.is h in
+    subst (λ (f : CommandFault). IsMade (keep_with c.args.directory.now word pairs) (Err f) c.args.directory.now) (sym c.unkept.ensures) (unkept_is c.args.directory.now word c.in-Err.fault pairs read)

@@ -1,0 +1,14 @@
+use Rattle.std.proofs.Common.{◌≡◌, ◌<◌, ◌≤◌, ◌+◌, ℕ, length}
+use Rattle.asc_form.specs.Commands.{pieces_within}
+use Rattle.asc_form.specs.Reading.{made_of, directory_of}
+use Rattle.asc_form.proofs.whole.read_asc.Given as goal
+
+abbrev pub invariant-loop-end : goal.invariant-loop-end
+invariant-loop-end l = record {
+  short : length l.rest ≤ length l.text;
+  lines : l.line + length l.rest ≤ length l.text + 1;
+  made : (most : ℕ) × (length l.rest < most) × (made_of (pieces_within most l.line l.rest) l.directory ≡ directory_of l.text);
+}
+
+abbrev pub decreases-loop-end : goal.decreases-loop-end
+decreases-loop-end l = length l.rest

@@ -1,0 +1,5 @@
+pub mod Commands
+pub mod Reading
+pub mod Written
+pub mod Examples
+pub mod Steps

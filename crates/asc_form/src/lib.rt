@@ -1,0 +1,14 @@
+//! A whole directory as a text, read and written.
+#![tactic(auto)]
+
+mod command;
+mod cut;
+mod fault;
+mod keep;
+mod kinds;
+mod whole;
+mod writing;
+
+pub use fault::{AscFault, AscKind};
+pub use whole::read_asc;
+pub use writing::write_asc;

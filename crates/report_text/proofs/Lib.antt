@@ -1,2 +1,5 @@
 pub mod LineLaws
 pub mod ShotLaws
+pub mod LeafLaws
+pub mod PushLaws
+pub mod WrittenLaws

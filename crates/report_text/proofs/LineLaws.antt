@@ -18,7 +18,7 @@ rest_lacks : (bytes : List ℕ) → All (λ b. is_next_byte b ≡ true) bytes �
 rest_lacks [] h = tt
 rest_lacks (b ∷ bs) h = (λ e. true≢false (sym (subst (λ x. is_next_byte x ≡ true) e (All-head (λ x. is_next_byte x ≡ true) b bs h))), rest_lacks bs (All-tail (λ x. is_next_byte x ≡ true) b bs h))
 
-name_lacks : (bytes : List ℕ) → IsName bytes → Lacks 10 bytes
+pub name_lacks : (bytes : List ℕ) → IsName bytes → Lacks 10 bytes
 name_lacks [] h = absurd (omega (arith, h.some))
 name_lacks (b ∷ bs) h = (λ e. true≢false (sym (subst (λ x. is_first_byte x ≡ true) e h.first)), rest_lacks bs h.rest)
 
@@ -26,7 +26,7 @@ mark_of_comb : (region : Bool) → Lacks 10 (cond region (codes "/R") (codes "/"
 mark_of_comb true = computed 10 (codes "/R") refl
 mark_of_comb false = computed 10 (codes "/") refl
 
-mark_lacks : (body : Body) → Lacks 10 (mark_of body)
+pub mark_lacks : (body : Body) → Lacks 10 (mark_of body)
 mark_lacks (Solid solid) = tt
 mark_lacks (Comb attr tree) = mark_of_comb attr.region
 

@@ -34,7 +34,7 @@ pub number_lacks : (n : ℕ) → Lacks 10 (decimal n)
 unfolding digits
 number_lacks n = onto_lacks 64 n [] tt
 
-signed_lacks : (z : ℤ) → Lacks 10 (signed_decimal z)
+pub signed_lacks : (z : ℤ) → Lacks 10 (signed_decimal z)
 signed_lacks (pos n) = number_lacks n
 signed_lacks (negsuc n) = (λ e. omega (arith, e), number_lacks (suc n))
 

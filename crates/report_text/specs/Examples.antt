@@ -1,5 +1,5 @@
 -- The lines of small directories and of single shots, proved by computation.
-use Rattle.std.specs.Prelude.{◌≡◌, refl, ℕ, pos, negsuc, List, [], ◌∷◌, None, true, false, codes}
+use Rattle.std.specs.Prelude.{◌≡◌, refl, ℕ, pos, negsuc, List, [], ◌∷◌, None, Some, true, false, codes}
 use Rattle.std.specs.Fmt.{digits}
 use Rattle.surd_order.specs.declared.position.Pos.{Pos}
 use Rattle.surd_order.specs.declared.position.Pos.TheVariants.{Frac, Surd}
@@ -9,6 +9,12 @@ use Rattle.object_set.specs.declared.object.Body.TheVariants.{Solid, Comb}
 use Rattle.overlap_list.specs.declared.hit.Hit.{Hit}
 use Rattle.shot_core.specs.Regions.{RegionBody, Region}
 use Rattle.shot_core.specs.declared.shot.Lit.{Lit}
+use Rattle.tree_forms.specs.declared.Op.TheVariants.{U, N, Minus}
+use Rattle.tree_forms.specs.Trees.{Tree, Leaf, Join}
+use Rattle.lattice_core.specs.declared.placement.Placement.{Placement}
+use Rattle.comb_tree.specs.Nodes.{Member}
+use Rattle.directory.specs.Walks.{Entries}
+use Rattle.report_text.specs.Listings.{listings, written_lines}
 use Rattle.report_text.specs.Names.{names_lines}
 use Rattle.report_text.specs.Shots.{shot_lines}
 
@@ -47,3 +53,22 @@ module _ (body : RegionBody) (hit : Hit) where
       ≡ codes "5 /b#1 0 5" ∷ codes "2 /a 5 10+sqrt(23)" ∷ []
   unfolding digits
   two_lines = refl
+
+-- whatever the placements are
+module _ (solid : AnySolid) (p : Placement) where
+  abbrev member : List ℕ → Tree Member
+  member name = Leaf (record { name = name; placement = p })
+
+  -- `a` is `s` without the union of `b` and `x`, which is not there; `b` is the intersection of `s` with itself
+  abbrev models : Entries
+  models =
+      (codes "s", record { body = Solid solid; kept = [] })
+      ∷ (codes "a", record { body = Comb region_attr (Some (Join Minus (member (codes "s")) (Join U (member (codes "b")) (member (codes "x"))))); kept = [] })
+      ∷ (codes "b", record { body = Comb group_attr (Some (Join N (member (codes "s")) (member (codes "s")))); kept = [] }) ∷ []
+
+  -- a leaf on the left side of a node has the operator from above
+  a_listing : listings models (codes "a" ∷ codes "s" ∷ []) ≡ codes "a/R" ∷ codes "  u s" ∷ codes "  - b/" ∷ codes "    u s" ∷ codes "    + s" ∷ codes "  u x?" ∷ codes "s" ∷ []
+  a_listing = refl
+
+  no_lines_of_a_missing_name : written_lines models (codes "x" ∷ []) ≡ []
+  no_lines_of_a_missing_name = refl

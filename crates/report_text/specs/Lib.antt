@@ -1,4 +1,6 @@
 pub mod Names
 pub mod Shots
 pub mod Texts
+pub mod Listings
+pub mod Steps
 pub mod Examples

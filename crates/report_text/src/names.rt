@@ -16,7 +16,7 @@ use transcript::Body;
 type NameLine = FixedText<72>;
 
 /// What is printed behind the name of an object.
-fn mark(object: &Object) -> &'static [u8]
+pub(crate) fn mark(object: &Object) -> &'static [u8]
     ensures { result.now ≡ mark_of object.now.body }
 {
     match object.body() {

@@ -1,9 +1,10 @@
 //! Where bytes come from and go to: a source, a sink, a shelf of files and a gate as traits, their forms in
-//! memory, and the adapters over any reader and writer.
+//! memory, and the adapters over any reader and writer, and over the working folder.
 #![tactic(auto)]
 
 mod adapters;
 mod calls;
+mod folder;
 mod gate;
 mod shelf;
 mod sink;
@@ -12,6 +13,7 @@ mod traits;
 mod transfer;
 
 pub use adapters::{InSource, OutSink};
+pub use folder::FolderShelf;
 pub use gate::{Gate, GateEvent, OpenGate};
 pub use memory_core::Memory;
 pub use shelf::VecShelf;

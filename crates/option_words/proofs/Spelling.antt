@@ -1,0 +1,123 @@
+-- What a word is, by what clap's lexer makes of it.
+use Rattle.std.proofs.Common.{◌≡◌, ◌∙◌, ap, refl, sym, true, false, true≢false, Bool, cond, ℕ, suc, ◌+◌, [], ◌∷◌, ◌++◌, take, drop, Option, Some, None, codes, arith}
+use Rattle.std.specs.Prelude.{bytes_eq, slice_get, ◌||◌, ◌==◌, option_and_then, not}
+use Rattle.std.specs.List.{before_first, after_first, position_or_len}
+use Rattle.std.specs.Str.{chars}
+use Rattle.std.proofs.lemmas.Bool.Decides.{nat_tests}
+use Rattle.std.proofs.lemmas.Slice.Eq.{bytes_eq-Decides}
+use Rattle.std.proofs.lemmas.List.{take-append-drop}
+use Rattle.clap.specs.Words.{Text}
+use Rattle.clap.specs.Lexer.{has_byte, long_of, long_of_rest, name_and_value, short_of, short_of_rest, strip_byte}
+use Rattle.option_words.specs.Grammar.{begins_with, begins_with_dash, option_of}
+use Rattle.option_words.specs.declared.options.Key.{Key}
+use Rattle.option_words.specs.declared.options.Key.TheVariants.{Load}
+use Rattle.option_words.proofs.ClapSteps.{load, alone, attached}
+use Rattle.option_words.proofs.WordKinds.{IsLoose, IsUnknown, unknown_long, unknown_short, loose_flags, loose_plain}
+
+strip_is : (c : ℕ) (word rest : Text) → strip_byte c word ≡ Some rest → word ≡ c ∷ rest
+strip_is c [] rest e = cc
+strip_is c (x ∷ xs) rest e = by (x == c) refl e
+  where
+    by : (b : Bool) → (x == c) ≡ b → cond b (Some xs) None ≡ Some rest → x ∷ xs ≡ c ∷ rest
+    by true is e = let same : x ≡ c = grind (arith, nat_tests) in cc
+    by false is e = cc
+
+-- a name, and behind `=` a value where there is one
+abbrev pub spelled : Text → Option Text → Text
+spelled name None = name
+spelled name (Some value) = name ++ 61 ∷ value
+
+abbrev is_equals : ℕ → Bool
+is_equals x = x == 61
+
+cut_spelled : (text : Text) → text ≡ spelled (before_first is_equals text) (cond (has_byte 61 text) (Some (after_first is_equals text)) None)
+cut_spelled [] = refl
+cut_spelled (x ∷ xs) = by (x == 61) refl (cut_spelled xs)
+  where
+    places : (n : ℕ) → 1 + n ≡ suc n
+    places n = omega arith
+
+    more : (n : ℕ) (b : Bool) → xs ≡ spelled (take n xs) (cond b (Some (drop (n + 1) xs)) None) → x ∷ xs ≡ spelled (take (1 + n) (x ∷ xs)) (cond b (Some (drop (1 + n + 1) (x ∷ xs))) None)
+    more n true e = let next : suc n + 1 ≡ suc (n + 1) = omega arith in rw (places n, next) (ap (λ l. x ∷ l) e)
+    more n false e = rw (places n) (ap (λ l. x ∷ l) e)
+
+    by : (b : Bool) → (x == 61) ≡ b → xs ≡ spelled (before_first is_equals xs) (cond (has_byte 61 xs) (Some (after_first is_equals xs)) None)
+        → x ∷ xs ≡ spelled (take (cond (not b) (1 + position_or_len is_equals xs) 0) (x ∷ xs)) (cond (b || has_byte 61 xs) (Some (drop (cond (not b) (1 + position_or_len is_equals xs) 0 + 1) (x ∷ xs))) None)
+    by true is e = let same : x ≡ 61 = grind (arith, nat_tests) in ap (λ n. n ∷ xs) same
+    by false is e = more (position_or_len is_equals xs) (has_byte 61 xs) e
+
+long_spelled : (word name : Text) (value : Option Text) → long_of word ≡ Some (name, value) → word ≡ 45 ∷ 45 ∷ spelled name value
+long_spelled word name value e = one (strip_byte 45 word) refl e
+  where
+    cut : (text : Text) → long_of_rest text ≡ Some (name, value) → text ≡ spelled name value
+    cut [] e = cc
+    cut (x ∷ xs) e = let same : name_and_value (x ∷ xs) ≡ (name, value) = cc in cut_spelled (x ∷ xs) ∙ ap (λ (p : Text × Option Text). spelled p.0 p.1) same
+
+    two : (rest : Text) → word ≡ 45 ∷ rest → (text : Option Text) → strip_byte 45 rest ≡ text → option_and_then long_of_rest text ≡ Some (name, value) → word ≡ 45 ∷ 45 ∷ spelled name value
+    two rest at None is e = cc
+    two rest at (Some text) is e = at ∙ ap (λ l. 45 ∷ l) (strip_is 45 rest text is ∙ ap (λ l. 45 ∷ l) (cut text e))
+
+    one : (rest : Option Text) → strip_byte 45 word ≡ rest → option_and_then long_of_rest (option_and_then (strip_byte 45) rest) ≡ Some (name, value) → word ≡ 45 ∷ 45 ∷ spelled name value
+    one None is e = cc
+    one (Some rest) is e = two rest (strip_is 45 word rest is) (strip_byte 45 rest) refl e
+
+long_dash : (word name : Text) (value : Option Text) → long_of word ≡ Some (name, value) → begins_with_dash word ≡ true
+long_dash word name value e = ap begins_with_dash (long_spelled word name value e)
+
+short_dash : (word flags : Text) → short_of word ≡ Some flags → begins_with_dash word ≡ true
+short_dash word flags e = one (strip_byte 45 word) refl e
+  where
+    one : (rest : Option Text) → strip_byte 45 word ≡ rest → option_and_then short_of_rest rest ≡ Some flags → begins_with_dash word ≡ true
+    one None is e = cc
+    one (Some rest) is e = ap begins_with_dash (strip_is 45 word rest is)
+
+-- what is no long flag with the option's name is no option
+none_of : (word : Text) → ((value : Option Text) → long_of word ≡ Some (load, value) → ⊥) → option_of word ≡ None
+none_of word other = by (bytes_eq word alone) refl (begins_with (codes "--load=") word) refl
+  where
+    by : (a : Bool) → bytes_eq word alone ≡ a → (b : Bool) → begins_with (codes "--load=") word ≡ b → cond {A = Option (Key × Option Text)} a (Some (Load, None)) (cond {A = Option (Key × Option Text)} b (Some (Load, Some (drop 7 word))) None) ≡ None
+    by true is b _ = absurd (other None (ap long_of ((bytes_eq-Decides word alone).0 is)))
+    by false _ true is =
+        let front : take 7 word ≡ codes "--load=" = (bytes_eq-Decides (take 7 word) (codes "--load=")).0 is in
+        let whole : word ≡ attached (drop 7 word) = sym (take-append-drop 7 word) ∙ ap (λ l. l ++ drop 7 word) front in
+        absurd (other (Some (drop 7 word)) (ap long_of whole))
+    by false _ false _ = refl
+
+-- a word is the option's name, its name and a value, a word that clap refuses, or one that it takes for a value
+pub data IsWord (word : Text) : Type 0 where
+  is_alone : word ≡ alone → IsWord word
+  is_attached : (value : Text) → word ≡ attached value → IsWord word
+  is_unknown : IsUnknown word → option_of word ≡ None → begins_with_dash word ≡ true → IsWord word
+  is_loose : IsLoose word → option_of word ≡ None → IsWord word
+
+pub classify : (word : Text) → bytes_eq word (codes "--") ≡ false → IsWord word
+classify word other = on_long (long_of word) refl
+  where
+    not_load : (name : Text) (value : Option Text) → long_of word ≡ Some (name, value) → bytes_eq load name ≡ false → (v : Option Text) → long_of word ≡ Some (load, v) → ⊥
+    not_load name value is differs v at =
+        let pair : (name, value) ≡ (load, v) = cc in
+        let same : load ≡ name = sym (ap (λ (p : Text × Option Text). p.0) pair) in
+        true≢false (sym ((bytes_eq-Decides load name).1 same) ∙ differs)
+
+    on_name : (name : Text) (value : Option Text) → long_of word ≡ Some (name, value) → (b : Bool) → bytes_eq load name ≡ b → IsWord word
+    on_name name None is true same = is_alone (long_spelled word name None is ∙ ap (λ (n : Text). 45 ∷ 45 ∷ n) (sym ((bytes_eq-Decides load name).0 same)))
+    on_name name (Some value) is true same = is_attached value (long_spelled word name (Some value) is ∙ ap (λ (n : Text). 45 ∷ 45 ∷ n ++ 61 ∷ value) (sym ((bytes_eq-Decides load name).0 same)))
+    on_name name value is false differs =
+        is_unknown (unknown_long word name value other is differs)
+        (none_of word (λ v at. not_load name value is differs v at))
+        (long_dash word name value is)
+
+    no_option : long_of word ≡ None → option_of word ≡ None
+    no_option none = none_of word (λ v at. cc)
+
+    on_first : long_of word ≡ None → (flags : Text) → short_of word ≡ Some flags → (first : Option ℕ) → slice_get (chars flags) 0 ≡ first → IsWord word
+    on_first none flags is None at = is_loose (loose_flags word flags other none is at) (no_option none)
+    on_first none flags is (Some x) at = is_unknown (unknown_short word flags x other none is at) (no_option none) (short_dash word flags is)
+
+    on_short : long_of word ≡ None → (flags : Option Text) → short_of word ≡ flags → IsWord word
+    on_short none None is = is_loose (loose_plain word other none is) (no_option none)
+    on_short none (Some flags) is = on_first none flags is (slice_get (chars flags) 0) refl
+
+    on_long : (p : Option (Text × Option Text)) → long_of word ≡ p → IsWord word
+    on_long None is = on_short is (short_of word) refl
+    on_long (Some (name, value)) is = on_name name value is (bytes_eq load name) refl

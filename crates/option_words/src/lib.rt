@@ -1,0 +1,11 @@
+//! The words after the program's name.
+#![tactic(auto)]
+
+mod command;
+mod fault;
+mod options;
+mod read;
+
+pub use fault::OptionsFault;
+pub use options::{Key, Options};
+pub use read::read_options;

@@ -7,6 +7,7 @@ use lattice_core::{Dir, V3};
 use mged_words::{ScriptFault, ScriptFlaw, read_script};
 use name_core::Name;
 use object_set::Body;
+use put_form::push_put_line;
 use solid_set::Solid;
 use std::alloc::Global;
 
@@ -21,12 +22,16 @@ fn put_point(out: &mut String, alloc: Global, point: V3) -> Result<(), CaseFault
     put_number(out, alloc, point.z)
 }
 
-fn put_name(out: &mut String, name: &Name) -> Result<(), CaseFault> {
-    out.push(' ')?;
-    for byte in name.bytes() {
+fn put_bytes(out: &mut String, bytes: &[u8]) -> Result<(), CaseFault> {
+    for byte in bytes {
         out.push(char::from(*byte))?;
     }
     Ok(())
+}
+
+fn put_name(out: &mut String, name: &Name) -> Result<(), CaseFault> {
+    out.push(' ')?;
+    put_bytes(out, name.bytes())
 }
 
 fn put_names(out: &mut String, names: &[Name]) -> Result<(), CaseFault> {
@@ -75,6 +80,14 @@ fn put_solid(out: &mut String, alloc: Global, solid: &Solid) -> Result<(), CaseF
     }
 }
 
+/// The written line of an object.
+fn put_written(out: &mut String, alloc: Global, name: &Name, body: &Body) -> Result<(), CaseFault> {
+    let mut line = Vec::new(alloc);
+    push_put_line(alloc, name, body, &mut line)?;
+    out.push(' ')?;
+    put_bytes(out, &line)
+}
+
 fn put_edit(out: &mut String, alloc: Global, edit: &Edit) -> Result<(), CaseFault> {
     match edit {
         Edit::Make { name, object } => {
@@ -85,7 +98,7 @@ fn put_edit(out: &mut String, alloc: Global, edit: &Edit) -> Result<(), CaseFaul
             }
             match object.body() {
                 Body::Solid(solid) => put_solid(out, alloc, solid),
-                Body::Comb { .. } => Err(CaseFault::Kind),
+                Body::Comb { .. } => put_written(out, alloc, name, object.body()),
             }
         }
         Edit::Region { name, list } => {
@@ -135,7 +148,21 @@ fn put_edit(out: &mut String, alloc: Global, edit: &Edit) -> Result<(), CaseFaul
             }
             Ok(())
         }
-        _ => Err(CaseFault::Kind),
+        Edit::Title { text } => {
+            out.push_str("title ")?;
+            put_bytes(out, text.bytes())
+        }
+        Edit::Keep { name, pairs } => {
+            out.push_str("keep")?;
+            put_name(out, name)?;
+            for pair in pairs.items() {
+                put_name(out, &pair.name)?;
+                out.push_str(" {")?;
+                put_bytes(out, pair.value.items())?;
+                out.push('}')?;
+            }
+            Ok(())
+        }
     }
 }
 
@@ -143,10 +170,7 @@ fn put_edit(out: &mut String, alloc: Global, edit: &Edit) -> Result<(), CaseFaul
 fn put_refusal(out: &mut String, refusal: &Refusal) -> Result<(), CaseFault> {
     let mut text = RefusalText::new();
     refusal.write_text(&mut text);
-    for byte in text.bytes() {
-        out.push(char::from(*byte))?;
-    }
-    Ok(())
+    put_bytes(out, text.bytes())
 }
 
 /// A shot by its direction.
@@ -165,6 +189,8 @@ fn direction_word(dir: Dir) -> &'static str {
 fn put_flaw(out: &mut String, alloc: Global, flaw: ScriptFlaw) -> Result<(), CaseFault> {
     match flaw {
         ScriptFlaw::Size => out.push_str("size")?,
+        ScriptFlaw::Lines(line) => out.push_str(&format!(in alloc; "line {line} lines")?)?,
+        ScriptFlaw::LongLine(line) => out.push_str(&format!(in alloc; "line {line} long")?)?,
         ScriptFlaw::Session(line) => out.push_str(&format!(in alloc; "line {line} session")?)?,
     }
     Ok(())
@@ -183,7 +209,15 @@ pub(crate) fn shown(alloc: Global, command: &Command) -> Result<String, CaseFaul
             put_point(&mut out, alloc, ray.origin)?;
             put_names(&mut out, names.items())?;
         }
-        Command::Query(_) => return Err(CaseFault::Kind),
+        Command::Query(Query::List { names }) => {
+            out.push_str("list")?;
+            put_names(&mut out, names.items())?;
+        }
+        Command::Query(Query::Tree { names }) => {
+            out.push_str("tree")?;
+            put_names(&mut out, names.items())?;
+        }
+        Command::Query(Query::Save { .. }) => return Err(CaseFault::Kind),
     }
     Ok(out)
 }

@@ -1,5 +1,6 @@
--- Edits whose names have no line feed: their refusals stand on one line, and so do the names of the directory that they make.
-use Rattle.std.proofs.Common.{◌≡◌, ◌≤◌, ◌++◌, ◌∙◌, ◌&&◌, ◌||◌, inl, inr, ℕ, Bool, true, false, not, cond, nat_le, nat_lt, List, [], ◌∷◌, Option, Some, None, is_some, is_none, find, filter, length, codes, decimal, refl, sym, subst, arith, length-append}
+-- Edits whose names and texts have no line feed: their refusals stand on one line, and the directory that they make has no
+-- line feed in its names, members and kept attributes.
+use Rattle.std.proofs.Common.{◌≡◌, ◌≤◌, ◌++◌, ◌∙◌, ◌&&◌, ◌||◌, inl, inr, ℕ, Bool, true, false, not, cond, nat_le, nat_lt, List, [], ◌∷◌, Option, Some, None, is_some, is_none, find, length, codes, decimal, refl, sym, subst, arith, length-append}
 use Rattle.std.specs.List.{AllByRecursion, list_any}
 use Rattle.std.specs.Option.{option_map}
 use Rattle.std.specs.Result.{result_ok}
@@ -26,11 +27,12 @@ use Rattle.directory.specs.Listing.{Listing}
 use Rattle.directory.specs.Walks.{Entries, most_objects, most_depth, unbounded, deepest, object_of}
 use Rattle.directory.specs.Edits.{judged, first_of, appended, replaced, renamed_all}
 use Rattle.edit_core.specs.ListForms.{list_of}
-use Rattle.edit_core.specs.Edits.{object_at, tree_at, own_list, made, set_object, change_object}
+use Rattle.edit_core.specs.Edits.{object_at, tree_at, own_list, made, set_object, change_object, setting_attr}
 use Rattle.edit_core.specs.Refused.{refusal_of, edited, unless, first_refusal, exists, missing, not_comb, not_list, absent, heads, too_many, full, too_deep, at_name, when, is_there, is_solid, fresh, wanted, combination, listed, put, edited_name, over_members, of_judgement}
 use Rattle.report_text.specs.Names.{names_lines, mark_of}
-use Rattle.mged_words.specs.Readable.{IsPlainRefusal, ArePlain, IsPlainEdit}
+use Rattle.mged_words.specs.Readable.{IsPlainRefusal, ArePlain, IsPlainObject, IsPlainEdit}
 use Rattle.report_text.proofs.ShotLaws.{number_lacks}
+use Rattle.mged_top.proofs.ObjectLaws.{all_both, all_filtered, extended_plain, removed_plain, placed_plain, set_attr_plain, renamed_object_plain, kept_plain}
 
 abbrev pub MayBePlain : Option Refusal → Type 0
 MayBePlain None = Unit {0}
@@ -96,7 +98,7 @@ find_plain p (n ∷ ns) h = find_step (p n) n (find p ns) h.0 (find_plain p ns h
 
 -- the names of an edit
 fresh_plain : (edit : Edit) → IsPlainEdit edit → IsPlainName (fresh edit)
-fresh_plain (Make name object) h = h
+fresh_plain (Make name object) h = h.0
 fresh_plain (Region name list) h = tt
 fresh_plain (Group name list) h = tt
 fresh_plain (Remove comb names) h = tt
@@ -116,7 +118,7 @@ wanted_plain (Kill names) h = h
 wanted_plain (RenameAll old new) h = (h.0, tt)
 wanted_plain (Place comb member placement) h = (h.0, tt)
 wanted_plain (Title text) h = tt
-wanted_plain (Keep name pairs) h = (h, tt)
+wanted_plain (Keep name pairs) h = (h.0, tt)
 wanted_plain (Set name setting) h = (h, tt)
 
 combination_plain : (edit : Edit) → IsPlainEdit edit → IsPlainName (combination edit)
@@ -144,7 +146,7 @@ listed_plain (Keep name pairs) h = tt
 listed_plain (Set name setting) h = tt
 
 put_plain : (edit : Edit) → IsPlainEdit edit → IsPlainName (put edit)
-put_plain (Make name object) h = h
+put_plain (Make name object) h = h.0
 put_plain (Region name list) h = h.0
 put_plain (Group name list) h = h.0
 put_plain (Remove comb names) h = tt
@@ -156,7 +158,7 @@ put_plain (Keep name pairs) h = tt
 put_plain (Set name setting) h = tt
 
 edited_plain : (edit : Edit) → IsPlainEdit edit → IsPlainName (edited_name edit)
-edited_plain (Make name object) h = h
+edited_plain (Make name object) h = h.0
 edited_plain (Region name list) h = h.0
 edited_plain (Group name list) h = h.0
 edited_plain (Remove comb names) h = tt
@@ -283,69 +285,81 @@ refusal_plain d edit h =
 abbrev pub HasPlainNames : Entries → Type 0
 HasPlainNames es = AllByRecursion (λ (e : Name × Parts). Lacks 10 e.0) es
 
+-- its names, members and kept attributes have none
+abbrev IsPlainEntry : Name × Parts → Type 0
+IsPlainEntry e = Lacks 10 e.0 × IsPlainObject e.1
+
+abbrev pub AreEntriesPlain : Entries → Type 0
+AreEntriesPlain es = AllByRecursion IsPlainEntry es
+
 abbrev pub IsPlainListing : Listing → Type 0
-IsPlainListing d = HasPlainNames d.objects
+IsPlainListing d = AreEntriesPlain d.objects
 
-appended_plain : (es : Entries) (name : Name) (object : Parts) → HasPlainNames es → Lacks 10 name → HasPlainNames (appended es name object)
-appended_plain [] name object h k = (k, tt)
-appended_plain (e ∷ es) name object h k = (h.0, appended_plain es name object h.1 k)
+pub plain_names : (es : Entries) → AreEntriesPlain es → HasPlainNames es
+plain_names [] h = tt
+plain_names (e ∷ es) h = (h.0.0, plain_names es h.1)
 
-value_step : (t : Bool) (name : Name) (one other : Parts) (es rest : Entries) → Lacks 10 name → HasPlainNames es → HasPlainNames rest → HasPlainNames (cond t ((name, one) ∷ es) ((name, other) ∷ rest))
-value_step true name one other es rest h k l = (h, k)
-value_step false name one other es rest h k l = (h, l)
+-- the object of a name
+found_step : (t : Bool) (one o : Parts) (rest : Option Parts) → IsPlainObject one → (rest ≡ Some o → IsPlainObject o) → cond t (Some one) rest ≡ Some o → IsPlainObject o
+found_step true one o rest h k e = let same : one ≡ o = cc in subst IsPlainObject same h
+found_step false one o rest h k e = k e
 
-replaced_plain : (es : Entries) (name : Name) (object : Parts) → HasPlainNames es → HasPlainNames (replaced es name object)
-replaced_plain [] name object h = tt
-replaced_plain (e ∷ es) name object h = value_step (same_name name e.0) e.0 object e.1 es (replaced es name object) h.0 h.1 (replaced_plain es name object h.1)
+pub object_plain : (es : Entries) (name : Name) (o : Parts) → AreEntriesPlain es → object_of es name ≡ Some o → IsPlainObject o
+object_plain [] name o h e = absurd cc
+object_plain (x ∷ es) name o h e = found_step (same_name name x.0) x.1 o (object_of es name) h.0.1 (object_plain es name o h.1) e
 
-set_step : (t : Bool) (one other : Entries) → HasPlainNames one → HasPlainNames other → HasPlainNames (cond t one other)
+appended_plain : (es : Entries) (name : Name) (object : Parts) → AreEntriesPlain es → Lacks 10 name → IsPlainObject object → AreEntriesPlain (appended es name object)
+appended_plain es name object h k l = all_both IsPlainEntry es ((name, object) ∷ []) h ((k, l), tt)
+
+value_step : (t : Bool) (name : Name) (one other : Parts) (es rest : Entries) → Lacks 10 name → IsPlainObject one → IsPlainObject other → AreEntriesPlain es → AreEntriesPlain rest
+    → AreEntriesPlain (cond t ((name, one) ∷ es) ((name, other) ∷ rest))
+value_step true name one other es rest n h k l m = ((n, h), l)
+value_step false name one other es rest n h k l m = ((n, k), m)
+
+replaced_plain : (es : Entries) (name : Name) (object : Parts) → AreEntriesPlain es → IsPlainObject object → AreEntriesPlain (replaced es name object)
+replaced_plain [] name object h k = tt
+replaced_plain (e ∷ es) name object h k = value_step (same_name name e.0) e.0 object e.1 es (replaced es name object) h.0.0 k h.0.1 h.1 (replaced_plain es name object h.1 k)
+
+set_step : (t : Bool) (one other : Entries) → AreEntriesPlain one → AreEntriesPlain other → AreEntriesPlain (cond t one other)
 set_step true one other h k = h
 set_step false one other h k = k
 
-set_plain : (es : Entries) (name : Name) (object : Parts) → HasPlainNames es → Lacks 10 name → HasPlainNames (set_object es name object)
-set_plain es name object h k = set_step (is_some (object_of es name)) (replaced es name object) (appended es name object) (replaced_plain es name object h) (appended_plain es name object h k)
+set_plain : (es : Entries) (name : Name) (object : Parts) → AreEntriesPlain es → Lacks 10 name → IsPlainObject object → AreEntriesPlain (set_object es name object)
+set_plain es name object h k l = set_step (is_some (object_of es name)) (replaced es name object) (appended es name object) (replaced_plain es name object h l) (appended_plain es name object h k l)
 
-changed_plain : (es : Entries) (name : Name) (f : Parts → Parts) (there : Option Parts) → HasPlainNames es → HasPlainNames (change_object es name f there)
-changed_plain es name f None h = h
-changed_plain es name f (Some object) h = replaced_plain es name (f object) h
-
-filter_step : (t : Bool) (e : Name × Parts) (es : Entries) → Lacks 10 e.0 → HasPlainNames es → HasPlainNames (cond t (e ∷ es) es)
-filter_step true e es h k = (h, k)
-filter_step false e es h k = k
-
-filter_plain : (p : Name × Parts → Bool) (es : Entries) → HasPlainNames es → HasPlainNames (filter p es)
-filter_plain p [] h = tt
-filter_plain p (e ∷ es) h = filter_step (p e) e (filter p es) h.0 (filter_plain p es h.1)
+changed_plain : (es : Entries) (name : Name) (f : Parts → Parts) (there : Option Parts) → object_of es name ≡ there → AreEntriesPlain es → ((o : Parts) → IsPlainObject o → IsPlainObject (f o)) → AreEntriesPlain (change_object es name f there)
+changed_plain es name f None is h k = h
+changed_plain es name f (Some object) is h k = replaced_plain es name (f object) h (k object (object_plain es name object h is))
 
 name_step : (t : Bool) (new old : Name) → Lacks 10 new → Lacks 10 old → Lacks 10 (cond t new old)
 name_step true new old h k = h
 name_step false new old h k = k
 
-renamed_plain : (es : Entries) (old new : Name) → HasPlainNames es → Lacks 10 new → HasPlainNames (renamed_all es old new)
+renamed_plain : (es : Entries) (old new : Name) → AreEntriesPlain es → Lacks 10 new → AreEntriesPlain (renamed_all es old new)
 renamed_plain [] old new h k = tt
-renamed_plain (e ∷ es) old new h k = (name_step (same_name e.0 old) new e.0 k h.0, renamed_plain es old new h.1 k)
+renamed_plain (e ∷ es) old new h k = ((name_step (same_name e.0 old) new e.0 k h.0.0, renamed_object_plain old new e.1 k h.0.1), renamed_plain es old new h.1 k)
 
 made_plain : (d : Listing) (edit : Edit) → IsPlainListing d → IsPlainEdit edit → IsPlainListing (made d edit)
-made_plain d (Make name object) h k = appended_plain d.objects name object h k
-made_plain d (Region name list) h k = set_plain d.objects name _ h k.0
-made_plain d (Group name list) h k = set_plain d.objects name _ h k.0
-made_plain d (Remove comb names) h k = changed_plain d.objects comb _ (object_at d comb) h
-made_plain d (Kill names) h k = filter_plain _ d.objects h
+made_plain d (Make name object) h k = appended_plain d.objects name object h k.0 k.1
+made_plain d (Region name list) h k = set_plain d.objects name _ h k.0 (extended_plain _ _ list (object_at d name) k.1 (λ o e. object_plain d.objects name o h e))
+made_plain d (Group name list) h k = set_plain d.objects name _ h k.0 (extended_plain _ _ list (object_at d name) k.1 (λ o e. object_plain d.objects name o h e))
+made_plain d (Remove comb names) h k = changed_plain d.objects comb _ (object_at d comb) refl h (λ o l. removed_plain (is_among names) o l)
+made_plain d (Kill names) h k = all_filtered IsPlainEntry _ d.objects h
 made_plain d (RenameAll old new) h k = renamed_plain d.objects old new h k.1
-made_plain d (Place comb member placement) h k = changed_plain d.objects comb _ (object_at d comb) h
+made_plain d (Place comb member placement) h k = changed_plain d.objects comb _ (object_at d comb) refl h (λ o l. placed_plain member placement o l)
 made_plain d (Title text) h k = h
-made_plain d (Keep name pairs) h k = changed_plain d.objects name _ (object_at d name) h
-made_plain d (Set name setting) h k = changed_plain d.objects name _ (object_at d name) h
+made_plain d (Keep name pairs) h k = changed_plain d.objects name _ (object_at d name) refl h (λ o l. kept_plain pairs o k.1 l)
+made_plain d (Set name setting) h k = changed_plain d.objects name _ (object_at d name) refl h (λ o l. set_attr_plain (setting_attr setting) o l)
 
 kept_unless : (refusal : Option Refusal) (d : Listing) → IsPlainListing d → IfSomeKeeps IsPlainListing (result_ok (unless refusal d))
 kept_unless None d h = h
 kept_unless (Some refusal) d h = tt
 
--- the directory that an edit makes has plain names again
+-- the directory that an edit makes is plain again
 pub edit_keeps : (d : Listing) (edit : Edit) → IsPlainListing d → IsPlainEdit edit → IfSomeKeeps IsPlainListing (result_ok (edited d edit))
 edit_keeps d edit h k = kept_unless (refusal_of d edit) (made d edit) (made_plain d edit h k)
 
-mark_lacks : (body : Body) → Lacks 10 (mark_of body)
+pub mark_lacks : (body : Body) → Lacks 10 (mark_of body)
 mark_lacks (bodies.Solid solid) = tt
 mark_lacks (bodies.Comb attr tree) = elim attr.region as (λ b. Lacks 10 (cond b (codes "/R") (codes "/"))) [ true ↦ computed 10 (codes "/R") refl | false ↦ computed 10 (codes "/") refl ]
 

@@ -1,5 +1,5 @@
 -- The transcript of a script that is run in the order of its lines.
-use Rattle.std.proofs.Common.{◌≡◌, ◌≢◌, ℕ, zero, suc, ◌<◌, ◌≤◌, ◌+◌, ◌-◌, ◌^◌, ◌==◌, ◌||◌, Bool, true, false, cond, List, [], ◌∷◌, ◌++◌, All, map, length, append_assoc, replicate, get_or, set, nat_le, eqb-true, bytes_eq, codes, refl, ap, ap₂, sym, ◌∙◌, subst, arith, Option, Some, None, is_some, not, nat_lt, Result, Ok, Err, is_err}
+use Rattle.std.proofs.Common.{◌≡◌, ◌≢◌, ℕ, zero, suc, ◌<◌, ◌≤◌, ◌+◌, ◌-◌, ◌^◌, ◌==◌, ◌||◌, Bool, true, false, cond, List, [], ◌∷◌, ◌++◌, All, map, length, append_assoc, replicate, get_or, set, nat_le, eqb-true, bytes_eq, codes, refl, ap, ap₂, sym, ◌∙◌, subst, arith, Option, Some, None, is_some, is_none, not, nat_lt, Result, Ok, Err, is_err}
 use Rattle.std.specs.List.{AllByRecursion, list_any}
 use Rattle.std.specs.Option.{option_map, option_or}
 use Rattle.std.proofs.lemmas.Bool.{eqb-false, leb-true}
@@ -40,9 +40,11 @@ use Rattle.mged_words.specs.Entries.{HasSession, session_of}
 use Rattle.mged_words.specs.Readable.{IsPlain, IsPlainRefusal, IsPlainQuery, ArePlain, IsReadable}
 use Rattle.mged_top.specs.Answers.{marked_entry, unmarked, core_answer, core_answers, answers_at, used_at, is_refused}
 use Rattle.mged_top.specs.Outcomes.{IsLineOutcome}
-use Rattle.mged_top.specs.Replies.{Outcome, core_rules, start_from, no_objects, most_used, within_quota, lines_unless, lines_of_scene, shot_of, found, edit_outcome, outcome_of, directory_made, shown}
+use Rattle.report_text.specs.Listings.{listings, written_lines}
+use Rattle.mged_top.specs.Replies.{first_missing as first_absent, lines_unless_missing, Outcome, core_rules, start_from, no_objects, most_used, within_quota, lines_unless, lines_of_scene, shot_of, found, edit_outcome, outcome_of, directory_made, shown}
 use Rattle.mged_top.specs.declared.answer.Answer.{Answer}
-use Rattle.mged_top.proofs.EditLaws.{MayBePlain, IsPlainName, IsPlainListing, HasPlainNames, find_plain, plain_missing, plain_instances, refusal_plain, edit_keeps, names_plain, lines_few}
+use Rattle.mged_top.proofs.EditLaws.{MayBePlain, IsPlainName, IsPlainListing, HasPlainNames, find_plain, plain_names, plain_missing, plain_instances, refusal_plain, edit_keeps, names_plain, lines_few}
+use Rattle.mged_top.proofs.ListingLaws.{written_plain, listings_plain}
 use Rattle.mged_top.proofs.ShotLaws.{shot_plain}
 
 abbrev Any_own : ℕ → Type 0
@@ -92,12 +94,16 @@ shots_plain es ray names h k =
     missing_plain (first_missing es names) (too_many es names) (lines_of_scene (scene_of es names) ray) (find_plain (λ name. not (is_some (object_of es name))) names k)
     (size_plain (nat_lt most_size (names_size es names)) (told_size (names_size es names)) (lines_of_scene (scene_of es names) ray) (shot_plain es names ray h))
 
+all_there_plain : (missing : Option Name) (lines : List (List ℕ)) → IsPlainName missing → AllByRecursion (Lacks 10) lines → IsPlainOutcome (lines_unless_missing missing lines)
+all_there_plain None lines h k = k
+all_there_plain (Some name) lines h k = plain_missing name h
+
 found_plain : (d : Listing) (query : Query) → IsPlainListing d → IsPlainQuery query → IsPlainOutcome (found d query)
-found_plain d (queries.List names) h k = plain_syntax
-found_plain d queries.Names h k = names_plain d.objects h
-found_plain d (queries.Tree names) h k = plain_syntax
+found_plain d (queries.List names) h k = all_there_plain (first_absent d.objects names) (written_lines d.objects names) (find_plain (λ name. is_none (object_of d.objects name)) names k) (written_plain d.objects names h k)
+found_plain d queries.Names h k = names_plain d.objects (plain_names d.objects h)
+found_plain d (queries.Tree names) h k = all_there_plain (first_absent d.objects names) (listings d.objects names) (find_plain (λ name. is_none (object_of d.objects name)) names k) (listings_plain d.objects names h k)
 found_plain d (queries.Save file) h k = plain_syntax
-found_plain d (queries.Shot ray names) h k = shots_plain d.objects ray names h k.one_line
+found_plain d (queries.Shot ray names) h k = shots_plain d.objects ray names (plain_names d.objects h) k.one_line
 
 reply_fits : (d : Listing) (used : ℕ) (c : Command) → IsPlainListing d → Any_own used → IsPlain c → IsPrintableReply (shown (outcome_of d used c))
 reply_fits d used (Bad refusal) h q k = k.one_line
@@ -134,10 +140,14 @@ shots_tell es ray names =
     missing_tells (first_missing es names) (too_many es names) (lines_of_scene (scene_of es names) ray)
     (size_tells (nat_lt most_size (names_size es names)) (told_size (names_size es names)) (lines_of_scene (scene_of es names) ray))
 
+all_there_tell : (missing : Option Name) (lines : List (List ℕ)) → Tells (lines_unless_missing missing lines)
+all_there_tell None lines = tt
+all_there_tell (Some name) lines = refl
+
 found_tells : (d : Listing) (query : Query) → Tells (found d query)
-found_tells d (queries.List names) = refl
+found_tells d (queries.List names) = all_there_tell (first_absent d.objects names) (written_lines d.objects names)
 found_tells d queries.Names = tt
-found_tells d (queries.Tree names) = refl
+found_tells d (queries.Tree names) = all_there_tell (first_absent d.objects names) (listings d.objects names)
 found_tells d (queries.Save file) = refl
 found_tells d (queries.Shot ray names) = shots_tell d.objects ray names
 

@@ -10,7 +10,7 @@ use Rattle.transcript.specs.Merge.{Entry}
 use Rattle.command_set.specs.declared.command.Command.{Command}
 use Rattle.mged_words.specs.Scripts.{script_of}
 use Rattle.mged_words.specs.declared.script.ScriptFlaw.{ScriptFlaw}
-use Rattle.mged_words.specs.declared.script.ScriptFlaw.TheVariants.{Size, Session}
+use Rattle.mged_words.specs.declared.script.ScriptFlaw.TheVariants.{Size, Lines, LongLine, Session}
 use Rattle.mged_top.specs.Outcomes.{IsLineOutcome}
 use Rattle.mged_top.specs.Replies.{no_objects}
 use Rattle.mged_top.specs.declared.status.Status.{Status}
@@ -57,6 +57,8 @@ pub record IsCutTranscript (left left' held held' : Option (List ℕ)) (puts put
 -- the script's first fault is its size, or a line; for a line it was read whole
 abbrev pub HasFlaw : ScriptFlaw → Option (List ℕ) → Option (List ℕ) → Type 0
 HasFlaw Size left left' = IfSome left (λ script. script_of script ≡ Err Size)
+HasFlaw (Lines line) left left' = (script : List ℕ) × WasRead script left left' × (script_of script ≡ Err (Lines line))
+HasFlaw (LongLine line) left left' = (script : List ℕ) × WasRead script left left' × (script_of script ≡ Err (LongLine line))
 HasFlaw (Session line) left left' = (script : List ℕ) × WasRead script left left' × (script_of script ≡ Err (Session line))
 
 -- the clause on each status

@@ -1,5 +1,5 @@
 -- What a command is answered, the directory after it, and the bytes that its session has used.
-use Rattle.std.specs.Prelude.{ℕ, ◌+◌, nat_le, cond, List, [], Option, Some, None, Result, Ok, Err, length}
+use Rattle.std.specs.Prelude.{ℕ, ◌+◌, nat_le, cond, find, is_none, List, [], Option, Some, None, Result, Ok, Err, length}
 use Rattle.std.specs.Result.{result_ok}
 use Rattle.name_core.specs.declared.name.Name.{Name}
 use Rattle.lattice_core.specs.declared.ray.Ray.{Ray}
@@ -14,8 +14,9 @@ use Rattle.command_set.specs.declared.command.Query.TheVariants as queries
 use Rattle.command_set.specs.declared.refusal.Refusal.{Refusal}
 use Rattle.command_set.specs.declared.refusal.Refusal.TheVariants.{Syntax, Missing, Instances, Quota, Memory}
 use Rattle.directory.specs.Listing.{Listing}
-use Rattle.directory.specs.Walks.{Entries}
+use Rattle.directory.specs.Walks.{Entries, object_of}
 use Rattle.edit_core.specs.Refused.{edited}
+use Rattle.report_text.specs.Listings.{listings, written_lines}
 use Rattle.report_text.specs.Names.{names_lines}
 use Rattle.report_text.specs.Shots.{shot_lines}
 use Rattle.shot_core.specs.Regions.{Region}
@@ -56,11 +57,21 @@ lines_of_scene scene ray = shot_lines scene (lit_of scene ray)
 abbrev pub shot_of : Entries → Ray → List Name → Outcome
 shot_of directory ray names = lines_unless (prep_fault directory names) (lines_of_scene (scene_of directory names) ray)
 
--- what a query finds; of the others than these two no line asks yet
+-- the first of the names that is not there
+abbrev pub first_missing : Entries → List Name → Option Name
+first_missing directory names = find (λ name. is_none (object_of directory name)) names
+
+abbrev pub lines_unless_missing : Option Name → List (List ℕ) → Outcome
+lines_unless_missing None lines = Ok lines
+lines_unless_missing (Some name) lines = Err (Missing name)
+
+-- what a query finds; no line asks for a file yet
 abbrev pub found : Listing → Query → Outcome
+found d (queries.List names) = lines_unless_missing (first_missing d.objects names) (written_lines d.objects names)
 found d queries.Names = Ok (names_lines d.objects)
+found d (queries.Tree names) = lines_unless_missing (first_missing d.objects names) (listings d.objects names)
+found d (queries.Save file) = Err Syntax
 found d (queries.Shot ray names) = shot_of d.objects ray names
-found d _ = Err Syntax
 
 abbrev pub edit_outcome : Result Listing Refusal → Outcome
 edit_outcome (Ok made) = Ok []

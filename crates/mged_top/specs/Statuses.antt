@@ -1,7 +1,7 @@
 -- The numbers and lines of the statuses.
 use Rattle.std.specs.Prelude.{ℕ, List, [], ◌++◌, codes, decimal}
 use Rattle.mged_words.specs.declared.script.ScriptFlaw.{ScriptFlaw}
-use Rattle.mged_words.specs.declared.script.ScriptFlaw.TheVariants.{Size, Session}
+use Rattle.mged_words.specs.declared.script.ScriptFlaw.TheVariants.{Size, Lines, LongLine, Session}
 use Rattle.mged_top.specs.declared.status.Status.{Status}
 use Rattle.mged_top.specs.declared.status.Status.TheVariants.{Done, SomeRefused, Usage, ScriptRefused, ReadFault, WriteFault, Memory}
 
@@ -16,6 +16,8 @@ exit_number Memory = 7
 
 abbrev pub flaw_text : ScriptFlaw → List ℕ
 flaw_text Size = codes "size"
+flaw_text (Lines line) = codes "line " ++ (decimal line ++ codes " lines")
+flaw_text (LongLine line) = codes "line " ++ (decimal line ++ codes " long")
 flaw_text (Session line) = codes "line " ++ (decimal line ++ codes " session")
 
 -- where a transcript is written there is no line

@@ -1,4 +1,4 @@
-ghost use Rattle.std.specs.Prelude.{◌≡◌, ◌≤◌, ◌<◌, ◌+◌, ◌^◌, ℕ, List, Ok, Err, IfOk, OnOk, OnErr, All, length};
+ghost use Rattle.std.specs.Prelude.{◌≡◌, ◌≤◌, ◌<◌, ◌+◌, ◌-◌, ◌^◌, ℕ, List, Ok, Err, IfOk, OnOk, OnErr, All, length};
 ghost use Rattle.std.specs.Result.{result_ok};
 ghost use Rattle.transcript.specs.Run.{answer_of, book_after, committed, own_after};
 ghost use Rattle.lattice_core.specs.declared.limit.TheConstants.{WORLD};
@@ -9,9 +9,11 @@ ghost use Rattle.directory.specs.Walks.{Entries};
 ghost use Rattle.shot_core.specs.Shots.{lit_of};
 ghost use Rattle.scene_prep.specs.Outcomes.{IsSceneOf};
 ghost use Rattle.edit_core.specs.Refused.{edited};
+ghost use Rattle.report_text.specs.Listings.{listings, written_lines};
 ghost use Rattle.report_text.specs.Names.{names_lines};
+ghost use Rattle.report_text.specs.Texts.{IsText};
 ghost use Rattle.mged_top.specs.Answers.{core_book, core_answer, unmarked};
-ghost use Rattle.mged_top.specs.Replies.{core_rules, most_used, within_quota, lines_of_scene, shot_of, found, edit_outcome, outcome_of, directory_made, used_after};
+ghost use Rattle.mged_top.specs.Replies.{core_rules, most_used, within_quota, lines_of_scene, shot_of, first_missing, lines_unless_missing, found, edit_outcome, outcome_of, directory_made, used_after};
 
 use command_set::{Command, Edit, Query, Refusal, WorldRay};
 use directory::Directory;
@@ -19,7 +21,7 @@ use edit_core::apply;
 use lattice_core::Ray;
 use memory_core::Memory;
 use name_core::Name;
-use report_text::{Body, TextFault, names_text, shot_text};
+use report_text::{Body, TextFault, list_text, names_text, shot_text, tree_text};
 use scene_prep::{PrepFault, prepare};
 use shot_core::{Lit, Scene, shoot};
 use std::alloc::Global;
@@ -44,6 +46,17 @@ pub struct Book {
     pub version: u32,
 }
 
+/// A body, or the refusal of one for which there was no room.
+fn body_or_quota(text: Result<Body, TextFault>) -> Result<Result<Body, Refusal>, Memory>
+    ensures { IfOk result (λ outcome. (lines : List (List ℕ)) (used : ℕ) → used ≤ most_used → IsText text lines (most_used - used) → outcome ≡ within_quota used (Ok lines)) }
+{
+    match text {
+        Ok(body) => Ok(Ok(body)),
+        Err(TextFault::Room) => Ok(Err(Refusal::Quota)),
+        Err(TextFault::Memory) => Err(Memory),
+    }
+}
+
 /// The names of all objects, where there is room for them.
 fn look_at_names(
     alloc: Global,
@@ -53,10 +66,48 @@ fn look_at_names(
     requires { used ≤ most_used }
     ensures { IfOk result (λ outcome. outcome ≡ within_quota used (Ok (names_lines directory.now.objects))) }
 {
-    match names_text(alloc, directory, MOST_USED - used) {
-        Ok(body) => Ok(Ok(body)),
-        Err(TextFault::Room) => Ok(Err(Refusal::Quota)),
-        Err(TextFault::Memory) => Err(Memory),
+    body_or_quota(names_text(alloc, directory, MOST_USED - used))
+}
+
+/// The first of the names that is not there.
+fn first_missing(directory: &Directory, names: &[Name]) -> Option<Name>
+    ensures { result ≡ first_missing directory.now.objects names.now }
+{
+    names
+        .iter()
+        .copied()
+        .find(|name| directory.get(name).is_none())
+}
+
+/// The written lines of names, where there is room for them, or the refusal of the first name that is not there.
+fn look_at_objects(
+    alloc: Global,
+    directory: &Directory,
+    used: u64,
+    names: &[Name],
+) -> Result<Result<Body, Refusal>, Memory>
+    requires { used ≤ most_used }
+    ensures { IfOk result (λ outcome. outcome ≡ within_quota used (lines_unless_missing (first_missing directory.now.objects names.now) (written_lines directory.now.objects names.now))) }
+{
+    match first_missing(directory, names) {
+        Some(name) => Ok(Err(Refusal::Missing(name))),
+        None => body_or_quota(list_text(alloc, directory, names, MOST_USED - used)),
+    }
+}
+
+/// The listings of names, where there is room for them, or the refusal of the first name that is not there.
+fn look_at_trees(
+    alloc: Global,
+    directory: &Directory,
+    used: u64,
+    names: &[Name],
+) -> Result<Result<Body, Refusal>, Memory>
+    requires { used ≤ most_used }
+    ensures { IfOk result (λ outcome. outcome ≡ within_quota used (lines_unless_missing (first_missing directory.now.objects names.now) (listings directory.now.objects names.now))) }
+{
+    match first_missing(directory, names) {
+        Some(name) => Ok(Err(Refusal::Missing(name))),
+        None => body_or_quota(tree_text(alloc, directory, names, MOST_USED - used)),
     }
 }
 
@@ -89,11 +140,7 @@ fn shoot_scene(
     ensures { IfOk result (λ outcome. outcome ≡ within_quota used (Ok (lines_of_scene scene.now ray.now))) }
 {
     let lit = shoot_uncounted::<Brand>(Blank::new(1), alloc, scene, &ray.ray())?;
-    match shot_text(alloc, scene, &lit, MOST_USED - used) {
-        Ok(body) => Ok(Ok(body)),
-        Err(TextFault::Room) => Ok(Err(Refusal::Quota)),
-        Err(TextFault::Memory) => Err(Memory),
-    }
+    body_or_quota(shot_text(alloc, scene, &lit, MOST_USED - used))
 }
 
 /// The refusal of names that make no scene.
@@ -135,9 +182,11 @@ fn look(
     ensures { IfOk result (λ outcome. outcome ≡ within_quota used (found directory.now query.now)) }
 {
     match query {
+        Query::List { names } => look_at_objects(alloc, directory, used, names.items()),
         Query::Names => look_at_names(alloc, directory, used),
+        Query::Tree { names } => look_at_trees(alloc, directory, used, names.items()),
+        Query::Save { .. } => Ok(Err(Refusal::Syntax)),
         Query::Shot { ray, names } => look_along(alloc, directory, used, ray, names.items()),
-        _ => Ok(Err(Refusal::Syntax)),
     }
 }
 

@@ -1,5 +1,5 @@
-ghost use Rattle.std.specs.Prelude.{◌≡◌};
-ghost use Rattle.mged_top.specs.Statuses.{exit_number, status_line};
+ghost use Rattle.std.specs.Prelude.{◌≡◌, ◌≤◌, ◌+◌, ◌++◌, codes, decimal, length};
+ghost use Rattle.mged_top.specs.Statuses.{exit_number, flaw_text, status_line};
 
 use fixed_text::FixedText;
 use mged_words::ScriptFlaw;
@@ -26,6 +26,29 @@ pub enum Status {
 /// The line of a status.
 pub type StatusText = FixedText<96>;
 
+/// Puts the number of a line, and what is wrong with it, at the end.
+fn push_line(line: u32, what: &[u8], out: &mut StatusText)
+    requires { length out.old + length what.now ≤ 64 }
+    ensures { out.new ≡ out.old ++ (codes "line " ++ (decimal line ++ what.now)) }
+{
+    out.push(b"line ");
+    out.push_number(line);
+    out.push(what);
+}
+
+/// Puts what is wrong with a script at the end.
+fn push_flaw(flaw: &ScriptFlaw, out: &mut StatusText)
+    requires { length out.old ≤ 32 }
+    ensures { out.new ≡ out.old ++ flaw_text flaw.now }
+{
+    match flaw {
+        ScriptFlaw::Size => out.push(b"size"),
+        ScriptFlaw::Lines(line) => push_line(*line, b" lines", out),
+        ScriptFlaw::LongLine(line) => push_line(*line, b" long", out),
+        ScriptFlaw::Session(line) => push_line(*line, b" session", out),
+    }
+}
+
 impl Status {
     /// The number with which the program ends.
     pub fn number(&self) -> u8
@@ -51,11 +74,9 @@ impl Status {
         match self {
             Status::Done | Status::SomeRefused => {}
             Status::Usage => out.push(b"mgedrt: usage"),
-            Status::ScriptRefused(ScriptFlaw::Size) => out.push(b"mgedrt: script size"),
-            Status::ScriptRefused(ScriptFlaw::Session(line)) => {
-                out.push(b"mgedrt: script line ");
-                out.push_number(*line);
-                out.push(b" session");
+            Status::ScriptRefused(flaw) => {
+                out.push(b"mgedrt: script ");
+                push_flaw(flaw, out);
             }
             Status::ReadFault => out.push(b"mgedrt: read"),
             Status::WriteFault => out.push(b"mgedrt: write"),

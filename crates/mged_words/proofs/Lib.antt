@@ -1,10 +1,12 @@
-pub mod SolidLaws
 pub mod ListLaws
-pub mod MatrixLaws
 pub mod TokenLaws
 pub mod CommandLaws
 pub mod SettingLaws
 pub mod PlaceLaws
 pub mod LineLaws
 pub mod ScriptLaws
+pub mod TextLaws
+pub mod MemberLaws
+pub mod PutLaws
 pub mod PlainLaws
+pub mod WrittenLaws

@@ -9,11 +9,12 @@ use Rattle.name_core.specs.NameText.{read_name, read_with, first_bad}
 use Rattle.name_core.specs.declared.name.NameFault.TheVariants.{Empty, Long}
 use Rattle.std.proofs.lemmas.Bool.{cond-true, cond-false}
 use Rattle.std.proofs.lemmas.List.{length-map}
-use Rattle.mged_words.specs.declared.solid.SolidKind.{SolidKind}
+use Rattle.word_values.specs.declared.solid.SolidKind.{SolidKind}
 use Rattle.command_set.specs.declared.command.Command.{Command}
 use Rattle.command_set.specs.declared.refusal.Refusal.{Refusal}
-use Rattle.mged_words.specs.Solids.{number_count}
-use Rattle.mged_words.specs.Commands.{unless_refused, kind_command, solid_command, solid_number, number_fault, in_command, nirt_command, shot_command, view_number, direction_of}
+use Rattle.word_values.specs.Solids.{number_count}
+use Rattle.word_values.specs.Atoms.{solid_number, view_number}
+use Rattle.mged_words.specs.Commands.{unless_refused, kind_command, solid_command, number_fault, in_command, nirt_command, shot_command, direction_of}
 use Rattle.command_set.specs.declared.command.Command.TheVariants.{Bad}
 use Rattle.command_set.specs.declared.refusal.Refusal.TheVariants.{Syntax}
 

@@ -20,7 +20,7 @@ use Rattle.command_set.specs.Lawful.{AreNear}
 use Rattle.command_set.specs.declared.refusal.Refusal.{Refusal}
 use Rattle.command_set.specs.declared.refusal.Refusal.TheVariants.{Name}
 use Rattle.mged_words.specs.Commands.{name_fault, names_fault, members_fault, operator_of, entry_of, entry_before, entries_of}
-use Rattle.mged_words.specs.Matrices.{identity}
+use Rattle.word_values.specs.Matrices.{identity}
 
 pub named : (t : Bool) (refusal : Refusal) → cond t None (Some refusal) ≡ None → t ≡ true
 named true refusal h = refl

@@ -10,11 +10,12 @@ use Rattle.command_set.specs.declared.command.Command.{Command}
 use Rattle.command_set.specs.declared.command.Command.TheVariants.{Bad}
 use Rattle.command_set.specs.declared.refusal.Refusal.{Refusal}
 use Rattle.command_set.specs.declared.refusal.Refusal.TheVariants.{Syntax, Number}
-use Rattle.mged_words.specs.Matrices.{all_numbers, placement_in, placement_of_all, placement_read}
-use Rattle.mged_words.specs.Commands.{name_fault, names_fault, number_fault, matrix_fault, placement_or, placement_given, placed_command, sixteen_command, unless_refused, view_number}
+use Rattle.word_values.specs.Matrices.{placement_in, placement_of_all, placement_read}
+use Rattle.word_values.specs.Atoms.{all_numbers, view_number}
+use Rattle.mged_words.specs.Commands.{name_fault, names_fault, number_fault, matrix_fault, placement_or, placement_given, placed_command, sixteen_command, unless_refused}
 use Rattle.mged_words.proofs.ListLaws.{unnamed}
 use Rattle.mged_words.proofs.CommandLaws.{bad_first, bad_rest, good_first}
-use Rattle.mged_words.proofs.MatrixLaws.{all_there}
+use Rattle.word_values.proofs.MatrixLaws.{all_there}
 
 some_mapped : (n : ℤ) (o : Option (List ℤ)) → is_some (option_map (λ numbers. n ∷ numbers) o) ≡ is_some o
 some_mapped n None = refl

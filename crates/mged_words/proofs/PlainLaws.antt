@@ -1,35 +1,35 @@
 -- The command of a line has names and refusals that stand on one line.
-use Rattle.std.proofs.Common.{zero, suc, get_or, ◌/◌, ◌%◌, nat_lt, is_some, is_none, ◌≡◌, ◌<◌, ◌≤◌, ◌+◌, ◌++◌, ◌==◌, ◌&&◌, ℕ, ℤ, Bool, true, false, cond, List, [], ◌∷◌, All, Option, Some, None, Result, Ok, Err, is_ok, length, map, codes, decimal, bytes_eq, refl, sym, subst, arith, true≢false}
+use Rattle.std.proofs.Common.{zero, suc, get_or, ◌/◌, ◌%◌, nat_lt, is_some, is_none, ◌≡◌, ◌<◌, ◌≤◌, ◌+◌, ◌++◌, ◌==◌, ◌&&◌, ℕ, ℤ, Bool, true, false, cond, List, [], ◌∷◌, All, Option, Some, None, Result, Ok, Err, is_ok, length, map, codes, decimal, bytes_eq, refl, arith}
 use Rattle.std.proofs.lemmas.Bool.{and_parts, leb-true}
 use Rattle.std.proofs.lemmas.Int.{ints}
 use Rattle.std.specs.Int.RustNames.{unsigned_abs}
 use Rattle.std.specs.List.{AllByRecursion}
 use Rattle.std.specs.Fmt.{digits, digits_onto, digit_glyph}
-use Rattle.std.proofs.lemmas.List.Elements.{All-head, All-tail, All-append}
+use Rattle.std.proofs.lemmas.List.Elements.{All-append}
 use Rattle.lattice_core.specs.declared.ray.Dir.{Dir}
 use Rattle.lattice_core.specs.declared.vector.V3.{V3}
 use Rattle.lattice_core.specs.declared.limit.TheConstants.{WORLD}
 use Rattle.lattice_core.specs.Limits.{IsAtMost, IsWithin}
-use Rattle.name_core.specs.NameText.{IsName, is_first_byte, is_next_byte, read_name}
+use Rattle.name_core.specs.NameText.{read_name}
 use Rattle.name_core.proofs.NameLaws.{accepted}
-use Rattle.transcript.specs.Merge.{Entry}
+use Rattle.transcript.specs.Merge.{Entry, entry}
 use Rattle.transcript.specs.Lines.{Lacks}
 use Rattle.transcript.proofs.LineLaws.{lacks_append}
 use Rattle.transcript.proofs.TranscriptLaws.{computed}
-use Rattle.mged_words.specs.Commands.{unless_refused, name_fault, names_fault, members_fault, number_fault, matrix_fault, setting_fault, solid_number, view_number, make_command, solid_command, kind_command, in_command, direction_of, world_fault, is_from_world, is_in_world, ray_of, shot_command, nirt_command, entry_of, entries_of, region_command, r_command, g_command, rm_command, kill_command, mvall_command, ls_command, placement_or, placement_given, placed_command, sixteen_command, matrix_command, matrix_words, place_with, place_command, set_command, set_with, value_of, cattr_command, with_atoms, atoms_in, atom_command, named_command, worded_command, command_of_words, command_read, command_of}
-use Rattle.mged_words.specs.Matrices.{all_numbers, placement_read}
-use Rattle.mged_words.specs.Readable.{ArePlain, IsPlain, IsPlainRefusal, IsReadable}
-use Rattle.mged_words.specs.Scripts.{command_line}
+use Rattle.word_values.specs.Atoms.{all_numbers, atoms_in, solid_number, value_of, view_number}
+use Rattle.mged_words.specs.Commands.{unless_refused, name_fault, names_fault, members_fault, number_fault, matrix_fault, setting_fault, make_command, solid_command, kind_command, in_command, direction_of, world_fault, is_from_world, is_in_world, ray_of, shot_command, nirt_command, entry_of, entries_of, region_command, r_command, g_command, rm_command, kill_command, mvall_command, ls_command, placement_or, placement_given, placed_command, sixteen_command, matrix_command, matrix_words, place_with, place_command, set_command, set_with, cattr_command, with_atoms, atom_command, named_command, worded_command, refusal_of_put, put_made, put_command, title_command, keep_fault, pairs_or_none, kept_command, keep_command, is_set, attr_command, l_command, tree_command, command_of_words, command_read, command_of}
+use Rattle.word_values.specs.Matrices.{placement_read}
+use Rattle.mged_words.specs.Readable.{ArePlain, ArePlainPairs, IsPlain, IsPlainRefusal, IsReadable}
 use Rattle.plane_geom.specs.declared.fault.ShapeFault.{ShapeFault}
 use Rattle.plane_geom.specs.declared.fault.ShapeFault.TheVariants.{Flat, NotPlanar, NotConvex, Radius, ZeroNormal}
 use Rattle.solid_set.specs.declared.solid.Solid.{Solid}
-use Rattle.mged_words.specs.declared.solid.SolidKind.{SolidKind}
-use Rattle.mged_words.specs.Solids.{kind_of, number_count, solid_made, vector_at}
+use Rattle.word_values.specs.declared.solid.SolidKind.{SolidKind}
+use Rattle.word_values.specs.Solids.{kind_of, number_count, solid_made, vector_at}
 use Rattle.command_set.specs.Refusals.{shape_text}
 use Rattle.command_set.specs.declared.refusal.ViewFault.TheVariants.{World}
 use Rattle.command_set.specs.declared.command.Command.{Command}
 use Rattle.command_set.specs.declared.command.Command.TheVariants.{Bad, Edit, Query}
-use Rattle.command_set.specs.declared.command.Edit.TheVariants.{Region, Group, Remove, Kill, RenameAll, Set}
+use Rattle.command_set.specs.declared.command.Edit.TheVariants.{Region, Group, Remove, Kill, RenameAll, Title, Keep, Set}
 use Rattle.tcl_words.specs.declared.token.Token.{Token}
 use Rattle.tcl_words.specs.declared.token.Word.{Word}
 use Rattle.tcl_words.specs.declared.fault.WordFault.{WordFault}
@@ -41,18 +41,16 @@ use Rattle.comb_tree.specs.Changes.{names_of}
 use Rattle.region_attr.specs.Keys.{key_of}
 use Rattle.region_attr.specs.Attrs.{is_setting}
 use Rattle.lattice_core.specs.declared.placement.Placement.{Placement}
-use Rattle.command_set.specs.declared.command.Query.TheVariants.{Shot}
+use Rattle.command_set.specs.declared.command.Query.TheVariants.{List as Lines, Tree, Shot}
+use Rattle.object_set.specs.declared.kept.KeptAttr.{KeptAttr}
+use Rattle.put_form.specs.Keeps.{is_text, kept_of}
+use Rattle.put_form.specs.Pairs.{pairs_of}
+use Rattle.put_form.specs.Puts.{Put as PutRead, put_of}
+use Rattle.put_form.specs.declared.fault.PutFault.{PutFault}
+use Rattle.put_form.specs.declared.fault.PutFault.TheVariants as put
+use Rattle.mged_words.proofs.PutLaws.{name_lacks, IsNamedPut, IsPlainKept, put_named, kept_plain as read_kept_plain}
 use Rattle.command_set.specs.declared.refusal.Refusal.{Refusal}
 use Rattle.command_set.specs.declared.refusal.Refusal.TheVariants.{Syntax, Name, Number, View, Shape}
-
--- a name has no line feed
-rest_lacks : (bytes : List ℕ) → All (λ b. is_next_byte b ≡ true) bytes → Lacks 10 bytes
-rest_lacks [] h = tt
-rest_lacks (b ∷ bs) h = (λ e. true≢false (sym (subst (λ x. is_next_byte x ≡ true) e (All-head (λ x. is_next_byte x ≡ true) b bs h))), rest_lacks bs (All-tail (λ x. is_next_byte x ≡ true) b bs h))
-
-pub name_lacks : (bytes : List ℕ) → IsName bytes → Lacks 10 bytes
-name_lacks [] h = absurd (omega (arith, h.some))
-name_lacks (b ∷ bs) h = (λ e. true≢false (sym (subst (λ x. is_first_byte x ≡ true) e h.first)), rest_lacks bs h.rest)
 
 -- decimals
 glyph_lacks : (r : ℕ) → digit_glyph false r ≡ 10 → ⊥
@@ -73,7 +71,7 @@ onto_lacks (suc k) n rest h =
     step_lacks (n / 10 == 0) _ _ glyph (onto_lacks k (n / 10) _ glyph)
 
 -- a decimal of any size
-decimal_one_line : (n : ℕ) → Lacks 10 (decimal n)
+pub decimal_one_line : (n : ℕ) → Lacks 10 (decimal n)
 unfolding digits
 decimal_one_line n = onto_lacks 64 n [] tt
 
@@ -139,7 +137,7 @@ name_read : (word : ℕ) (atom : List ℕ) → name_fault word atom ≡ None →
 name_read word atom h = name_lacks atom ((accepted atom).0 (named (is_ok (read_name atom)) (Name word) h))
 
 make_plain : (name : List ℕ) (made : Result Solid ShapeFault) → Lacks 10 name → IsPlain (make_command name made)
-make_plain name (Ok solid) h = h
+make_plain name (Ok solid) h = (h, record { members = tt; kept = tt })
 make_plain name (Err fault) h = plain_shape fault
 
 solid_plain : (name : List ℕ) (kind : SolidKind) (numbers : List (Option ℤ)) → IsPlain (solid_command name kind numbers)
@@ -291,6 +289,75 @@ cattr_plain line tokens (a ∷ []) = plain_syntax
 cattr_plain line tokens (a ∷ b ∷ []) = plain_syntax
 cattr_plain line tokens (name ∷ key ∷ value ∷ rest) = set_plain (atom_of line tokens name) (atom_of line tokens key) (value_of line tokens value rest)
 
+-- one object as words
+refusal_plain : (fault : PutFault) → IsPlainRefusal (refusal_of_put fault)
+refusal_plain put.NoType = plain_syntax
+refusal_plain put.Attr = plain_syntax
+refusal_plain put.Tree = plain_syntax
+refusal_plain (put.Name word) = plain_name word
+refusal_plain (put.Number word) = plain_number word
+refusal_plain (put.Shape fault) = plain_shape fault
+refusal_plain PutFault.Memory = plain_syntax
+
+made_plain : (made : PutRead) → IsNamedPut made → IsPlain (put_made made)
+made_plain (Ok made) h = h
+made_plain (Err fault) h = refusal_plain fault
+
+put_plain : (line : List ℕ) (tokens : List Token) (words : List Word) → IsPlain (put_command line tokens words)
+put_plain line tokens [] = plain_syntax
+put_plain line tokens (word ∷ []) = plain_syntax
+put_plain line tokens (word ∷ name ∷ rest) =
+    either_plain (is_none (atom_of line tokens name)) (Bad Syntax) (put_made (put_of line tokens (word ∷ name ∷ rest))) plain_syntax
+    (made_plain (put_of line tokens (word ∷ name ∷ rest)) (put_named line tokens (word ∷ name ∷ rest)))
+
+title_plain : (line : List ℕ) (tokens : List Token) (words : List Word) → IsPlain (title_command line tokens words)
+title_plain line tokens [] = plain_syntax
+title_plain line tokens (value ∷ rest) = either_plain (is_text (value_of line tokens value rest)) (Edit (Title (value_of line tokens value rest))) (Bad Syntax) tt plain_syntax
+
+-- attributes to be kept
+may_keep : (pairs : Result (List KeptAttr) PutFault) → MayBePlain (keep_fault pairs)
+may_keep (Ok pairs) = tt
+may_keep (Err fault) = refusal_plain fault
+
+kept_pairs : (pairs : Result (List KeptAttr) PutFault) → IsPlainKept pairs → ArePlainPairs (pairs_or_none pairs)
+kept_pairs (Ok pairs) h = h
+kept_pairs (Err fault) h = tt
+
+pairs_plain : (name : List ℕ) (pairs : Result (List KeptAttr) PutFault) → IsPlainKept pairs → IsPlain (unless_refused (name_fault 3 name ∷ keep_fault pairs ∷ []) (Edit (Keep name (pairs_or_none pairs))))
+pairs_plain name pairs h =
+    unless_plain (name_fault 3 name ∷ keep_fault pairs ∷ []) (Edit (Keep name (pairs_or_none pairs))) (may_if (is_ok (read_name name)) (Name 3) (plain_name 3), (may_keep pairs, tt))
+    (λ all. (name_read 3 name all.0, kept_pairs pairs h))
+
+kept_plain : (name : List ℕ) (pairs : Result (List KeptAttr) PutFault) → IsPlainKept pairs → IsPlain (kept_command name pairs)
+kept_plain name (Ok pairs) h = pairs_plain name (Ok pairs) h
+kept_plain name (Err put.NoType) h = pairs_plain name (Err put.NoType) h
+kept_plain name (Err put.Attr) h = plain_syntax
+kept_plain name (Err put.Tree) h = pairs_plain name (Err put.Tree) h
+kept_plain name (Err (put.Name word)) h = pairs_plain name (Err (put.Name word)) h
+kept_plain name (Err (put.Number word)) h = pairs_plain name (Err (put.Number word)) h
+kept_plain name (Err (put.Shape fault)) h = pairs_plain name (Err (put.Shape fault)) h
+kept_plain name (Err PutFault.Memory) h = pairs_plain name (Err PutFault.Memory) h
+
+keep_plain : (name : Option (List ℕ)) (pairs : Result (List KeptAttr) PutFault) → IsPlainKept pairs → IsPlain (keep_command name pairs)
+keep_plain None pairs h = plain_syntax
+keep_plain (Some name) pairs h = kept_plain name pairs h
+
+attr_plain : (line : List ℕ) (tokens : List Token) (words : List Word) → IsPlain (attr_command line tokens words)
+attr_plain line tokens [] = plain_syntax
+attr_plain line tokens (a ∷ []) = plain_syntax
+attr_plain line tokens (set ∷ name ∷ rest) =
+    let pairs : Result (List KeptAttr) PutFault = kept_of line tokens (pairs_of line tokens 4 rest) in
+    either_plain (is_set (atom_of line tokens set)) (keep_command (atom_of line tokens name) pairs) (Bad Syntax) (keep_plain (atom_of line tokens name) pairs (read_kept_plain line tokens (pairs_of line tokens 4 rest))) plain_syntax
+
+-- listings
+l_plain : (atoms : List (List ℕ)) → IsPlain (l_command atoms)
+l_plain [] = plain_syntax
+l_plain (name ∷ rest) = unless_plain (names_fault 2 1 (name ∷ rest) ∷ []) (Query (Lines (name ∷ rest))) (may_names 2 1 (name ∷ rest), tt) (λ all. names_plain 2 1 (name ∷ rest) all.0)
+
+tree_plain : (atoms : List (List ℕ)) → IsPlain (tree_command atoms)
+tree_plain [] = plain_syntax
+tree_plain (name ∷ rest) = unless_plain (names_fault 2 1 (name ∷ rest) ∷ []) (Query (Tree (name ∷ rest))) (may_names 2 1 (name ∷ rest), tt) (λ all. names_plain 2 1 (name ∷ rest) all.0)
+
 atom_plain : (word : List ℕ) (atoms : List (List ℕ)) → IsPlain (atom_command word atoms)
 atom_plain word atoms =
     either_plain (bytes_eq word (codes "in")) (in_command atoms) _ (in_plain atoms)
@@ -300,24 +367,29 @@ atom_plain word atoms =
     (either_plain (bytes_eq word (codes "rm")) (rm_command atoms) _ (rm_plain atoms)
     (either_plain (bytes_eq word (codes "kill")) (kill_command atoms) _ (kill_plain atoms)
     (either_plain (bytes_eq word (codes "mvall")) (mvall_command atoms) _ (mvall_plain atoms)
-    (either_plain (bytes_eq word (codes "ls")) (ls_command atoms) (Bad Syntax) (ls_plain atoms) plain_syntax)))))))
+    (either_plain (bytes_eq word (codes "ls")) (ls_command atoms) _ (ls_plain atoms)
+    (either_plain (bytes_eq word (codes "l")) (l_command atoms) _ (l_plain atoms)
+    (either_plain (bytes_eq word (codes "tree")) (tree_command atoms) (Bad Syntax) (tree_plain atoms) plain_syntax)))))))))
 
 atoms_plain : (word : List ℕ) (atoms : Option (List (List ℕ))) → IsPlain (with_atoms (atom_command word) atoms)
 atoms_plain word None = plain_syntax
 atoms_plain word (Some atoms) = atom_plain word atoms
 
-named_plain : (line : List ℕ) (tokens : List Token) (words : List Word) (word : List ℕ) → IsPlain (named_command line tokens words word)
-named_plain line tokens words word =
-    either_plain (bytes_eq word (codes "place")) (place_command line tokens words) _ (place_plain line tokens words)
-    (either_plain (bytes_eq word (codes "cattr")) (cattr_command line tokens words) (with_atoms (atom_command word) (atoms_in line tokens words)) (cattr_plain line tokens words) (atoms_plain word (atoms_in line tokens words)))
+named_plain : (line : List ℕ) (tokens : List Token) (word : Word) (words : List Word) (name : List ℕ) → IsPlain (named_command line tokens word words name)
+named_plain line tokens word words name =
+    either_plain (bytes_eq name (codes "place")) (place_command line tokens words) _ (place_plain line tokens words)
+    (either_plain (bytes_eq name (codes "cattr")) (cattr_command line tokens words) _ (cattr_plain line tokens words)
+    (either_plain (bytes_eq name (codes "put")) (put_command line tokens (word ∷ words)) _ (put_plain line tokens (word ∷ words))
+    (either_plain (bytes_eq name (codes "attr")) (attr_command line tokens words) _ (attr_plain line tokens words)
+    (either_plain (bytes_eq name (codes "title")) (title_command line tokens words) (with_atoms (atom_command name) (atoms_in line tokens words)) (title_plain line tokens words) (atoms_plain name (atoms_in line tokens words))))))
 
-worded_plain : (line : List ℕ) (tokens : List Token) (words : List Word) (word : Option (List ℕ)) → IsPlain (worded_command line tokens words word)
-worded_plain line tokens words None = plain_syntax
-worded_plain line tokens words (Some word) = named_plain line tokens words word
+worded_plain : (line : List ℕ) (tokens : List Token) (word : Word) (words : List Word) (name : Option (List ℕ)) → IsPlain (worded_command line tokens word words name)
+worded_plain line tokens word words None = plain_syntax
+worded_plain line tokens word words (Some name) = named_plain line tokens word words name
 
 all_plain : (line : List ℕ) (tokens : List Token) (words : List Word) → IsPlain (command_of_words line tokens words)
 all_plain line tokens [] = plain_syntax
-all_plain line tokens (w ∷ rest) = worded_plain line tokens rest (atom_of line tokens w)
+all_plain line tokens (word ∷ words) = worded_plain line tokens word words (atom_of line tokens word)
 
 read_plain : (line : List ℕ) (read : Result (List Token) WordFault) → IsPlain (command_read line read)
 read_plain line (Err fault) = plain_syntax
@@ -334,5 +406,5 @@ all_end : (xs : List (Entry Command)) (x : Entry Command) → All IsReadable xs 
 all_end xs x h k = All-append IsReadable xs (x ∷ []) h (one_entry x k)
 
 -- with the command of one line more
-pub line_end : (script : List (Entry Command)) (line : List ℕ) → All IsReadable script → All IsReadable (script ++ command_line line ∷ [])
-line_end script line h = all_end script (command_line line) h (line_plain line)
+pub line_end : (script : List (Entry Command)) (session : ℕ) (rest : List ℕ) → All IsReadable script → All IsReadable (script ++ entry session (command_of rest) ∷ [])
+line_end script session rest h = all_end script (entry session (command_of rest)) h (line_plain rest)

@@ -1,30 +1,10 @@
 -- Tokens and words of a line.
-use Rattle.std.proofs.Common.{◌≡◌, ◌<◌, ◌≤◌, ◌+◌, ◌-◌, ◌∷◌, [], ℕ, zero, suc, List, Option, Some, None, length, get_or, filter_map, arith, ap, inl, inr}
+use Rattle.std.proofs.Common.{◌≤◌, ◌+◌, ◌∷◌, [], ℕ, List, Option, Some, None, length, filter_map, arith}
 use Rattle.std.specs.List.{range_with_len, cons_option}
-use Rattle.std.proofs.lemmas.Bool.{cases_lt}
 use Rattle.std.proofs.lemmas.List.FromFn.{length-range_with_len}
 use Rattle.tcl_words.specs.declared.token.Token.{Token}
 use Rattle.tcl_words.specs.declared.token.Word.{Word}
-use Rattle.tcl_words.specs.TopWords.{Lies, AllLie, StartsFrom, AreTokensIn, top_words, word_at}
-use Rattle.tcl_words.proofs.Order.{in_order}
-
-lies_at : (n : ℕ) (ts : List Token) (i : ℕ) (d : Token) → AllLie n ts → i < length ts → Lies n (get_or ts i d)
-lies_at n [] i d h lt = absurd (omega (arith, lt))
-lies_at n (t ∷ ts) zero d h lt = h.0
-lies_at n (t ∷ ts) (suc i) d h lt = lies_at n ts i d h.1 (omega (arith, lt))
-
--- the last token ends behind the start of each, and in the line
-pub last_behind : (n : ℕ) (ts : List Token) (i : ℕ) (d : Token) → AreTokensIn n ts → i < length ts → (get_or ts i d).start ≤ (get_or ts (length ts - 1) d).end
-last_behind n ts i d h lt =
-    let last = lies_at n ts (length ts - 1) d h.lie (omega (arith, lt)) in
-    elim (cases_lt i (length ts - 1)) [
-      | inl before ↦ let order = in_order 0 ts i (length ts - 1) d h.starts before (omega (arith, lt)) in omega (arith, order, last.0)
-      | inr at ↦ let same : length ts - 1 ≡ i = omega (arith, lt, at) in
-          let start : (get_or ts (length ts - 1) d).start ≡ (get_or ts i d).start = ap (λ (k : ℕ). (get_or ts k d).start) same in omega (arith, start, last.0)
-    ]
-
-pub last_within : (n : ℕ) (ts : List Token) (d : Token) → AreTokensIn n ts → 0 < length ts → (get_or ts (length ts - 1) d).end ≤ n
-last_within n ts d h lt = (lies_at n ts (length ts - 1) d h.lie (omega (arith, lt))).1
+use Rattle.tcl_words.specs.TopWords.{AllLie, StartsFrom, AreTokensIn, top_words, word_at}
 
 few_from : (n a : ℕ) (ts : List Token) → AllLie n ts → StartsFrom a ts → a ≤ n + 1 → length ts + a ≤ n + 1
 few_from n a [] lie starts h = omega (arith, h)

@@ -1,7 +1,6 @@
 -- Which command a line is, or the refusal that it is answered as it stands. All of a line's form is looked at first, then
 -- its names, its numbers, the ray, and the solid.
-use Rattle.std.specs.Prelude.{ℕ, ℤ, Bool, ◌&&◌, ◌==◌, ◌+◌, ◌-◌, List, [], ◌∷◌, Option, Some, None, Result, Ok, Err, is_ok, is_some, is_none, map, length, codes, bytes_eq, nat_le, unwrap_or, if◌then◌else◌}
-use Rattle.std.specs.List.{slice_range}
+use Rattle.std.specs.Prelude.{ℕ, ℤ, Bool, false, ◌&&◌, ◌==◌, ◌+◌, List, [], ◌∷◌, Option, Some, None, Result, Ok, Err, is_ok, is_some, is_none, map, length, codes, bytes_eq, nat_le, if◌then◌else◌}
 use Rattle.std.specs.Option.{option_map}
 use Rattle.std.specs.Int.RustNames.{unsigned_abs}
 use Rattle.lattice_core.specs.declared.ray.Dir.{Dir}
@@ -10,9 +9,8 @@ use Rattle.lattice_core.specs.declared.ray.Ray.{Ray}
 use Rattle.lattice_core.specs.declared.vector.V3.{V3}
 use Rattle.lattice_core.specs.declared.placement.Placement.{Placement}
 use Rattle.name_core.specs.NameText.{read_name}
-use Rattle.tcl_words.specs.Numbers.{number_of}
 use Rattle.tcl_words.specs.Reading.{words_of}
-use Rattle.tcl_words.specs.TopWords.{top_words, atom_of, raw_of, nth}
+use Rattle.tcl_words.specs.TopWords.{top_words, atom_of}
 use Rattle.tcl_words.specs.declared.fault.WordFault.{WordFault}
 use Rattle.tcl_words.specs.declared.token.Token.{Token}
 use Rattle.tcl_words.specs.declared.token.Word.{Word}
@@ -28,23 +26,21 @@ use Rattle.object_set.specs.declared.object.Body.TheVariants as bodies
 use Rattle.object_set.specs.Objects.{Parts}
 use Rattle.command_set.specs.declared.command.Command.{Command}
 use Rattle.command_set.specs.declared.command.Command.TheVariants.{Bad, Edit, Query}
-use Rattle.command_set.specs.declared.command.Edit.TheVariants.{Make, Region, Group, Remove, Kill, RenameAll, Place, Set}
-use Rattle.command_set.specs.declared.command.Query.TheVariants.{Names, Shot}
+use Rattle.command_set.specs.declared.command.Edit.TheVariants.{Make, Region, Group, Remove, Kill, RenameAll, Place, Title, Keep, Set}
+use Rattle.command_set.specs.declared.command.Query.TheVariants.{List as Lines, Names, Tree, Shot}
 use Rattle.command_set.specs.declared.refusal.Refusal.{Refusal}
 use Rattle.command_set.specs.declared.refusal.Refusal.TheVariants.{Syntax, Name, Number, View, Shape}
 use Rattle.command_set.specs.declared.refusal.ViewFault.TheVariants.{World}
-use Rattle.mged_words.specs.declared.solid.SolidKind.{SolidKind}
-use Rattle.mged_words.specs.Solids.{kind_of, number_count, solid_made, vector_at}
-use Rattle.mged_words.specs.Matrices.{all_numbers, placement_read, identity}
-
--- the words of a line, where each is an atom or a group of one atom
-abbrev pub all_atoms : List (Option (List ℕ)) → Option (List (List ℕ))
-all_atoms [] = Some []
-all_atoms (None ∷ rest) = None
-all_atoms (Some atom ∷ rest) = option_map (λ atoms. atom ∷ atoms) (all_atoms rest)
-
-abbrev pub atoms_in : List ℕ → List Token → List Word → Option (List (List ℕ))
-atoms_in line tokens words = all_atoms (map (atom_of line tokens) words)
+use Rattle.word_values.specs.declared.solid.SolidKind.{SolidKind}
+use Rattle.word_values.specs.Atoms.{atoms_in, words_in, solid_number, view_number, all_numbers, value_of}
+use Rattle.word_values.specs.Solids.{kind_of, number_count, solid_made, vector_at}
+use Rattle.word_values.specs.Matrices.{placement_read, identity}
+use Rattle.object_set.specs.declared.kept.KeptAttr.{KeptAttr}
+use Rattle.put_form.specs.Keeps.{is_text, kept_of}
+use Rattle.put_form.specs.Pairs.{pairs_of}
+use Rattle.put_form.specs.Puts.{Put as PutRead, put_of}
+use Rattle.put_form.specs.declared.fault.PutFault.{PutFault}
+use Rattle.put_form.specs.declared.fault.PutFault.TheVariants as put
 
 -- the first refusal that holds, else the command
 abbrev pub unless_refused : List (Option Refusal) → Command → Command
@@ -60,22 +56,6 @@ name_fault word atom = if is_ok (read_name atom) then None else Some (Name word)
 abbrev pub names_fault : ℕ → ℕ → List (List ℕ) → Option Refusal
 names_fault word step [] = None
 names_fault word step (atom ∷ rest) = if is_ok (read_name atom) then names_fault (word + step) step rest else Some (Name word)
-
-abbrev pub kept_to : ℕ → Option ℤ → Option ℤ
-kept_to most None = None
-kept_to most (Some n) = if nat_le (unsigned_abs n) most then Some n else None
-
--- an atom as a number of at most this size
-abbrev pub number_to : ℕ → List ℕ → Option ℤ
-number_to most atom = kept_to most (number_of atom)
-
--- a coordinate, a radius, a component of a normal or a distance, in millimetres
-abbrev pub solid_number : List ℕ → Option ℤ
-solid_number atom = number_to 16384 atom
-
--- a coordinate of a ray's origin, in millimetres, or a number of a matrix
-abbrev pub view_number : List ℕ → Option ℤ
-view_number atom = number_to 999999999 atom
 
 -- the first of the words, counted from this one, that is no number in its range
 abbrev pub number_fault : ℕ → List (Option ℤ) → Option Refusal
@@ -236,12 +216,6 @@ abbrev pub matrix_command : List ℕ → List ℕ → Bool → Option (List (Lis
 matrix_command comb member is_group None = Bad Syntax
 matrix_command comb member is_group (Some atoms) = sixteen_command comb member is_group atoms
 
--- the words in a group; a word that is no group has none
-abbrev pub words_in : List ℕ → List Token → Word → Option (List (List ℕ))
-words_in line tokens w =
-    if w.first == w.last then None
-    else atoms_in line (slice_range tokens (w.first + 1) w.last) (top_words (slice_range tokens (w.first + 1) w.last))
-
 -- the words of a matrix: those in a single group, or the words themselves
 abbrev pub matrix_words : List ℕ → List Token → List Word → Option (List (List ℕ))
 matrix_words line tokens (w ∷ []) = words_in line tokens w
@@ -256,18 +230,6 @@ place_with line tokens words (Some comb) (Some member) = matrix_command comb mem
 abbrev pub place_command : List ℕ → List Token → List Word → Command
 place_command line tokens (comb ∷ member ∷ words) = place_with line tokens words (atom_of line tokens comb) (atom_of line tokens member)
 place_command line tokens _ = Bad Syntax
-
-abbrev pub last_token : List Token → Token
-last_token tokens = nth tokens (length tokens - 1)
-
--- the bytes from the start of a word to the end of the line's last word
-abbrev pub text_from : List ℕ → List Token → Word → List ℕ
-text_from line tokens w = slice_range line (nth tokens w.first).start (last_token tokens).end
-
--- the raw text of a single group, or the bytes from the first word's start to the last word's end
-abbrev pub value_of : List ℕ → List Token → Word → List Word → List ℕ
-value_of line tokens w [] = unwrap_or (raw_of line tokens w) (text_from line tokens w)
-value_of line tokens w (next ∷ rest) = text_from line tokens w
 
 -- the words from this one on are no value of the attribute
 abbrev pub setting_fault : ℕ → List ℕ → List ℕ → Option Refusal
@@ -288,6 +250,67 @@ abbrev pub cattr_command : List ℕ → List Token → List Word → Command
 cattr_command line tokens (name ∷ key ∷ value ∷ rest) = set_with (atom_of line tokens name) (atom_of line tokens key) (value_of line tokens value rest)
 cattr_command line tokens _ = Bad Syntax
 
+-- why the words of an object are refused: a word that is no name or no number is named
+abbrev pub refusal_of_put : PutFault → Refusal
+refusal_of_put put.NoType = Syntax
+refusal_of_put put.Attr = Syntax
+refusal_of_put put.Tree = Syntax
+refusal_of_put (put.Name word) = Name word
+refusal_of_put (put.Number word) = Number word
+refusal_of_put (put.Shape fault) = Shape fault
+refusal_of_put PutFault.Memory = Syntax
+
+abbrev pub put_made : PutRead → Command
+put_made (Ok made) = Edit (Make made.0 made.1)
+put_made (Err fault) = Bad (refusal_of_put fault)
+
+-- `put NAME TYPE KEY VALUE ..`, with the word `put`; a group where the name is wanted is no such form
+abbrev pub put_command : List ℕ → List Token → List Word → Command
+put_command line tokens (word ∷ name ∷ rest) = if is_none (atom_of line tokens name) then Bad Syntax else put_made (put_of line tokens (word ∷ name ∷ rest))
+put_command line tokens _ = Bad Syntax
+
+-- `title TEXT ..`
+abbrev pub title_command : List ℕ → List Token → List Word → Command
+title_command line tokens [] = Bad Syntax
+title_command line tokens (value ∷ rest) = if is_text (value_of line tokens value rest) then Edit (Title (value_of line tokens value rest)) else Bad Syntax
+
+abbrev pub keep_fault : Result (List KeptAttr) PutFault → Option Refusal
+keep_fault (Ok pairs) = None
+keep_fault (Err fault) = Some (refusal_of_put fault)
+
+abbrev pub pairs_or_none : Result (List KeptAttr) PutFault → List KeptAttr
+pairs_or_none (Ok pairs) = pairs
+pairs_or_none (Err fault) = []
+
+-- the form of keys and values comes before the object's name, and that before the names of the keys
+abbrev pub kept_command : List ℕ → Result (List KeptAttr) PutFault → Command
+kept_command name (Err put.Attr) = Bad Syntax
+kept_command name pairs = unless_refused (name_fault 3 name ∷ keep_fault pairs ∷ []) (Edit (Keep name (pairs_or_none pairs)))
+
+abbrev pub keep_command : Option (List ℕ) → Result (List KeptAttr) PutFault → Command
+keep_command None pairs = Bad Syntax
+keep_command (Some name) pairs = kept_command name pairs
+
+abbrev pub is_set : Option (List ℕ) → Bool
+is_set None = false
+is_set (Some word) = bytes_eq word (codes "set")
+
+-- `attr set NAME KEY VALUE ..`
+abbrev pub attr_command : List ℕ → List Token → List Word → Command
+attr_command line tokens (set ∷ name ∷ rest) =
+    if is_set (atom_of line tokens set) then keep_command (atom_of line tokens name) (kept_of line tokens (pairs_of line tokens 4 rest)) else Bad Syntax
+attr_command line tokens _ = Bad Syntax
+
+-- `l NAME ..`
+abbrev pub l_command : List (List ℕ) → Command
+l_command [] = Bad Syntax
+l_command (name ∷ rest) = unless_refused (names_fault 2 1 (name ∷ rest) ∷ []) (Query (Lines (name ∷ rest)))
+
+-- `tree NAME ..`
+abbrev pub tree_command : List (List ℕ) → Command
+tree_command [] = Bad Syntax
+tree_command (name ∷ rest) = unless_refused (names_fault 2 1 (name ∷ rest) ∷ []) (Query (Tree (name ∷ rest)))
+
 abbrev pub with_atoms : (List (List ℕ) → Command) → Option (List (List ℕ)) → Command
 with_atoms f None = Bad Syntax
 with_atoms f (Some atoms) = f atoms
@@ -302,21 +325,27 @@ atom_command word atoms =
     else (if bytes_eq word (codes "rm") then rm_command atoms
     else (if bytes_eq word (codes "kill") then kill_command atoms
     else (if bytes_eq word (codes "mvall") then mvall_command atoms
-    else (if bytes_eq word (codes "ls") then ls_command atoms else Bad Syntax)))))))
+    else (if bytes_eq word (codes "ls") then ls_command atoms
+    else (if bytes_eq word (codes "l") then l_command atoms
+    else (if bytes_eq word (codes "tree") then tree_command atoms else Bad Syntax)))))))))
 
-abbrev pub named_command : List ℕ → List Token → List Word → List ℕ → Command
-named_command line tokens words word =
-    if bytes_eq word (codes "place") then place_command line tokens words
-    else (if bytes_eq word (codes "cattr") then cattr_command line tokens words
-    else with_atoms (atom_command word) (atoms_in line tokens words))
+-- a command by its own word and the words that follow it
+abbrev pub named_command : List ℕ → List Token → Word → List Word → List ℕ → Command
+named_command line tokens word words name =
+    if bytes_eq name (codes "place") then place_command line tokens words
+    else (if bytes_eq name (codes "cattr") then cattr_command line tokens words
+    else (if bytes_eq name (codes "put") then put_command line tokens (word ∷ words)
+    else (if bytes_eq name (codes "attr") then attr_command line tokens words
+    else (if bytes_eq name (codes "title") then title_command line tokens words
+    else with_atoms (atom_command name) (atoms_in line tokens words)))))
 
-abbrev pub worded_command : List ℕ → List Token → List Word → Option (List ℕ) → Command
-worded_command line tokens words None = Bad Syntax
-worded_command line tokens words (Some word) = named_command line tokens words word
+abbrev pub worded_command : List ℕ → List Token → Word → List Word → Option (List ℕ) → Command
+worded_command line tokens word words None = Bad Syntax
+worded_command line tokens word words (Some name) = named_command line tokens word words name
 
 abbrev pub command_of_words : List ℕ → List Token → List Word → Command
 command_of_words line tokens [] = Bad Syntax
-command_of_words line tokens (w ∷ rest) = worded_command line tokens rest (atom_of line tokens w)
+command_of_words line tokens (word ∷ words) = worded_command line tokens word words (atom_of line tokens word)
 
 abbrev pub command_read : List ℕ → Result (List Token) WordFault → Command
 command_read line (Err fault) = Bad Syntax

@@ -6,14 +6,14 @@ use Rattle.tree_forms.specs.declared.Op.TheVariants.{U, Minus}
 use Rattle.solid_set.specs.declared.solid.Solid.TheVariants as solids
 use Rattle.transcript.specs.Merge.{entry}
 use Rattle.command_set.specs.declared.command.Command.TheVariants.{Bad, Edit, Query}
-use Rattle.command_set.specs.declared.command.Edit.TheVariants.{Make, Region, Group, Remove, Kill, RenameAll, Place, Set}
-use Rattle.command_set.specs.declared.command.Query.TheVariants.{Names, Shot}
+use Rattle.command_set.specs.declared.command.Edit.TheVariants.{Make, Region, Group, Remove, Kill, RenameAll, Place, Title, Keep, Set}
+use Rattle.command_set.specs.declared.command.Query.TheVariants.{List as Lines, Names, Shot}
 use Rattle.command_set.specs.declared.refusal.Refusal.TheVariants.{Syntax, Name, Number, View, Shape}
 use Rattle.command_set.specs.declared.refusal.ViewFault.TheVariants.{World}
-use Rattle.mged_words.specs.declared.script.ScriptFlaw.TheVariants.{Session}
+use Rattle.mged_words.specs.declared.script.ScriptFlaw.TheVariants as flaws
 use Rattle.mged_words.specs.Commands.{command_of, entry_of, ray_of, solid_object}
-use Rattle.mged_words.specs.Matrices.{identity}
-use Rattle.mged_words.specs.Scripts.{script_of}
+use Rattle.word_values.specs.Matrices.{identity}
+use Rattle.mged_words.specs.Scripts.{script_of, line_numbers}
 use Rattle.solid_set.specs.Rpps.{vector}
 
 pub no_such_command : command_of (codes "frob") ≡ Bad Syntax
@@ -307,9 +307,25 @@ no_commands = refl
 pub two_commands : script_of (codes "# two\n\nfrob\n  \nin s") ≡ Ok (entry 1 (Bad Syntax) ∷ entry 1 (Bad Syntax) ∷ [])
 two_commands = refl
 
--- the first line that names a session is the fault, whatever the lines before it are
-pub a_session : script_of (codes "frob\n#\n@2 frob\n@1 frob\n") ≡ Err (Session 3)
-a_session = refl
+-- a line of session 2, and one of session 1
+pub two_sessions : script_of (codes "@2 ls\nls\n@8\n@3 # nothing\n") ≡ Ok (entry 2 (Query Names) ∷ entry 1 (Query Names) ∷ [])
+two_sessions = refl
+
+pub their_lines : line_numbers (codes "#\n@2 ls\n\nls\n@8\n@3 # nothing\n") ≡ 2 ∷ 4 ∷ []
+their_lines = refl
+
+-- the first faulty line counts, whatever the lines before it are
+pub ninth_session : script_of (codes "frob\n#\n@9 frob\n@0 frob\n") ≡ Err (flaws.Session 3)
+ninth_session = refl
+
+pub tab_behind_a_session : script_of (codes "@2\tls") ≡ Err (flaws.Session 1)
+tab_behind_a_session = refl
+
+pub two_digits : script_of (codes "@11 ls") ≡ Err (flaws.Session 1)
+two_digits = refl
+
+pub return_behind_a_session : script_of (codes "@1\r\n") ≡ Err (flaws.Session 1)
+return_behind_a_session = refl
 
 -- each line feed ends a line, and what follows the last one is a line where it is not empty
 pub last_line : script_of (codes "ls\nls") ≡ Ok (entry 1 (Query Names) ∷ entry 1 (Query Names) ∷ [])
@@ -325,3 +341,63 @@ comment_behind_blanks = refl
 -- a blank before an at sign makes it a part of a command
 pub at_sign_behind_a_blank : script_of (codes " @2 ls") ≡ Ok (entry 1 (Bad Syntax) ∷ [])
 at_sign_behind_a_blank = refl
+
+-- one object as a line
+pub a_put : command_of (codes "put s sph r 5 V {0 0 0}") ≡ Edit (Make (codes "s") (solid_object (solids.Sphere (record { centre = vector (pos 0) (pos 0) (pos 0); radius = pos 5 }))))
+a_put = refl
+
+-- a group where the object's name is wanted, which a text of a model has as a name that is none
+pub put_of_a_group : command_of (codes "put {a b} sph r 5 V {0 0 0}") ≡ Bad Syntax
+put_of_a_group = refl
+
+pub put_of_no_name : command_of (codes "put a/b sph r x V {0 0 0}") ≡ Bad (Name 2)
+put_of_no_name = refl
+
+pub put_of_no_number : command_of (codes "put a sph r x V {0 0 0}") ≡ Bad (Number 5)
+put_of_no_number = refl
+
+pub put_without_radius : command_of (codes "put a sph r 0 V {0 0 0}") ≡ Bad (Shape Radius)
+put_without_radius = refl
+
+pub put_of_half_a_tree : command_of (codes "put a comb tree {u {l b}}") ≡ Bad Syntax
+put_of_half_a_tree = refl
+
+pub put_of_no_keys : command_of (codes "put a comb") ≡ Bad Syntax
+put_of_no_keys = refl
+
+-- the text of a title keeps the blanks inside it, and those of its braces
+pub a_title : command_of (codes "title  Coffee  cup \r") ≡ Edit (Title (codes "Coffee  cup"))
+a_title = refl
+
+pub a_braced_title : command_of (codes "title { Coffee {cup}}") ≡ Edit (Title (codes " Coffee {cup}"))
+a_braced_title = refl
+
+pub an_empty_title : command_of (codes "title {}") ≡ Edit (Title [])
+an_empty_title = refl
+
+pub no_title : command_of (codes "title") ≡ Bad Syntax
+no_title = refl
+
+pub some_kept : command_of (codes "attr set c maker { hand } k v") ≡ Edit (Keep (codes "c") (record { name = codes "maker"; value = codes " hand " } ∷ record { name = codes "k"; value = codes "v" } ∷ []))
+some_kept = refl
+
+pub kept_without_value : command_of (codes "attr set c/ maker") ≡ Bad Syntax
+kept_without_value = refl
+
+pub kept_of_no_name : command_of (codes "attr set c/ k/ v") ≡ Bad (Name 3)
+kept_of_no_name = refl
+
+pub key_that_is_no_name : command_of (codes "attr set c k v k/ v") ≡ Bad (Name 6)
+key_that_is_no_name = refl
+
+pub no_such_attr : command_of (codes "attr get c k") ≡ Bad Syntax
+no_such_attr = refl
+
+pub written_lines : command_of (codes "l a {b}") ≡ Query (Lines (codes "a" ∷ codes "b" ∷ []))
+written_lines = refl
+
+pub trees : command_of (codes "tree a b/c") ≡ Bad (Name 3)
+trees = refl
+
+pub tree_of_nothing : command_of (codes "tree") ≡ Bad Syntax
+tree_of_nothing = refl

@@ -1,5 +1,3 @@
-pub mod Matrices
-pub mod Solids
 pub mod Commands
 pub mod Entries
 pub mod Scripts

@@ -7,6 +7,8 @@ use Rattle.lattice_core.specs.declared.limit.TheConstants.{WORLD}
 use Rattle.lattice_core.specs.Limits.{IsWithin}
 use Rattle.name_core.specs.declared.name.Name.{Name}
 use Rattle.comb_tree.specs.Changes.{names_of}
+use Rattle.object_set.specs.Objects.{Parts, member_names}
+use Rattle.object_set.specs.declared.kept.KeptAttr.{KeptAttr}
 use Rattle.transcript.specs.Lines.{Lacks}
 use Rattle.transcript.specs.Merge.{Entry}
 use Rattle.command_set.specs.Refusals.{refusal_text}
@@ -27,8 +29,17 @@ pub record IsPlainRefusal (refusal : Refusal) : Type 0 where
 abbrev pub ArePlain : List Name → Type 0
 ArePlain names = AllByRecursion (λ (name : Name). Lacks 10 name) names
 
+-- attributes to be kept without line feeds
+abbrev pub ArePlainPairs : List KeptAttr → Type 0
+ArePlainPairs pairs = AllByRecursion (λ (k : KeptAttr). Lacks 10 k.name × Lacks 10 k.value) pairs
+
+-- an object whose members and kept attributes have no line feeds
+pub record IsPlainObject (object : Parts) : Type 0 where
+  pub members : ArePlain (member_names object.body)
+  pub kept : ArePlainPairs object.kept
+
 abbrev pub IsPlainEdit : Edit → Type 0
-IsPlainEdit (Make name object) = Lacks 10 name
+IsPlainEdit (Make name object) = Lacks 10 name × IsPlainObject object
 IsPlainEdit (Region name list) = Lacks 10 name × ArePlain (names_of list)
 IsPlainEdit (Group name list) = Lacks 10 name × ArePlain (names_of list)
 IsPlainEdit (Remove comb members) = Lacks 10 comb × ArePlain members
@@ -36,7 +47,7 @@ IsPlainEdit (Kill names) = ArePlain names
 IsPlainEdit (RenameAll old new) = Lacks 10 old × Lacks 10 new
 IsPlainEdit (Place comb member placement) = Lacks 10 comb × Lacks 10 member
 IsPlainEdit (Title text) = Unit {0}
-IsPlainEdit (Keep name pairs) = Lacks 10 name
+IsPlainEdit (Keep name pairs) = Lacks 10 name × ArePlainPairs pairs
 IsPlainEdit (Set name setting) = Lacks 10 name
 
 -- a shot from the world

@@ -8,6 +8,8 @@ use Rattle.command_set.specs.Lawful.{KeyAndValue}
 use Rattle.command_set.specs.declared.command.Command.{Command}
 use Rattle.command_set.specs.declared.command.Command.TheVariants.{Bad}
 use Rattle.command_set.specs.declared.refusal.Refusal.{Refusal}
+use Rattle.put_form.specs.declared.fault.PutFault.{PutFault}
+use Rattle.mged_words.specs.Commands.{refusal_of_put}
 use Rattle.mged_words.specs.Entries.{command_entry}
 use Rattle.mged_words.specs.Scripts.{script_of}
 use Rattle.mged_words.specs.declared.command.ScriptCommand.{ScriptCommand}
@@ -21,6 +23,11 @@ abbrev pub HasFault : {T : Type 0} → Result T LineFault → Option Refusal →
 HasFault (Ok value) fault = fault ≡ None
 HasFault (Err (line.Refused refusal)) fault = fault ≡ Some refusal
 HasFault (Err line.Memory) fault = Unit {0}
+
+-- why the words of an object are refused, as the fault of their line
+abbrev pub line_fault_of : PutFault → LineFault
+line_fault_of PutFault.Memory = line.Memory
+line_fault_of fault = line.Refused (refusal_of_put fault)
 
 -- what a call gave is that command, or its refusal, unless memory ran out
 abbrev pub IsRead : Result Command LineFault → Command → Type 0

@@ -57,3 +57,27 @@ pub(crate) fn ls_command(atoms: &[&[u8]]) -> Result<Command, LineFault>
         Err(LineFault::Refused(Refusal::Syntax))
     }
 }
+
+/// Reads what follows `l`: `NAME ..`.
+pub(crate) fn l_command(alloc: Global, atoms: &[&[u8]]) -> Result<Command, LineFault>
+    requires { length atoms.now < 2 ^ 31 }
+    ensures { IsRead result (commands.l_command (map (λ a. a.now) atoms.now)) }
+{
+    if atoms.is_empty() {
+        return Err(LineFault::Refused(Refusal::Syntax));
+    }
+    let names = NameList::of_vec(read_names(alloc, atoms, 2)?);
+    Ok(Command::Query(Query::List { names }))
+}
+
+/// Reads what follows `tree`: `NAME ..`.
+pub(crate) fn tree_command(alloc: Global, atoms: &[&[u8]]) -> Result<Command, LineFault>
+    requires { length atoms.now < 2 ^ 31 }
+    ensures { IsRead result (commands.tree_command (map (λ a. a.now) atoms.now)) }
+{
+    if atoms.is_empty() {
+        return Err(LineFault::Refused(Refusal::Syntax));
+    }
+    let names = NameList::of_vec(read_names(alloc, atoms, 2)?);
+    Ok(Command::Query(Query::Tree { names }))
+}

@@ -1,5 +1,6 @@
 use command_set::Refusal;
 use memory_core::Memory;
+use put_form::PutFault;
 use std::alloc::{AllocError, AllocFailed};
 
 /// Why there is no command of a line that can be run.
@@ -19,6 +20,25 @@ impl From<Refusal> for LineFault {
 
     fn from(refusal: Refusal) -> LineFault {
         LineFault::Refused(refusal)
+    }
+}
+
+impl From<PutFault> for LineFault {
+    ghost use Rattle.std.specs.Prelude.{◌≡◌};
+    ghost use Rattle.mged_words.specs.Readings.{line_fault_of};
+
+    ghost from_gives = { λ fault e. e ≡ line_fault_of fault };
+
+    fn from(fault: PutFault) -> LineFault {
+        match fault {
+            PutFault::NoType | PutFault::Attr | PutFault::Tree => {
+                LineFault::Refused(Refusal::Syntax)
+            }
+            PutFault::Name(word) => LineFault::Refused(Refusal::Name(word)),
+            PutFault::Number(word) => LineFault::Refused(Refusal::Number(word)),
+            PutFault::Shape(fault) => LineFault::Refused(Refusal::Shape(fault)),
+            PutFault::Memory => LineFault::Memory,
+        }
     }
 }
 

@@ -1,28 +1,34 @@
 //! Reads the command of a line.
-ghost use Rattle.std.specs.Prelude.{All, ◌≡◌, ◌<◌, ◌≤◌, ◌^◌, ◌∷◌, ◌++◌, [], length, map, find, not, IfOk, OnOk};
+ghost use Rattle.std.specs.Prelude.{All, ◌≡◌, ◌<◌, ◌≤◌, ◌^◌, ◌++◌, [], Some, length, map, drop, find, not, IfOk, OnOk};
+ghost use Rattle.std.specs.List.{slice_index_or};
 ghost use Rattle.tcl_words.specs.Bytes as bytes;
 ghost use Rattle.tcl_words.specs.TopWords.{AreTokensIn, IsWordOf};
+ghost use Rattle.transcript.specs.Merge.{entry};
+ghost use Rattle.word_values.specs.Atoms.{atoms_in};
 ghost use Rattle.mged_words.specs.Commands as commands;
 ghost use Rattle.mged_words.specs.Entries.{command_entry};
 ghost use Rattle.mged_words.specs.Readable.{IsReadable};
 ghost use Rattle.mged_words.specs.Readings.{IsRead};
 ghost use Rattle.mged_words.specs.Scripts as scripts;
 
-use crate::atoms::word_atoms;
 use crate::command::ScriptCommand;
-use crate::edit::{kill_command, ls_command, mvall_command, rm_command};
+use crate::edit::{kill_command, l_command, ls_command, mvall_command, rm_command, tree_command};
 use crate::fault::LineFault;
+use crate::keep::attr_command;
 use crate::list::{g_command, r_command};
 use crate::make::in_command;
 use crate::place::place_command;
+use crate::put::put_command;
 use crate::setting::cattr_command;
 use crate::shot::nirt_command;
+use crate::title::title_command;
 use command_set::{Command, Refusal};
 use item_list::Items;
 use memory_core::Memory;
 use std::alloc::Global;
 use std::sync::Arc;
 use tcl_words::{Token, Word, WordFault, atom_text, is_blank, read_words, top_words};
+use word_values::word_atoms;
 
 /// The command of a word and the atoms that follow it.
 fn atom_command(alloc: Global, word: &[u8], atoms: &[&[u8]]) -> Result<Command, LineFault>
@@ -45,6 +51,10 @@ fn atom_command(alloc: Global, word: &[u8], atoms: &[&[u8]]) -> Result<Command, 
         mvall_command(atoms)
     } else if word == b"ls".as_slice() {
         ls_command(atoms)
+    } else if word == b"l".as_slice() {
+        l_command(alloc, atoms)
+    } else if word == b"tree".as_slice() {
+        tree_command(alloc, atoms)
     } else {
         Err(LineFault::Refused(Refusal::Syntax))
     }
@@ -61,7 +71,7 @@ fn plain_command(
     requires tokens { AreTokensIn (length line.now) tokens.now }
     requires words { All (IsWordOf tokens.now) words.now }
     requires few { length words.now < 2 ^ 31 }
-    ensures { IsRead result (commands.with_atoms (commands.atom_command word.now) (commands.atoms_in line.now tokens.now words.now)) }
+    ensures { IsRead result (commands.with_atoms (commands.atom_command word.now) (atoms_in line.now tokens.now words.now)) }
 {
     match word_atoms(alloc, line, tokens, words)? {
         Some(atoms) => atom_command(alloc, word, &atoms),
@@ -69,25 +79,34 @@ fn plain_command(
     }
 }
 
-/// The command of a word and the words that follow it.
+/// The command of words of which the first is this name.
 fn named_command(
     alloc: Global,
     line: &[u8],
     tokens: &[Token],
     words: &[Word],
-    word: &[u8],
+    name: &[u8],
 ) -> Result<Command, LineFault>
+    requires short { length line.now < 2 ^ 31 }
     requires tokens { AreTokensIn (length line.now) tokens.now }
     requires words { All (IsWordOf tokens.now) words.now }
-    requires few { length words.now < 2 ^ 31 }
-    ensures { IsRead result (commands.named_command line.now tokens.now words.now word.now) }
+    requires some { 0 < length words.now }
+    requires few { length words.now ≤ 2 ^ 31 }
+    ensures { (word : Word) → IsRead result (commands.named_command line.now tokens.now (slice_index_or words.now 0 word) (drop 1 words.now) name.now) }
 {
-    if word == b"place".as_slice() {
-        place_command(alloc, line, tokens, words)
-    } else if word == b"cattr".as_slice() {
-        cattr_command(alloc, line, tokens, words)
+    let rest = &words[1..];
+    if name == b"place".as_slice() {
+        place_command(alloc, line, tokens, rest)
+    } else if name == b"cattr".as_slice() {
+        cattr_command(alloc, line, tokens, rest)
+    } else if name == b"put".as_slice() {
+        put_command(alloc, line, tokens, words)
+    } else if name == b"attr".as_slice() {
+        attr_command(alloc, line, tokens, rest)
+    } else if name == b"title".as_slice() {
+        title_command(alloc, line, tokens, rest)
     } else {
-        plain_command(alloc, line, tokens, words, word)
+        plain_command(alloc, line, tokens, rest, name)
     }
 }
 
@@ -98,6 +117,7 @@ fn words_command(
     tokens: &[Token],
     words: &[Word],
 ) -> Result<Command, LineFault>
+    requires short { length line.now < 2 ^ 31 }
     requires tokens { AreTokensIn (length line.now) tokens.now }
     requires words { All (IsWordOf tokens.now) words.now }
     requires few { length words.now ≤ 2 ^ 31 }
@@ -105,8 +125,8 @@ fn words_command(
 {
     match words {
         [] => Err(LineFault::Refused(Refusal::Syntax)),
-        [first, rest @ ..] => match atom_text(line, tokens, *first) {
-            Some(word) => named_command(alloc, line, tokens, rest, word),
+        [first, ..] => match atom_text(line, tokens, *first) {
+            Some(name) => named_command(alloc, line, tokens, words, name),
             None => Err(LineFault::Refused(Refusal::Syntax)),
         },
     }
@@ -153,31 +173,41 @@ fn is_no_command(line: &[u8]) -> bool
     }
 }
 
-/// The command of a line of session 1.
-fn command_line(alloc: Global, line: &[u8]) -> Result<ScriptCommand, Memory>
-    requires { length line.now < 2 ^ 31 }
-    ensures { IfOk result (λ command. command_entry command ≡ scripts.command_line line.now) }
+/// The command of what follows the session of a line.
+fn command_line(
+    alloc: Global,
+    session: u8,
+    number: u32,
+    rest: &[u8],
+) -> Result<ScriptCommand, Memory>
+    requires { length rest.now < 2 ^ 31 }
+    ensures entry { IfOk result (λ made. command_entry made ≡ entry session (commands.command_of rest.now)) }
+    ensures line { IfOk result (λ made. made.line ≡ number) }
 {
-    let command = read_line(alloc, line)?;
+    let command = read_line(alloc, rest)?;
     Ok(ScriptCommand {
-        session: 1,
+        session,
+        line: number,
         command: Arc::new(alloc, command)?,
     })
 }
 
-/// Puts the command of a line at the end, where the line is one.
+/// Puts the command of the line of a number at the end, where the line is one. `rest` is what follows its session.
 pub fn push_command(
     alloc: Global,
     commands: &mut Items<ScriptCommand>,
-    line: &[u8],
+    session: u8,
+    number: u32,
+    rest: &[u8],
 ) -> Result<(), Memory>
-    requires { length line.now < 2 ^ 31 }
-    ensures pushed { OnOk result (map command_entry commands.new ≡ map command_entry commands.old ++ scripts.commands_in (line.now ∷ [])) }
+    requires { length rest.now < 2 ^ 31 }
+    ensures pushed { OnOk result (map command_entry commands.new ≡ map command_entry commands.old ++ scripts.commands_with (Some (session, rest.now)) []) }
+    ensures lines { OnOk result (map (λ (c : ScriptCommand). c.line) commands.new ≡ map (λ (c : ScriptCommand). c.line) commands.old ++ scripts.numbers_with (Some (session, rest.now)) number []) }
     ensures readable { OnOk result (All IsReadable (map command_entry commands.old) → All IsReadable (map command_entry commands.new)) }
 {
-    if is_no_command(line) {
+    if is_no_command(rest) {
         return Ok(());
     }
-    commands.push(command_line(alloc, line)?)?;
+    commands.push(command_line(alloc, session, number, rest)?)?;
     Ok(())
 }

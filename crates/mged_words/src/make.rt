@@ -2,15 +2,16 @@
 ghost use Rattle.std.specs.Prelude.{All, ◌≡◌, length, map, Some};
 ghost use Rattle.lattice_core.specs.declared.limit.TheConstants.{COORD};
 ghost use Rattle.lattice_core.specs.Limits.{IsAtMost};
+ghost use Rattle.word_values.specs.Atoms.{solid_number};
+ghost use Rattle.word_values.specs.Solids as solids;
 ghost use Rattle.mged_words.specs.Commands as commands;
-ghost use Rattle.mged_words.specs.Solids as solids;
 
-use crate::atoms::{SOLID_NUMBER, read_numbers};
-use crate::solid::SolidKind;
+use crate::atoms::read_numbers;
 use command_set::{Command, Edit, Refusal};
 use name_core::Name;
 use object_set::Object;
 use std::alloc::Global;
+use word_values::{SOLID_NUMBER, SolidKind};
 
 /// Makes the solid of a kind by its numbers.
 fn make_command(alloc: Global, name: Name, kind: SolidKind, numbers: &[i64]) -> Command
@@ -30,7 +31,7 @@ fn make_command(alloc: Global, name: Name, kind: SolidKind, numbers: &[i64]) -> 
 /// Reads the numbers of a solid, and makes it.
 fn numbers_command(alloc: Global, name: Name, kind: SolidKind, atoms: &[&[u8]]) -> Command
     requires { length atoms.now ≡ solids.number_count kind }
-    ensures { result ≡ commands.numbers_command name kind (map commands.solid_number (map (λ a. a.now) atoms.now)) }
+    ensures { result ≡ commands.numbers_command name kind (map solid_number (map (λ a. a.now) atoms.now)) }
 {
     let mut numbers = [0; 24];
     let numbers = &mut numbers[..atoms.len()];
@@ -43,7 +44,7 @@ fn numbers_command(alloc: Global, name: Name, kind: SolidKind, atoms: &[&[u8]]) 
 /// Reads `in NAME KIND` and the numbers of that kind.
 fn solid_command(alloc: Global, name: &[u8], kind: SolidKind, atoms: &[&[u8]]) -> Command
     requires { length atoms.now ≡ solids.number_count kind }
-    ensures { result ≡ commands.solid_command name.now kind (map commands.solid_number (map (λ a. a.now) atoms.now)) }
+    ensures { result ≡ commands.solid_command name.now kind (map solid_number (map (λ a. a.now) atoms.now)) }
 {
     match Name::read(name) {
         Ok(name) => numbers_command(alloc, name, kind, atoms),

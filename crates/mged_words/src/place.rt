@@ -2,18 +2,19 @@
 ghost use Rattle.std.specs.Prelude.{All, ◌≡◌, ◌==◌, cond, length, map, IfOk};
 ghost use Rattle.std.specs.Option.{option_map};
 ghost use Rattle.tcl_words.specs.TopWords.{AreTokensIn, IsWordOf};
+ghost use Rattle.word_values.specs.Atoms.{view_number};
 ghost use Rattle.mged_words.specs.Commands as commands;
 ghost use Rattle.mged_words.specs.Readings.{IsRead};
 
-use crate::atoms::{VIEW_NUMBER, read_numbers, word_atoms};
+use crate::atoms::read_numbers;
 use crate::fault::LineFault;
-use crate::matrix::placement_of;
 use crate::names::read_name;
 use command_set::{Command, Edit, NearPlacement, Refusal};
 use lattice_core::Placement;
 use memory_core::Memory;
 use std::alloc::Global;
-use tcl_words::{Token, Word, atom_text, inside, top_words};
+use tcl_words::{Token, Word, atom_text};
+use word_values::{VIEW_NUMBER, group_atoms, placement_of, word_atoms};
 
 /// The refusal of a number of a matrix: each number of a group has the word of the group.
 fn matrix_refusal(is_group: bool, refusal: Refusal) -> Refusal
@@ -29,7 +30,7 @@ fn matrix_refusal(is_group: bool, refusal: Refusal) -> Refusal
 /// Reads the placement of sixteen numbers. Those of a group all have its number.
 fn read_placement(is_group: bool, atoms: &[&[u8]]) -> Result<NearPlacement, Refusal>
     requires { length atoms.now ≡ 16 }
-    ensures { result ≡ commands.placement_given is_group (map commands.view_number (map (λ a. a.now) atoms.now)) }
+    ensures { result ≡ commands.placement_given is_group (map view_number (map (λ a. a.now) atoms.now)) }
 {
     let mut numbers = [0; 16];
     if let Some(refusal) = read_numbers(atoms, 4, VIEW_NUMBER, &mut numbers) {
@@ -63,25 +64,6 @@ fn sixteen_command(
     }))
 }
 
-/// The words in a group, or none where the word is no group or one of them no atom.
-fn words_in<'a>(
-    alloc: Global,
-    line: &'a [u8],
-    tokens: &[Token],
-    word: Word,
-) -> Result<Option<Vec<&'a [u8]>>, Memory>
-    requires tokens { AreTokensIn (length line.now) tokens.now }
-    requires word { IsWordOf tokens.now word }
-    ensures { IfOk result (λ found. option_map (λ atoms. map (λ a. a.now) atoms.items) found ≡ commands.words_in line.now tokens.now word) }
-{
-    if word.first == word.last {
-        return Ok(None);
-    }
-    let inner = inside(tokens, word);
-    let words = top_words(alloc, inner)?;
-    word_atoms(alloc, line, inner, &words)
-}
-
 /// The words of a matrix: those in a single group, or the words themselves.
 fn matrix_words<'a>(
     alloc: Global,
@@ -94,7 +76,7 @@ fn matrix_words<'a>(
     ensures { IfOk result (λ found. option_map (λ atoms. map (λ a. a.now) atoms.items) found ≡ commands.matrix_words line.now tokens.now words.now) }
 {
     match words {
-        [group] => words_in(alloc, line, tokens, *group),
+        [group] => group_atoms(alloc, line, tokens, *group),
         _ => word_atoms(alloc, line, tokens, words),
     }
 }

@@ -1,6 +1,5 @@
 //! Reads the command that sets an attribute.
-ghost use Rattle.std.specs.Prelude.{All, ◌≡◌, ◌≤◌, length, IfOk};
-ghost use Rattle.std.specs.List.{slice_range};
+ghost use Rattle.std.specs.Prelude.{All, length, IfOk};
 ghost use Rattle.tcl_words.specs.TopWords.{AreTokensIn, IsWordOf};
 ghost use Rattle.mged_words.specs.Commands as commands;
 ghost use Rattle.mged_words.specs.Readings.{IsRead, IsSettingRead};
@@ -12,44 +11,8 @@ use memory_core::Memory;
 use name_core::Name;
 use region_attr::AttrFault;
 use std::alloc::Global;
-use tcl_words::{Token, Word, atom_text, raw_text};
-
-/// The bytes from one place to another.
-fn part(line: &[u8], from: usize, to: usize) -> &[u8]
-    requires from { from ≤ to }
-    requires to { to ≤ length line.now }
-    ensures { result.now ≡ slice_range line.now from to }
-{
-    &line[from..to]
-}
-
-/// The bytes from the start of a word to the end of the last word.
-fn text_from<'a>(line: &'a [u8], tokens: &[Token], word: Word) -> &'a [u8]
-    requires tokens { AreTokensIn (length line.now) tokens.now }
-    requires word { IsWordOf tokens.now word }
-    ensures { result.now ≡ commands.text_from line.now tokens.now word }
-{
-    let last = tokens.len() - 1;
-    part(
-        line,
-        tokens[word.first].start as usize,
-        tokens[last].end as usize,
-    )
-}
-
-/// The value from a word on: the raw text of a single group, or the bytes to the end of the last word.
-fn value_text<'a>(line: &'a [u8], tokens: &[Token], word: Word, rest: &[Word]) -> &'a [u8]
-    requires tokens { AreTokensIn (length line.now) tokens.now }
-    requires word { IsWordOf tokens.now word }
-    ensures { result.now ≡ commands.value_of line.now tokens.now word rest.now }
-{
-    if rest.is_empty() {
-        if let Some(raw) = raw_text(line, tokens, word) {
-            return raw;
-        }
-    }
-    text_from(line, tokens, word)
-}
+use tcl_words::{Token, Word, atom_text};
+use word_values::value_text;
 
 /// The setting of a key and a value, or `UnknownKey`, or else `BadValue`.
 fn read_setting(

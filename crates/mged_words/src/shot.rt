@@ -1,15 +1,16 @@
 //! Reads the commands that shoot rays.
 ghost use Rattle.std.specs.Prelude.{◌≡◌, ◌<◌, ◌^◌, length, map, Some, IfOk};
+ghost use Rattle.word_values.specs.Atoms.{view_number};
 ghost use Rattle.mged_words.specs.Commands as commands;
 ghost use Rattle.mged_words.specs.Readings.{IsRead};
 
-use crate::atoms::{VIEW_NUMBER, read_numbers};
+use crate::atoms::read_numbers;
 use crate::fault::LineFault;
 use crate::names::read_names;
-use crate::solid::vector_at;
 use command_set::{Command, NameList, Query, Refusal, ViewFault, WorldRay};
 use lattice_core::{Dir, Ray};
 use std::alloc::Global;
+use word_values::{VIEW_NUMBER, vector_at};
 
 fn direction(word: &[u8]) -> Option<Dir>
     ensures { result ≡ commands.direction_of word.now }
@@ -44,7 +45,7 @@ fn shot_command(
 ) -> Result<Command, LineFault>
     requires numbers { length atoms.now ≡ 3 }
     requires few { length names.now < 2 ^ 31 }
-    ensures { IsRead result (commands.shot_command (map commands.view_number (map (λ a. a.now) atoms.now)) (Some dir) (map (λ a. a.now) names.now)) }
+    ensures { IsRead result (commands.shot_command (map view_number (map (λ a. a.now) atoms.now)) (Some dir) (map (λ a. a.now) names.now)) }
 {
     let names = NameList::of_vec(read_names(alloc, names, 6)?);
     let mut numbers = [0; 3];

@@ -1,7 +1,8 @@
 use Rattle.std.proofs.Common.{◌≡◌, ◌+◌, ◌≤◌, All, List, ℕ, ℤ, Some, map, drop, take}
 use Rattle.std.specs.Int.RustNames.{unsigned_abs}
 use Rattle.std.specs.Borrow.{Bor}
-use Rattle.mged_words.specs.Commands.{number_to, number_fault}
+use Rattle.word_values.specs.Atoms.{number_to}
+use Rattle.mged_words.specs.Commands.{number_fault}
 use Rattle.mged_words.proofs.atoms.read_numbers.Given as goal
 
 abbrev pub invariant-loop-i : goal.invariant-loop-i

@@ -12,5 +12,5 @@ pub returns-clause-readable : goal.returns-clause-readable
 returns-clause-readable c = λ h.
     let old : List ScriptCommand = c.args.commands.now in
     let grown = ap (map command_entry) c.in_ok-push.ensures.ok ∙ map-append command_entry old (c.in_ok-command_line.field-0 ∷ []) in
-    subst (All IsReadable) (sym (grown ∙ ap (λ (e : Entry Command). map command_entry old ++ e ∷ []) c.in_ok-command_line.ensures))
-    (line_end (map command_entry old) c.args.line.now h)
+    subst (All IsReadable) (sym (grown ∙ ap (λ (e : Entry Command). map command_entry old ++ e ∷ []) c.in_ok-command_line.ensures.entry))
+    (line_end (map command_entry old) c.args.session c.args.rest.now h)

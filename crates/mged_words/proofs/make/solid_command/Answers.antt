@@ -1,7 +1,8 @@
 use Rattle.std.proofs.Common.{◌∙◌, sym, ap, map, List, ℤ, Option, [], ◌∷◌, is_ok}
 use Rattle.name_core.specs.NameText.{read_name}
-use Rattle.mged_words.specs.Commands.{numbers_command, number_fault, make_command, solid_number}
-use Rattle.mged_words.specs.Solids.{solid_made}
+use Rattle.word_values.specs.Atoms.{solid_number}
+use Rattle.mged_words.specs.Commands.{numbers_command, number_fault, make_command}
+use Rattle.word_values.specs.Solids.{solid_made}
 use Rattle.command_set.specs.declared.refusal.Refusal.TheVariants.{Name}
 use Rattle.mged_words.proofs.LineLaws.{past_fault, read_same}
 use Rattle.mged_words.proofs.make.solid_command.Goals as goal

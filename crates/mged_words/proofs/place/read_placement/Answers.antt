@@ -3,7 +3,7 @@ use Rattle.std.specs.Borrow.{Bor}
 use Rattle.std.proofs.lemmas.List.{length-map}
 use Rattle.lattice_core.specs.declared.placement.Placement.{Placement}
 use Rattle.command_set.specs.declared.refusal.Refusal.{Refusal}
-use Rattle.mged_words.specs.Commands.{view_number}
+use Rattle.word_values.specs.Atoms.{view_number}
 use Rattle.mged_words.proofs.PlaceLaws.{given_refused, given_is}
 use Rattle.mged_words.proofs.place.read_placement.Goals as goal
 

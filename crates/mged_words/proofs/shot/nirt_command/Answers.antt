@@ -2,7 +2,8 @@ use Rattle.std.proofs.Common.{ap, sym, subst, ◌∙◌, [], List, ℕ, Option, 
 use Rattle.std.specs.Borrow.{Bor}
 use Rattle.lattice_core.specs.declared.ray.Dir.{Dir}
 use Rattle.command_set.specs.declared.command.Command.{Command}
-use Rattle.mged_words.specs.Commands.{shot_command, view_number}
+use Rattle.word_values.specs.Atoms.{view_number}
+use Rattle.mged_words.specs.Commands.{shot_command}
 use Rattle.mged_words.specs.Readings.{IsRead}
 use Rattle.mged_words.proofs.LineLaws.{nirt_short, nirt_long}
 use Rattle.mged_words.proofs.CommandLaws.{rest_from}

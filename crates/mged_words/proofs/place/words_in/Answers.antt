@@ -1,7 +1,0 @@
-use Rattle.mged_words.proofs.place.words_in.Goals as goal
-
-pub top_words-requires : goal.top_words-requires
-top_words-requires c = (c.inside-inner.ensures.tokens _ c.requires.tokens).balanced
-
-pub word_atoms-requires-clause-tokens : goal.word_atoms-requires-clause-tokens
-word_atoms-requires-clause-tokens c = c.inside-inner.ensures.tokens _ c.requires.tokens

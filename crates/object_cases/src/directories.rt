@@ -1,16 +1,20 @@
 //! Directories and the calls on them.
 
-use crate::combs::{ball, comb_of};
 use crate::script::Script;
-use crate::shown::{push, push_counted, push_named, push_number, push_object};
-use crate::words::{members_of, name_of, names_of};
+use crate::shown::{push, push_counted, push_named, push_number};
+use crate::words::{name_of, names_of};
 use case_text::{CaseFault, first_word, number_of};
 use directory::{DirFault, Directory};
+use name_core::Name;
 use object_set::{Object, is_text_value};
-use region_attr::Attr;
+use put_form::{read_put, write_put};
 use report_text::{TextFault, names_text};
 use std::alloc::Global;
 use std::mem::swap;
+use tcl_words::{read_words, top_words};
+
+/// The most bytes of an object in a row.
+const MOST: usize = 1_000_000;
 
 /// A directory, and another that stands aside.
 #[derive(Drop)]
@@ -49,39 +53,68 @@ fn push_answer(answer: Result<(), DirFault>, out: &mut Vec<u8>) -> Result<(), Ca
     }
 }
 
-/// Puts in each name and its object.
-pub fn push_listing(directory: &Directory, out: &mut Vec<u8>) -> Result<(), CaseFault> {
+/// Puts in the written lines of a name and its object.
+fn push_written(
+    alloc: Global,
+    name: &Name,
+    object: &Object,
+    out: &mut Vec<u8>,
+) -> Result<(), CaseFault> {
+    write_put(alloc, name, object, out)?;
+    Ok(())
+}
+
+/// Puts in the written lines of all objects.
+fn push_listing(alloc: Global, directory: &Directory, out: &mut Vec<u8>) -> Result<(), CaseFault> {
     for place in 0..directory.len() {
-        if place > 0 {
-            push(b", ", out)?;
-        }
         if let Some((name, object)) = directory.at(place) {
-            push_named(name.bytes(), b"", out)?;
-            push_object(object, out)?;
+            push_written(alloc, name, object, out)?;
         }
     }
     Ok(())
 }
 
-/// `ball NAME`, `group NAME LIST`: puts an object.
+/// The name and the object of `NAME TYPE KEY VALUE ..`.
+fn object_of(alloc: Global, rest: &[u8]) -> Result<(Name, Object), CaseFault> {
+    let mut text = Vec::from_slice(alloc, b"put ")?;
+    text.extend_from_slice(rest)?;
+    if text.len() > MOST {
+        return Err(CaseFault::Number);
+    }
+    let Ok(read) = read_words(alloc, &text) else {
+        return Err(CaseFault::Line);
+    };
+    let words = top_words(alloc, read.tokens())?;
+    if words.len() > MOST {
+        return Err(CaseFault::Number);
+    }
+    match read_put(alloc, &text, read.tokens(), &words) {
+        Ok(put) => Ok(put),
+        Err(_) => Err(CaseFault::Line),
+    }
+}
+
+/// `put NAME TYPE KEY VALUE ..`: puts an object.
 fn put(
+    alloc: Global,
     directory: &mut Directory,
-    name: &[u8],
-    object: Object,
+    rest: &[u8],
     out: &mut Vec<u8>,
 ) -> Result<(), CaseFault> {
-    let answer = directory.put(&name_of(name)?, object);
+    let (name, object) = object_of(alloc, rest)?;
+    let answer = directory.put(&name, object);
     push_answer(answer, out)
 }
 
-/// `replace NAME LIST`: replaces an object by a group.
+/// `replace NAME TYPE KEY VALUE ..`: replaces the object of that name.
 fn replace(
+    alloc: Global,
     directory: &mut Directory,
-    name: &[u8],
-    object: Object,
+    rest: &[u8],
     out: &mut Vec<u8>,
 ) -> Result<(), CaseFault> {
-    let answer = directory.replace(&name_of(name)?, object);
+    let (name, object) = object_of(alloc, rest)?;
+    let answer = directory.replace(&name, object);
     push_answer(answer, out)
 }
 
@@ -129,10 +162,16 @@ fn set_title(
     push(b"ok", out)
 }
 
-/// `get NAME`: the object, or `missing`.
-fn push_object_of(directory: &Directory, name: &[u8], out: &mut Vec<u8>) -> Result<(), CaseFault> {
-    match directory.get(&name_of(name)?) {
-        Some(object) => push_object(object, out),
+/// `get NAME`: the written lines of the object, or `missing`.
+fn push_object_of(
+    alloc: Global,
+    directory: &Directory,
+    name: &[u8],
+    out: &mut Vec<u8>,
+) -> Result<(), CaseFault> {
+    let name = name_of(name)?;
+    match directory.get(&name) {
+        Some(object) => push_written(alloc, &name, object, out),
         None => push(b"missing", out),
     }
 }
@@ -164,7 +203,7 @@ fn push_names(
 }
 
 /// What a step asks of a directory that it leaves as it is.
-pub fn push_asked(
+fn push_asked(
     alloc: Global,
     directory: &Directory,
     word: &[u8],
@@ -172,19 +211,14 @@ pub fn push_asked(
     out: &mut Vec<u8>,
 ) -> Result<(), CaseFault> {
     match word {
-        b"list" => push_listing(directory, out),
+        b"list" => push_listing(alloc, directory, out),
         b"len" => push_number(directory.len(), out),
         b"told-title" => push(directory.title(), out),
-        b"get" => push_object_of(directory, rest, out),
+        b"get" => push_object_of(alloc, directory, rest, out),
         b"references" => push_references(directory, rest, out),
         b"names" => push_names(alloc, directory, rest, out),
         _ => Err(CaseFault::Kind),
     }
-}
-
-/// The group of a list.
-fn group_of(alloc: Global, list: &[u8]) -> Result<Object, CaseFault> {
-    comb_of(alloc, Attr::of_group(), &members_of(alloc, list)?)
 }
 
 /// A step on a directory.
@@ -195,12 +229,10 @@ fn step(
     rest: &[u8],
     out: &mut Vec<u8>,
 ) -> Result<(), CaseFault> {
-    let (name, list) = first_word(rest);
     match word {
-        b"ball" => put(directory, name, ball(alloc)?, out),
-        b"group" => put(directory, name, group_of(alloc, list)?, out),
-        b"replace" => replace(directory, name, group_of(alloc, list)?, out),
-        b"remove" => remove(directory, name, out),
+        b"put" => put(alloc, directory, rest, out),
+        b"replace" => replace(alloc, directory, rest, out),
+        b"remove" => remove(directory, rest, out),
         b"rename" => rename(alloc, directory, rest, out),
         b"remove-all" => remove_all(alloc, directory, rest, out),
         b"title" => set_title(alloc, directory, rest, out),

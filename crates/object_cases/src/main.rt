@@ -1,33 +1,26 @@
-//! Runs tables of texts, trees, objects, directories and edits: each row of a file of `data/` asks for one or more
+//! Runs tables of texts, parts of commands, directories and devices: each row of a file of `data/` asks for one or more
 //! calls, and says what they are to answer.
 #![tactic(auto)]
 
 mod attributes;
 mod bodies;
-mod combs;
 mod commands;
 mod devices;
 mod directories;
-mod edits;
-mod objects;
 mod script;
 mod shown;
 mod texts;
-mod trees;
 mod words;
 
 use bodies::Transcripts;
 use case_text::{CaseFault, Tables, run_tables};
 use devices::{no_shelf, no_sink, no_source};
 use directories::Directories;
-use edits::Edits;
-use objects::Objects;
 use script::run_steps;
 use std::alloc::Global;
 use std::process::ExitCode;
-use trees::Trees;
 
-/// What rows may ask of the crates of texts, trees, objects, directories and edits.
+/// What rows may ask of the crates of texts, commands, directories and devices.
 struct Asked;
 
 /// Rows of small types, names and words.
@@ -58,7 +51,7 @@ fn answer_text(
     }
 }
 
-/// Rows of attributes, operators, refusals and parts of commands.
+/// Rows of attributes, refusals and parts of commands.
 fn answer_part(
     alloc: Global,
     kind: &[u8],
@@ -68,7 +61,6 @@ fn answer_part(
     match kind {
         b"new-attributes" => attributes::answer_new(given, out),
         b"set" => attributes::answer_set(given, out),
-        b"join" => trees::answer_join(given, out),
         b"refusal" => commands::answer_refusal(given, out),
         b"title" => commands::answer_title(alloc, given, out),
         b"pairs" => commands::answer_pairs(alloc, given, out),
@@ -87,10 +79,7 @@ impl Tables for Asked {
         out: &mut Vec<u8>,
     ) -> Result<(), CaseFault> {
         match kind {
-            b"tree" => run_steps(alloc, &mut Trees::new(alloc)?, given, out),
-            b"object" => run_steps(alloc, &mut Objects::new(alloc)?, given, out),
             b"directory" => run_steps(alloc, &mut Directories::new(alloc), given, out),
-            b"edit" => run_steps(alloc, &mut Edits::new(alloc), given, out),
             b"transcript" => run_steps(alloc, &mut Transcripts::new(alloc), given, out),
             b"source" => run_steps(alloc, &mut no_source(alloc), given, out),
             b"sink" => run_steps(alloc, &mut no_sink(alloc)?, given, out),

@@ -1,10 +1,8 @@
-//! What rows show of names, trees and objects.
+//! What rows show of names, numbers and attributes.
 
 use case_text::CaseFault;
-use comb_tree::{CombNode, ListEntry, Op};
 use itoa::{Buffer, Integer};
-use lattice_core::{Placement, Turn};
-use object_set::{Body, KeptAttr, Object};
+use object_set::KeptAttr;
 use region_attr::{Attr, Rgb};
 
 /// Puts in a text.
@@ -38,70 +36,6 @@ pub fn push_named(word: &[u8], name: &[u8], out: &mut Vec<u8>) -> Result<(), Cas
     push(name, out)
 }
 
-/// Puts in the name of an operator.
-fn push_op(op: Op, out: &mut Vec<u8>) -> Result<(), CaseFault> {
-    match op {
-        Op::U => push(b"u", out),
-        Op::N => push(b"+", out),
-        Op::Minus => push(b"-", out),
-    }
-}
-
-/// Puts in a shift, as `7/0/0`, and `turned` where there is a turn too.
-fn push_shift(placement: &Placement, out: &mut Vec<u8>) -> Result<(), CaseFault> {
-    push_number(placement.shift.x, out)?;
-    out.push(b'/')?;
-    push_number(placement.shift.y, out)?;
-    out.push(b'/')?;
-    push_number(placement.shift.z, out)?;
-    if placement.turn != Turn::identity() {
-        push(b"turned", out)?;
-    }
-    Ok(())
-}
-
-/// Puts in a name, and behind `@` where it is placed, if that moves anything.
-fn push_leaf(name: &[u8], placement: &Placement, out: &mut Vec<u8>) -> Result<(), CaseFault> {
-    push(name, out)?;
-    if *placement == Placement::identity() {
-        return Ok(());
-    }
-    out.push(b'@')?;
-    push_shift(placement, out)
-}
-
-/// Puts in a node.
-fn push_node(node: &CombNode, out: &mut Vec<u8>) -> Result<(), CaseFault> {
-    match node {
-        CombNode::Leaf { name, placement } => push_leaf(name.bytes(), placement, out),
-        CombNode::U => push_op(Op::U, out),
-        CombNode::N => push_op(Op::N, out),
-        CombNode::Minus => push_op(Op::Minus, out),
-    }
-}
-
-/// Puts in a blank and each node, in postfix order, or ` empty`.
-pub fn push_nodes(nodes: &[CombNode], out: &mut Vec<u8>) -> Result<(), CaseFault> {
-    if nodes.is_empty() {
-        return push(b" empty", out);
-    }
-    for node in nodes {
-        out.push(b' ')?;
-        push_node(node, out)?;
-    }
-    Ok(())
-}
-
-/// Puts in a blank and each member, as ` u1 -2`.
-pub fn push_list(list: &[ListEntry], out: &mut Vec<u8>) -> Result<(), CaseFault> {
-    for entry in list {
-        out.push(b' ')?;
-        push_op(entry.op, out)?;
-        push_leaf(entry.name.bytes(), &entry.placement, out)?;
-    }
-    Ok(())
-}
-
 /// Puts in a blank and the colour, as ` 255/0/0`, or ` none`.
 fn push_colour(colour: Option<Rgb>, out: &mut Vec<u8>) -> Result<(), CaseFault> {
     let Some(Rgb { r, g, b }) = colour else {
@@ -129,17 +63,6 @@ pub fn push_attr(attr: &Attr, out: &mut Vec<u8>) -> Result<(), CaseFault> {
     push_truth(attr.inherit, out)
 }
 
-/// Puts in `region` or `group` for the attributes that a new one has, else all of them.
-fn push_short_attr(attr: &Attr, out: &mut Vec<u8>) -> Result<(), CaseFault> {
-    if *attr == Attr::of_region() {
-        return push(b"region", out);
-    }
-    if *attr == Attr::of_group() {
-        return push(b"group", out);
-    }
-    push_attr(attr, out)
-}
-
 /// Puts in a blank and the kept attributes, parted by `,`, or nothing.
 pub fn push_kept(kept: &[KeptAttr], out: &mut Vec<u8>) -> Result<(), CaseFault> {
     if !kept.is_empty() {
@@ -154,16 +77,4 @@ pub fn push_kept(kept: &[KeptAttr], out: &mut Vec<u8>) -> Result<(), CaseFault> 
         push(pair.value.items(), out)?;
     }
     Ok(())
-}
-
-/// Puts in what an object is, as `solid`, or `group 1 2 u`, and its kept attributes.
-pub fn push_object(object: &Object, out: &mut Vec<u8>) -> Result<(), CaseFault> {
-    match object.body() {
-        Body::Solid(_) => push(b"solid", out)?,
-        Body::Comb { attr, tree } => {
-            push_short_attr(attr, out)?;
-            push_nodes(tree.nodes(), out)?;
-        }
-    }
-    push_kept(object.kept(), out)
 }

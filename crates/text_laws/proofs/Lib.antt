@@ -1,0 +1,16 @@
+pub mod TextLines
+pub mod TextSegments
+pub mod TextWords
+pub mod TextCommands
+pub mod TextLacks
+pub mod TextObjects
+pub mod TextAll
+pub mod TextEntries
+pub mod LineNumbers
+pub mod LinePieces
+pub mod LineSolids
+pub mod LineArb8
+pub mod LineWords
+pub mod LineNodes
+pub mod LineCombs
+pub mod LineFits

@@ -1,0 +1,154 @@
+-- The written lines of an object have no line feed.
+use Rattle.std.proofs.Common.{◌≢◌, ◌+◌, ◌/◌, ◌%◌, ◌++◌, ℕ, ℤ, pos, negsuc, zero, suc, cond, Bool, true, false, ◌&&◌, ◌==◌, List, [], ◌∷◌, Some, None, Option, All, codes, decimal, flat_map, refl, arith, if◌then◌else◌}
+use Rattle.std.specs.Fmt.{digits, digits_onto, digit_glyph, signed_decimal}
+use Rattle.std.specs.Bool.{nat_lt}
+use Rattle.std.specs.List.{AllByRecursion}
+use Rattle.name_core.specs.declared.name.Name.{Name}
+use Rattle.name_core.specs.NameText.{IsName}
+use Rattle.lattice_core.specs.declared.vector.V3.{V3}
+use Rattle.lattice_core.specs.declared.placement.Placement.{Placement}
+use Rattle.lattice_core.specs.Placements.{matrix_of}
+use Rattle.tree_forms.specs.declared.Op.{Op}
+use Rattle.tree_forms.specs.declared.Op.TheVariants.{U, N, Minus}
+use Rattle.tree_forms.specs.Trees.{Tree, Leaf, Join, postfix}
+use Rattle.comb_tree.specs.Nodes.{Comb, Member, leaf, apply, comb_nodes}
+use Rattle.region_attr.specs.declared.attr.Attr.{Attr}
+use Rattle.region_attr.specs.declared.attr.Rgb.{Rgb}
+use Rattle.solid_set.specs.declared.solid.Solid.{Solid}
+use Rattle.solid_set.specs.declared.solid.Solid.TheVariants as solids
+use Rattle.object_set.specs.Objects.{IsKept}
+use Rattle.object_set.specs.TextValues.{IsTextValue}
+use Rattle.object_set.specs.declared.kept.KeptAttr.{KeptAttr}
+use Rattle.object_set.specs.declared.object.Body.{Body}
+use Rattle.object_set.specs.declared.object.Body.TheVariants as bodies
+use Rattle.transcript.specs.Lines.{Lacks}
+use Rattle.transcript.proofs.LineLaws.{lacks_append}
+use Rattle.transcript.proofs.TranscriptLaws.{computed}
+use Rattle.put_form.specs.Written.{numbers_text, vector_text, vertices_text, solid_text, truth_text, colour_text, attr_text, is_zero, matrix_text, operator_text, node_text, tree_text, body_text, put_line, kept_text, kept_line}
+use Rattle.text_laws.specs.TextAgain.{HasName, HaveNames, HasKey}
+use Rattle.text_laws.proofs.TextAll.{by_each}
+use Rattle.text_laws.proofs.TextCommands.{name_lacks}
+
+chosen_lacks : (b : Bool) (xs ys : List ℕ) → Lacks 10 xs → Lacks 10 ys → Lacks 10 (cond b xs ys)
+chosen_lacks true xs ys h k = h
+chosen_lacks false xs ys h k = k
+
+-- a number in decimal has digits alone
+glyph_other : (b : Bool) (d : ℕ) → cond b (48 + d) (87 + d) ≢ 10
+glyph_other true d e = omega (arith, e)
+glyph_other false d e = omega (arith, e)
+
+onto_lacks : (k n : ℕ) (acc : List ℕ) → Lacks 10 acc → Lacks 10 (digits_onto k 10 false n acc)
+onto_lacks zero n acc h = h
+onto_lacks (suc k) n acc h =
+    let more : Lacks 10 (digit_glyph false (n % 10) ∷ acc) = (glyph_other (nat_lt (n % 10) 10) (n % 10), h) in
+    chosen_lacks (n / 10 == 0) _ _ more (onto_lacks k (n / 10) _ more)
+
+number_lacks : (n : ℕ) → Lacks 10 (decimal n)
+unfolding digits
+number_lacks n = onto_lacks 64 n [] tt
+
+signed_lacks : (z : ℤ) → Lacks 10 (signed_decimal z)
+signed_lacks (pos n) = number_lacks n
+signed_lacks (negsuc n) = (λ e. omega (arith, e), number_lacks (suc n))
+
+-- a text that is known, and one behind it
+begun : (known rest : List ℕ) → Lacks 10 known → Lacks 10 rest → Lacks 10 (known ++ rest)
+begun known rest h k = lacks_append 10 known rest h k
+
+numbers_lack : (ns : List ℤ) → Lacks 10 (numbers_text ns)
+numbers_lack [] = tt
+numbers_lack (n ∷ []) = signed_lacks n
+numbers_lack (n ∷ m ∷ rest) = begun (signed_decimal n) _ (signed_lacks n) (λ e. omega (arith, e), numbers_lack (m ∷ rest))
+
+vector_lacks : (v : V3) → Lacks 10 (vector_text v)
+vector_lacks v = begun (codes "{") _ (computed 10 (codes "{") refl) (begun (numbers_text (v.x ∷ v.y ∷ v.z ∷ [])) _ (numbers_lack (v.x ∷ v.y ∷ v.z ∷ [])) (computed 10 (codes "}") refl))
+
+vertices_lack : (number : ℕ) (vs : List V3) → Lacks 10 (vertices_text number vs)
+vertices_lack number [] = tt
+vertices_lack number (v ∷ rest) =
+    begun (codes " V") _ (computed 10 (codes " V") refl)
+    (begun (decimal number) _ (number_lacks number) (begun (codes " ") (vector_text v ++ vertices_text (number + 1) rest) (computed 10 (codes " ") refl) (begun (vector_text v) (vertices_text (number + 1) rest) (vector_lacks v) (vertices_lack (number + 1) rest))))
+
+solid_lacks : (solid : Solid) → Lacks 10 (solid_text solid)
+solid_lacks (solids.Sphere s) =
+    begun (codes "sph V ") (vector_text s.centre ++ (codes " r " ++ signed_decimal s.radius)) (computed 10 (codes "sph V ") refl) (begun (vector_text s.centre) _ (vector_lacks s.centre) (begun (codes " r ") (signed_decimal s.radius) (computed 10 (codes " r ") refl) (signed_lacks s.radius)))
+solid_lacks (solids.Half h) =
+    begun (codes "half N ") (vector_text h.normal ++ (codes " d " ++ signed_decimal h.distance)) (computed 10 (codes "half N ") refl) (begun (vector_text h.normal) _ (vector_lacks h.normal) (begun (codes " d ") (signed_decimal h.distance) (computed 10 (codes " d ") refl) (signed_lacks h.distance)))
+solid_lacks (solids.Arb8 a) = begun (codes "arb8") _ (computed 10 (codes "arb8") refl) (vertices_lack 1 a.vertices)
+
+truth_lacks : (b : Bool) → Lacks 10 (truth_text b)
+truth_lacks true = computed 10 (codes "yes") refl
+truth_lacks false = computed 10 (codes "no") refl
+
+colour_lacks : (colour : Option Rgb) → Lacks 10 (colour_text colour)
+colour_lacks None = tt
+colour_lacks (Some c) =
+    begun (codes " rgb {") _ (computed 10 (codes " rgb {") refl)
+    (begun (decimal c.r) _ (number_lacks c.r) (begun (codes " ") _ (computed 10 (codes " ") refl)
+    (begun (decimal c.g) _ (number_lacks c.g) (begun (codes " ") _ (computed 10 (codes " ") refl)
+    (begun (decimal c.b) _ (number_lacks c.b) (computed 10 (codes "}") refl))))))
+
+attr_lacks : (attr : Attr) → Lacks 10 (attr_text attr)
+attr_lacks attr =
+    begun (codes "region ") _ (computed 10 (codes "region ") refl) (begun (truth_text attr.region) _ (truth_lacks attr.region)
+    (begun (codes " id ") _ (computed 10 (codes " id ") refl) (begun (decimal attr.id) _ (number_lacks attr.id)
+    (begun (codes " air ") _ (computed 10 (codes " air ") refl) (begun (decimal attr.air) _ (number_lacks attr.air)
+    (begun (codes " los ") _ (computed 10 (codes " los ") refl) (begun (decimal attr.los) _ (number_lacks attr.los)
+    (begun (codes " mater ") _ (computed 10 (codes " mater ") refl) (begun (decimal attr.mater) _ (number_lacks attr.mater)
+    (begun (colour_text attr.rgb) _ (colour_lacks attr.rgb)
+    (begun (codes " inherit ") _ (computed 10 (codes " inherit ") refl) (truth_lacks attr.inherit))))))))))))
+
+either_lacks : (b : Bool) (numbers : List ℤ) → Lacks 10 (if b then [] else codes " {" ++ (numbers_text numbers ++ codes "}"))
+either_lacks true numbers = tt
+either_lacks false numbers = begun (codes " {") _ (computed 10 (codes " {") refl) (begun (numbers_text numbers) _ (numbers_lack numbers) (computed 10 (codes "}") refl))
+
+matrix_lacks : (p : Placement) → Lacks 10 (matrix_text p)
+matrix_lacks p = either_lacks (p.turn.number == 0 && is_zero p.shift) (matrix_of p)
+
+operator_lacks : (op : Op) → Lacks 10 (operator_text op)
+operator_lacks U = computed 10 (codes "u") refl
+operator_lacks N = computed 10 (codes "n") refl
+operator_lacks Minus = computed 10 (codes "-") refl
+
+of_first : {X : Type 0} (P : X → Type 0) (xs ys : List X) → AllByRecursion P (xs ++ ys) → AllByRecursion P xs
+of_first P [] ys h = tt
+of_first P (x ∷ xs) ys h = (h.0, of_first P xs ys h.1)
+
+of_rest : {X : Type 0} (P : X → Type 0) (xs ys : List X) → AllByRecursion P (xs ++ ys) → AllByRecursion P ys
+of_rest P [] ys h = h
+of_rest P (x ∷ xs) ys h = of_rest P xs ys h.1
+
+node_lacks : (t : Tree Member) → AllByRecursion HasName (postfix leaf apply t) → Lacks 10 (node_text t)
+node_lacks (Leaf m) h = begun (codes "l ") _ (computed 10 (codes "l ") refl) (begun m.name _ (name_lacks m.name h.0) (matrix_lacks m.placement))
+node_lacks (Join op l r) h =
+    let left : AllByRecursion HasName (postfix leaf apply l) = of_first HasName (postfix leaf apply l) (postfix leaf apply r ++ apply op ∷ []) h in
+    let right : AllByRecursion HasName (postfix leaf apply r) = of_first HasName (postfix leaf apply r) (apply op ∷ []) (of_rest HasName (postfix leaf apply l) (postfix leaf apply r ++ apply op ∷ []) h) in
+    begun (operator_text op) _ (operator_lacks op) (begun (codes " {") _ (computed 10 (codes " {") refl)
+    (begun (node_text l) _ (node_lacks l left) (begun (codes "} {") _ (computed 10 (codes "} {") refl) (begun (node_text r) _ (node_lacks r right) (computed 10 (codes "}") refl)))))
+
+tree_lacks : (t : Comb) → All HasName (comb_nodes t) → Lacks 10 (tree_text t)
+tree_lacks None h = tt
+tree_lacks (Some t) h = begun (codes " tree {") _ (computed 10 (codes " tree {") refl) (begun (node_text t) _ (node_lacks t (by_each HasName (postfix leaf apply t) h)) (computed 10 (codes "}") refl))
+
+body_lacks : (body : Body) → HaveNames body → Lacks 10 (body_text body)
+body_lacks (bodies.Solid solid) h = solid_lacks solid
+body_lacks (bodies.Comb attr tree) h = begun (codes "comb ") (attr_text attr ++ tree_text tree) (computed 10 (codes "comb ") refl) (begun (attr_text attr) _ (attr_lacks attr) (tree_lacks tree h))
+
+pub put_lacks : (name : Name) (body : Body) → IsName name → HaveNames body → Lacks 10 (put_line name body)
+put_lacks name body h k =
+    begun (codes "put ") _ (computed 10 (codes "put ") refl) (begun name _ (name_lacks name h) (begun (codes " ") _ (computed 10 (codes " ") refl) (body_lacks body k)))
+
+attribute_lacks : (attribute : KeptAttr) → HasKey attribute → IsTextValue attribute.value → Lacks 10 (kept_text attribute)
+attribute_lacks attribute key text =
+    begun (codes " ") _ (computed 10 (codes " ") refl) (begun attribute.name _ (name_lacks attribute.name key)
+    (begun (codes " {") _ (computed 10 (codes " {") refl) (begun attribute.value _ (by_each (λ b. b ≢ 10) attribute.value text.one_line) (computed 10 (codes "}") refl))))
+
+attributes_lack : (kept : List KeptAttr) → AllByRecursion HasKey kept → AllByRecursion (λ (k : KeptAttr). IsTextValue k.value) kept → Lacks 10 (flat_map kept_text kept)
+attributes_lack [] keys texts = tt
+attributes_lack (k ∷ ks) keys texts = begun (kept_text k) _ (attribute_lacks k keys.0 texts.0) (attributes_lack ks keys.1 texts.1)
+
+pub kept_lacks : (name : Name) (kept : List KeptAttr) → IsName name → All HasKey kept → IsKept kept → Lacks 10 (kept_line name kept)
+kept_lacks name kept h keys lawful =
+    begun (codes "attr set ") _ (computed 10 (codes "attr set ") refl) (begun name _ (name_lacks name h)
+    (attributes_lack kept (by_each HasKey kept keys) (by_each (λ (k : KeptAttr). IsTextValue k.value) kept lawful.texts)))

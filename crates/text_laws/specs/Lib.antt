@@ -1,0 +1,3 @@
+pub mod PutAgain
+pub mod TextAgain
+pub mod Fits

@@ -1,7 +1,11 @@
 """What `dev/fuzz` is made of.
 
+texts     random commands of the text form, as `put`, and other spellings of a line
 commands  random commands that are mostly well formed, with small numbers, so that things meet
 scripts   random scripts of several kinds, made of them
-mutating  scripts with random faults put in
-reducing  a script made smaller while something stays true of it
+mutating  scripts and models with random faults put in
+models    random texts of models
+reducing  a text made smaller while something stays true of it
+outcomes  scripts, compared with the program
+tables    models, compared with a program that runs rows
 """

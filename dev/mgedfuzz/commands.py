@@ -1,6 +1,8 @@
 """Random commands, mostly well formed. Numbers come from a small grid, so that faces touch, rays lie in faces and
 regions overlap; names come from a small pool, so that edits meet."""
 
+from . import texts
+
 SOLIDS = ("s", "t", "b1", "b2", "h", "w", "k", "p.s")
 COMBS = ("c", "d", "e.r", "f", "g1", "m", "n-1", "_0")
 MISSING = ("zz", "q", "lid")
@@ -21,6 +23,7 @@ class Maker:
         self.rng = rng
         self.scale = rng.choice((1, 1, 1, 2, 7, 1_000))
         self.is_far = rng.random() < 0.15  # numbers about as large as they may be
+        self.is_strict = False  # with fewer faults
         self.there, self.members, self.points = [], {}, []
 
     def pick(self, *weighed):
@@ -30,6 +33,9 @@ class Maker:
     def often(self, share):
         return self.rng.random() < share
 
+    def errs(self, share):
+        return not self.is_strict and self.often(share)
+
     def grid(self):
         return self.rng.choice(FAR) if self.is_far else self.rng.randint(-1, 5) * self.scale
 
@@ -37,14 +43,16 @@ class Maker:
         return [self.grid() for _ in range(3)]
 
     def name(self):
-        return self.rng.choice(self.there if self.there and self.often(0.95) else SOLIDS + COMBS + MISSING)
+        if self.there and not self.errs(0.05):
+            return self.rng.choice(self.there)
+        return self.rng.choice(MISSING if self.is_strict else SOLIDS + COMBS + MISSING)
 
     def comb_name(self):
         return self.rng.choice(list(self.members)) if self.members and self.often(0.95) else self.name()
 
     def new_name(self, pool):
         free = [name for name in pool if name not in self.there]
-        name = self.rng.choice(free if free and self.often(0.9) else pool)
+        name = self.rng.choice(free if free and not self.errs(0.1) else pool)
         self.there += [] if name in self.there else [name]
         return name
 
@@ -85,7 +93,7 @@ class Maker:
         """Eight vertices: mostly of a block, of a wedge, of a pyramid or of a solid of four vertices."""
         corners = [self.point() for _ in range(4)]
         vertices = self.pick((2, lambda: self.folded(corners)), (8, lambda: self.block(*corners)))
-        if self.is_far:
+        if self.is_far and not self.is_strict:
             at, a, b, c = corners
             vertices = [at, a, b, b, c, c, c, c]
         self.points += [vertices[0], vertices[6], [sum(entries) // 8 for entries in zip(*vertices)]]
@@ -104,9 +112,9 @@ class Maker:
             base[2] = base[3]
         ridge = [far, far, plus(far, b), plus(far, b)] if base[2] != base[3] else [far] * 4
         vertices = base + self.rng.choice(([plus(vertex, c) for vertex in base], ridge, [far] * 4))
-        if self.often(0.05):
+        if self.errs(0.05):
             self.rng.shuffle(vertices)
-        if self.often(0.05):
+        if self.errs(0.05):
             at = self.rng.randrange(8)
             vertices[at] = plus(vertices[at], self.rng.choice(([1, 0, 0], [0, -1, 0], [0, 0, 1])))
         return vertices
@@ -125,6 +133,17 @@ class Maker:
             start[self.rng.randrange(3)] += self.rng.choice((-1, 1, 524_288, -524_289, 999_999_990))
         names = [self.comb_name() if self.often(0.4) else self.name() for _ in range(self.rng.choice((1, 1, 2, 3, 4)))]
         return f"nirt {start[0]} {start[1]} {start[2]} {way} " + " ".join(names)
+
+    # Texts and listings.
+
+    def put(self):
+        return texts.put(self, SOLIDS, COMBS)
+
+    def text(self):
+        return self.pick((5, self.put), (3, lambda: texts.keep(self)), (1, lambda: texts.title(self)))
+
+    def listing(self):
+        return self.rng.choice(("l", "l", "tree", "tree", "tree")) + " " + " ".join(self.names(3))
 
     # Combinations.
 
@@ -161,9 +180,9 @@ class Maker:
             columns, signs = [0, 1, 2], [1, 1, 1]
         rows = [[sign * (axis == column) for axis in range(3)] + [step() if self.often(0.5) else 0] for column, sign in zip(columns, signs)]
         numbers = [entry for row in rows + [[0, 0, 0, 1]] for entry in row]
-        if self.often(0.05):
+        if self.errs(0.05):
             numbers[self.rng.randrange(16)] += self.rng.choice((-1, 1))
-        if self.often(0.05):
+        if self.errs(0.05):
             numbers[self.rng.choice((3, 7, 11))] = self.rng.choice((-16_385, -16_384, 16_384, 16_385))
         text = " ".join(map(str, numbers))
         return self.rng.choice((text, "{%s}" % text))
@@ -181,4 +200,5 @@ class Maker:
         return f"cattr {self.comb_name()} {key} {self.rng.choice(values)}"
 
     def edit(self):
-        return self.pick((3, self.solid), (5, self.comb), (4, self.rm), (1, self.kill), (2, self.mvall), (2, self.place), (2, self.setting), (1, self.mark))
+        ways = (3, self.solid), (5, self.comb), (4, self.rm), (1, self.kill), (2, self.mvall), (2, self.place), (2, self.setting), (1, self.mark), (3, self.text)
+        return self.pick(*ways)

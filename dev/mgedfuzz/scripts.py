@@ -1,12 +1,21 @@
 """Random scripts of several kinds."""
 
 from .commands import COMBS, Maker
+from .texts import dressed, great_tree
 
 
 def script(rng):
-    """The lines of a script."""
-    kind = rng.choice((rays_at_solids, rays_at_regions, rays_at_regions, turned, turned, edits, edits, chain, crowd))
-    return kind(Maker(rng))
+    """The lines of a script. In some lines blanks and spellings are others, and some scripts have several sessions."""
+    kinds = rays_at_solids, rays_at_regions, rays_at_regions, turned, turned, edits, edits, texts, texts, chain, crowd, great
+    lines = rng.choice(kinds)(Maker(rng))
+    share = rng.choice((0, 0, 0.1, 0.5))
+    lines = [dressed(rng, line) if rng.random() < share and len(line) < 2_000 else line for line in lines]
+    return in_sessions(rng, lines) if rng.random() < 0.3 else lines
+
+
+def in_sessions(rng, lines):
+    heads = ["@%d " % session for session in rng.sample(range(1, 9), rng.randint(1, 4))] + [""]
+    return [rng.choice(heads) + line for line in lines]
 
 
 def rays_at_solids(maker):
@@ -46,7 +55,27 @@ def turned(maker):
 def edits(maker):
     lines = maker.solids(maker.rng.randint(0, 3))
     for _ in range(maker.rng.randint(4, 30)):
-        lines.append(maker.pick((9, maker.edit), (2, maker.comb), (1, maker.nirt), (1, lambda: "ls")))
+        lines.append(maker.pick((9, maker.edit), (2, maker.comb), (1, maker.nirt), (1, lambda: "ls"), (1, maker.listing)))
+    return lines
+
+
+def texts(maker):
+    """Objects that are put, with rays at them, edits and listings."""
+    lines = [maker.put() for _ in range(maker.rng.randint(2, 8))]
+    for _ in range(maker.rng.randint(3, 25)):
+        lines.append(maker.pick((5, maker.text), (4, maker.nirt), (4, maker.listing), (3, maker.edit), (1, maker.comb)))
+    return lines
+
+
+def great(maker):
+    """Trees about as great as one may be, made longer, listed and shot at."""
+    lines, names = [maker.put(), maker.solid()], list(maker.there)
+    for name in maker.rng.sample(COMBS, maker.rng.randint(1, 3)):
+        lines.append(f"put {name} comb tree " + great_tree(maker.rng, names + ["zz"]))
+        maker.members[name] = names
+        maker.there.append(name)
+    for _ in range(maker.rng.randint(2, 6)):
+        lines.append(maker.pick((3, maker.comb), (2, maker.rm), (2, maker.listing), (1, maker.nirt), (1, maker.mvall)))
     return lines
 
 
@@ -67,7 +96,7 @@ def chain(maker):
     ends = tops + ["a", "b", "a0", "b0", "xa", "xb", "a7", "b1"]
     for _ in range(rng.randint(1, 8)):
         one, other = rng.choice(ends), rng.choice(ends)
-        known = ("g {} {}", "r {} u {}", "mvall {} {}", "rm {} {}", "kill {}", "nirt -9 1 1 +x {} {}")
+        known = ("g {} {}", "r {} u {}", "put {} comb tree {{l {}}}", "mvall {} {}", "rm {} {}", "kill {}", "tree {} {}", "nirt -9 1 1 +x {} {}")
         lines.append(rng.choice(known).format(one, other) if rng.random() < 0.8 else maker.edit())
     return lines
 
@@ -80,6 +109,7 @@ def crowd(maker):
         lines.append(rng.choice((f"g m{i}" + f" {below}" * many, f"r m{i}" + f" - {below}" * many)))
         # Not at all of them: the model needs seconds for the greatest number of solids.
         lines.append(f"nirt -9 1 1 +x m{i}" if many < 9 or rng.random() < 0.3 else f"rm m{i} zz")
+        lines += [f"tree m{i}"] * (rng.random() < 0.2)
         below = rng.choice((below, f"m{i}", f"m{i}"))
     lines += [maker.edit() for _ in range(rng.randint(0, 4))]
     return lines

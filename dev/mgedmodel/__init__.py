@@ -1,16 +1,22 @@
-"""A slow evaluator of scripts, written from README.md and docs/COMMANDS.md alone. `dev/model` runs it.
+"""A slow evaluator of scripts and models, written from README.md, docs/COMMANDS.md and docs/TEXT_FORM.md alone. `dev/model`
+runs it.
 
 refused     why a command is refused
-words       lines as words, numbers and names
+words       lines as words, numbers, names and texts
 positions   exact places on a ray
 solids      planes, placements, solids, and the part of a ray in a solid
 trees       boolean trees and the lists that users give
 attributes  the seven attributes of a combination
-directory   the named objects and their edits
+directory   the named objects and what is kept with them, and their edits
+written     the written text of objects, and of all
+listings    the listings of trees
 shots       the regions of names, and the partitions of a ray
+texts       objects, kept attributes and titles as words
+models      a whole model, read of a text
+rows        rows of models, with what is wanted of each
 lines       which command a line is, or why it is none
 script      the run of a script, its transcript and its status
 
 Each module stands on those above it only. A new command is a reader in `lines` that answers an edit of `directory` or
-a query; a new solid is a class in `solids` and a row in `lines`.
+a query; a new solid is a class in `solids` and a row in `lines` and in `texts`.
 """

@@ -1,4 +1,4 @@
-"""The named objects and their edits. An edit is made, or refused with everything as it was."""
+"""The title, the named objects and what is kept with them, and their edits. An edit is made, or refused with everything as it was."""
 
 from collections import namedtuple
 
@@ -20,18 +20,23 @@ class Comb(namedtuple("Comb", "attributes tree")):
 
 
 class Directory:
-    """`objects` has the object of each name, in the order of the directory."""
+    """`objects` has the object of each name, in the order of the directory, and `kept` the attributes that are kept with
+    some of them. `named` has every name that a tree has, and maybe others."""
 
     def __init__(self):
-        self.objects = {}
+        self.title, self.objects, self.kept, self.named = b"", {}, {}, set()
 
     # Edits. The checks of each one stand in the order in which refusals are looked for.
 
-    def make(self, name, solid):
+    def make(self, name, thing):
+        """`in` and `put`. A solid, and what no tree names and has no members, is in no cycle and makes nothing deeper."""
         if name in self.objects:
             raise Refused(f"exists {name}")
         self.refuse_full()
-        self.objects[name] = solid
+        if isinstance(thing, Comb) and (thing.tree or name in self.named):
+            self.objects = self.sound(dict(self.objects, **{name: thing}), name)
+        else:
+            self.objects[name] = thing
 
     def extend(self, name, items, as_region):
         """`r`, which makes a region of what it extends, and `g`."""
@@ -63,6 +68,7 @@ class Directory:
         self.refuse_missing(names)
         gone = set(names)
         self.objects = {name: thing for name, thing in self.objects.items() if name not in gone}
+        self.kept = {name: pairs for name, pairs in self.kept.items() if name not in gone}
 
     def rename(self, old, new):
         if new in self.objects:
@@ -75,6 +81,7 @@ class Directory:
             return thing._replace(tree=with_leaves(thing.tree, lambda leaf: leaf._replace(name=new) if leaf.name == old else leaf))
 
         self.objects = self.sound({new if name == old else name: renamed(thing) for name, thing in self.objects.items()}, new)
+        self.kept = {new if name == old else name: pairs for name, pairs in self.kept.items()}
 
     def place(self, name, member, placement):
         old = self.wanted_comb(name)
@@ -85,6 +92,14 @@ class Directory:
     def set_attribute(self, name, key, value):
         old = self.wanted_comb(name)
         self.objects[name] = old._replace(attributes=dict(old.attributes, **{key: value}))
+
+    def keep(self, name, pairs):
+        """`attr set`. A key that is kept stays at its place."""
+        self.refuse_missing([name])
+        self.kept.setdefault(name, {}).update(pairs)
+
+    def set_title(self, text):
+        self.title = text
 
     # Queries.
 
@@ -131,10 +146,14 @@ class Directory:
         depth = greatest_depth(members)
         if depth > MOST_DEPTH:
             raise Refused(f"deep {depth}")
+        self.named = set().union(*members.values())
         return objects
 
 
 def mark_of(thing):
+    """What stands behind the name of an object, or of a name that has none."""
+    if thing is None:
+        return "?"
     return ("/R" if thing.is_region else "/") if isinstance(thing, Comb) else ""
 
 

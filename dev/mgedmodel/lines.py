@@ -3,18 +3,22 @@
 from collections import namedtuple
 
 from . import attributes
+from .listings import listings_of
 from .refused import Refused, syntax_unless
 from .shots import shot
-from .solids import DIRECTIONS, Arb8, Half, Ray, Sphere, box_of, placement_of
-from .words import atom, counts_as_atom, name_at, number, number_at, read_words
+from .solids import DIRECTIONS, FARTHEST, Arb8, Half, Ray, Sphere, box_of, placement_of
+from .texts import ANY_NUMBER, read_attr_set, read_put, read_title
+from .words import atom, counts_as_atom, name_at, number, number_at, read_words, text_from
+from .written import written_lines_of
 
-FARTHEST = 16_384  # of a solid's numbers, and of a shift
 WORLD = 524_288
-ANY_NUMBER = 999_999_999
 OPERATORS = (b"u", b"+", b"-")
 
-# What a line asks for: whether it changes the directory, and what it does to one, which answers the body's lines.
-Command = namedtuple("Command", "is_edit act")
+FAULTS_OF_FORM = ("type", "attr", "tree", "name group")  # of the text form, all of which are `syntax` in a script
+
+# What a line asks for: whether it changes the directory; what it does to one, which answers the body's lines; and the name
+# of the file that it puts, the whole directory as a text, if any.
+Command = namedtuple("Command", "is_edit act file", defaults=[None])
 
 # The count of numbers of each kind of solid, and what makes a solid of them.
 SOLIDS = {
@@ -25,11 +29,12 @@ SOLIDS = {
 }
 
 
-def read_line(line):
+def read_line(line, with_files=False):
+    """The command of a line. `save` is one only where there are files."""
     words, end = read_words(line)
-    reader = READERS.get(atom(words[0]))
-    syntax_unless(reader)
-    return reader(line, words, end)
+    head = atom(words[0])
+    syntax_unless(head in READERS and (with_files or head != b"save"))
+    return READERS[head](line, words, end)
 
 
 def of_atoms(read):
@@ -85,6 +90,29 @@ def read_mvall(atoms):
     return edit(lambda directory: directory.rename(old, new))
 
 
+def as_in_a_script(read, *given):
+    """What is read of a command that a model may have too."""
+    try:
+        return read(*given)
+    except Refused as refusal:
+        raise Refused("syntax") if str(refusal) in FAULTS_OF_FORM else refusal
+
+
+def read_put_line(line, words, end):
+    name, thing = as_in_a_script(read_put, words)
+    return edit(lambda directory: directory.make(name, thing))
+
+
+def read_attr_line(line, words, end):
+    name, pairs = as_in_a_script(read_attr_set, words)
+    return edit(lambda directory: directory.keep(name, pairs))
+
+
+def read_title_line(line, words, end):
+    text = as_in_a_script(read_title, line, words, end)
+    return edit(lambda directory: directory.set_title(text))
+
+
 def read_place(line, words, end):
     is_group = len(words) == 4 and not counts_as_atom(words[3])
     atoms = [atom(word) for word in (words[:3] if is_group else words)]
@@ -95,7 +123,7 @@ def read_place(line, words, end):
     if None in numbers:
         raise Refused(f"number {4 if is_group else 4 + numbers.index(None)}")
     placement = placement_of(numbers)
-    if placement is None or any(abs(part) > FARTHEST for part in placement.shift):
+    if placement is None:
         raise Refused("number 4")
     return edit(lambda directory: directory.place(name, member, placement))
 
@@ -106,8 +134,7 @@ def read_cattr(line, words, end):
     key = atoms[2].decode("latin-1")
     syntax_unless(key in attributes.NONE)
     name = name_at(atoms, 2)
-    is_group = len(words) == 4 and not words[3].is_atom
-    value = attributes.value_of(key, words[3].text if is_group else line[words[3].start : end])
+    value = attributes.value_of(key, text_from(line, words, 3, end))
     if value is None:
         raise Refused("number 4")
     return edit(lambda directory: directory.set_attribute(name, key, value))
@@ -116,6 +143,23 @@ def read_cattr(line, words, end):
 def read_ls(atoms):
     syntax_unless(len(atoms) == 1)
     return Command(False, lambda directory: directory.listing())
+
+
+def of_names(find):
+    """A reader of a query of one or more names."""
+
+    def read(atoms):
+        syntax_unless(len(atoms) > 1)
+        names = names_from(atoms, *range(2, len(atoms) + 1))
+        return Command(False, lambda directory: find(directory, names))
+
+    return of_atoms(read)
+
+
+def read_save(atoms):
+    syntax_unless(len(atoms) == 2)
+    file = name_at(atoms, 2)
+    return Command(False, lambda directory: [f"saved {file}"], file)
 
 
 def read_nirt(atoms):
@@ -137,6 +181,12 @@ READERS = {
     b"mvall": of_atoms(read_mvall),
     b"place": read_place,
     b"cattr": read_cattr,
+    b"put": read_put_line,
+    b"attr": read_attr_line,
+    b"title": read_title_line,
     b"ls": of_atoms(read_ls),
+    b"l": of_names(written_lines_of),
+    b"tree": of_names(listings_of),
+    b"save": of_atoms(read_save),
     b"nirt": of_atoms(read_nirt),
 }

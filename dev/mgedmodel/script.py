@@ -1,17 +1,23 @@
 """The run of a script, its transcript and its status."""
 
+import re
 from collections import namedtuple
 
 from .directory import Directory
 from .lines import read_line
+from .listings import MOST_USED
 from .refused import Refused
+from .written import text_of
 
 MOST_BYTES = 4_194_304
-MOST_USED = 67_108_864
+MOST_LINES = 65_536
+MOST_OF_A_LINE = 65_536  # bytes
 BLANKS = b" \t\r"
+SESSION = re.compile(rb"@([1-8])(?: (.*))?", re.DOTALL)
 
-# What a call comes to: the status's number, its line on standard error, which may be empty, and the bytes written.
-Outcome = namedtuple("Outcome", "number line written")
+# What a call comes to: the status's number, its line on standard error, which may be empty, the bytes written, and the
+# files that are put, each a name and its bytes.
+Outcome = namedtuple("Outcome", "number line written files", defaults=[()])
 
 
 class Fault(Exception):
@@ -19,7 +25,7 @@ class Fault(Exception):
 
 
 class Session:
-    """What one session has answered, and the bytes of the bodies of its accepted commands."""
+    """What one session has answered, and the bytes of the bodies and files of its accepted commands."""
 
     def __init__(self):
         self.answers, self.count, self.used = [], 0, 0
@@ -34,31 +40,46 @@ def commands_of(script):
     """The session and the line of each command."""
     if len(script) > MOST_BYTES:
         raise Fault("script size")
-    commands = []
-    for place, line in enumerate(script.split(b"\n"), 1):
-        if line.startswith(b"@"):
-            raise Fault(f"script line {place} session")
-        rest = line.lstrip(BLANKS)
-        if rest and not rest.startswith(b"#"):
-            commands.append((1, line))
+    lines, commands = script.split(b"\n"), []
+    if lines[-1] == b"":
+        lines.pop()
+    for place, line in enumerate(lines, 1):
+        number, rest = session_of(place, line)
+        if rest.strip(BLANKS) and not rest.lstrip(BLANKS).startswith(b"#"):
+            commands.append((number, rest))
     return commands
 
 
-def run(script):
-    """What a call of the program with this script comes to."""
+def session_of(place, line):
+    """The session of a line, and what is behind it."""
+    if place > MOST_LINES:
+        raise Fault(f"script line {place} lines")
+    if len(line) > MOST_OF_A_LINE:
+        raise Fault(f"script line {place} long")
+    if not line.startswith(b"@"):
+        return 1, line
+    form = SESSION.fullmatch(line)
+    if not form:
+        raise Fault(f"script line {place} session")
+    return int(form[1]), form[2] or b""
+
+
+def run(script, directory=None, with_files=False):
+    """What a call of the program with this script comes to. At first there is this directory, else an empty one."""
     try:
         commands = commands_of(script)
     except Fault as fault:
         return Outcome(4, f"mgedrt: {fault}", b"")
-    directory, version, any_refused = Directory(), 0, False
-    sessions = {}
+    directory, version, any_refused = directory or Directory(), 0, False
+    sessions, files = {}, []
     for number, line in commands:
         session = sessions.setdefault(number, Session())
         label = f"{number}.{session.count + 1}"
         try:
-            command = read_line(line)
+            command = read_line(line, with_files)
             body = command.act(directory)
-            size = sum(len(text) + 1 for text in body)
+            put = [(command.file, text_of(directory))] if command.file else []
+            size = sum(len(text) + 1 for text in body) + sum(len(text) for _, text in put)
             if session.used + size > MOST_USED:
                 raise Refused("quota")
         except Refused as refusal:
@@ -67,8 +88,9 @@ def run(script):
             continue
         version += command.is_edit
         session.used += size
+        files += put
         session.answer(f"{label} ok v{version} {len(body)}", body)
     lines = ["order" + "".join(f" {number}" for number, _ in commands)]
     for number in sorted(sessions):
         lines += sessions[number].answers
-    return Outcome(int(any_refused), "", "".join(line + "\n" for line in lines).encode())
+    return Outcome(int(any_refused), "", "".join(line + "\n" for line in lines).encode("latin-1"), tuple(files))

@@ -7,6 +7,7 @@ from .positions import Position
 from .refused import Refused
 
 RAY_LENGTH = 1_048_576
+FARTHEST = 16_384  # of a solid's numbers, and of a shift
 DIRECTIONS = {"+x": (1, 0, 0), "-x": (-1, 0, 0), "+y": (0, 1, 0), "-y": (0, -1, 0), "+z": (0, 0, 1), "-z": (0, 0, -1)}
 FACES = ((1, 2, 3, 4), (5, 6, 7, 8), (1, 2, 6, 5), (2, 3, 7, 6), (3, 4, 8, 7), (4, 1, 5, 8))
 
@@ -45,12 +46,17 @@ IDENTITY = Placement(((1, 0, 0), (0, 1, 0), (0, 0, 1)), (0, 0, 0))
 
 
 def placement_of(numbers):
-    """The placement of sixteen numbers, row by row, or None where they are none."""
+    """The placement of sixteen numbers, row by row, or None where they are none or shift too far."""
     rows = [tuple(numbers[first : first + 4]) for first in (0, 4, 8, 12)]
     turn, shift = tuple(row[:3] for row in rows[:3]), tuple(row[3] for row in rows[:3])
     lines = list(turn) + list(zip(*turn))
     is_turn = all(sorted(map(abs, line)) == [0, 0, 1] for line in lines)
-    return Placement(turn, shift) if is_turn and rows[3] == (0, 0, 0, 1) else None
+    is_near = all(abs(part) <= FARTHEST for part in shift)
+    return Placement(turn, shift) if is_turn and is_near and rows[3] == (0, 0, 0, 1) else None
+
+
+def group(numbers):
+    return "{%s}" % " ".join(map(str, numbers))
 
 
 def held_inside(plane):
@@ -78,6 +84,9 @@ class Half:
             raise Refused("shape normal")
         self.plane = Plane(normal, d)
 
+    def written(self):
+        return f"half N {group(self.plane.normal)} d {self.plane.d}"
+
     def part(self, placement, ray):
         normal = placement.turned(self.plane.normal)
         return part_in_planes([Plane(normal, self.plane.d + dot(normal, placement.shift))], ray)
@@ -88,6 +97,9 @@ class Sphere:
         if radius < 1:
             raise Refused("shape radius")
         self.centre, self.radius = centre, radius
+
+    def written(self):
+        return f"sph V {group(self.centre)} r {self.radius}"
 
     def part(self, placement, ray):
         to_centre = less(placement.placed(self.centre), ray.start)
@@ -113,6 +125,9 @@ class Arb8:
             if any(dot(plane.normal, vertex) > plane.d for vertex in vertices):
                 raise Refused(f"shape convex {face + 1}")
 
+    def written(self):
+        return "arb8 " + " ".join(f"V{number} {group(vertex)}" for number, vertex in enumerate(self.vertices, 1))
+
     def part(self, placement, ray):
         vertices = [placement.placed(vertex) for vertex in self.vertices]
         planes = [plane for plane in (plane_of(vertices, face) for face in range(6)) if plane]
@@ -120,8 +135,8 @@ class Arb8:
 
 
 def box_of(numbers):
-    """The solid of eight vertices that a box of six numbers is kept as."""
-    (x_min, x_max), (y_min, y_max), (z_min, z_max) = (sorted(numbers[first : first + 2]) for first in (0, 2, 4))
+    """The solid of eight vertices that a box of six numbers is kept as, in the order in which these are given."""
+    x_min, x_max, y_min, y_max, z_min, z_max = numbers
     around = ((y_min, z_min), (y_max, z_min), (y_max, z_max), (y_min, z_max))
     return Arb8([(x, y, z) for x in (x_min, x_max) for y, z in around])
 

@@ -1,48 +1,53 @@
-"""Lines as words, numbers and names."""
+"""Lines as words, numbers, names and texts. A command of a model may have line feeds in its groups; a line of a script has none."""
 
 import re
 
 from .refused import Refused, syntax_unless
 
 MOST_OPEN = 4_100  # groups within each other
-NEVER = re.compile(rb"[\x00-\x08\x0a-\x0c\x0e-\x1f\x7f\\]")
+MOST_OF_A_TEXT = 1_024  # bytes of a title, and of a value that is kept
+NEVER = re.compile(rb"[\x00-\x08\x0b\x0c\x0e-\x1f\x7f\\]")
 NOT_OUTSIDE = re.compile(rb'["\[\]$;]')
-PIECE = re.compile(rb"(?P<blanks>[ \t\r]+)|(?P<open>\{)|(?P<close>\})|(?P<atom>[^ \t\r{}]+)")
+PIECE = re.compile(rb"(?P<blanks>[ \t\r\n]+)|(?P<open>\{)|(?P<close>\})|(?P<atom>[^ \t\r\n{}]+)")
 NUMBER = re.compile(rb"([+-]?)(?=[0-9])0*([0-9]{0,9})(?:\.0*)?")
 NAME = re.compile(rb"[A-Za-z0-9_][A-Za-z0-9_.-]{0,63}")
 
 
 class Word:
-    """An atom, or a group with its words. The text of a group is what stands between its braces."""
+    """An atom, or a group with its words: the place of its first byte in the line, and the place behind its last one."""
 
-    def __init__(self, start, text=b"", words=None):
-        self.start, self.text, self.words = start, text, words
+    def __init__(self, line, start, end=None, words=None):
+        self.line, self.start, self.end, self.words = line, start, end, words
 
     @property
     def is_atom(self):
         return self.words is None
 
+    @property
+    def text(self):
+        """The bytes of an atom, or those that stand between the braces of a group."""
+        return self.line[self.start : self.end] if self.is_atom else self.line[self.start + 1 : self.end - 1]
+
 
 def read_words(line):
     """The words of a line outside all groups, and where the last one ends."""
     syntax_unless(not NEVER.search(line))
-    whole = Word(0, line, [])
+    whole = Word(line, 0, words=[])
     opened, before, end = [whole], "blanks", 0
     for piece in PIECE.finditer(line):
         kind = piece.lastgroup
         if kind == "open":
             syntax_unless(before not in ("atom", "close") and len(opened) <= MOST_OPEN)
-            group = Word(piece.start(), words=[])
+            group = Word(line, piece.start(), words=[])
             opened[-1].words.append(group)
             opened.append(group)
         elif kind == "close":
             syntax_unless(len(opened) > 1)
-            group = opened.pop()
-            group.text = line[group.start + 1 : piece.start()]
+            opened.pop().end = piece.end()
         elif kind == "atom":
             syntax_unless(before != "close")
             syntax_unless(len(opened) > 1 or not NOT_OUTSIDE.search(piece.group()))
-            opened[-1].words.append(Word(piece.start(), piece.group()))
+            opened[-1].words.append(Word(line, piece.start(), piece.end()))
         if kind != "blanks":
             end = piece.end()
         before = kind
@@ -58,6 +63,23 @@ def counts_as_atom(word):
 def atom(word):
     syntax_unless(counts_as_atom(word))
     return word.text if word.is_atom else word.words[0].text
+
+
+def text_from(line, words, first, end):
+    """The words from this one on as a text: what stands between the braces of a single group, else the bytes as they stand."""
+    is_group = len(words) == first + 1 and not words[first].is_atom
+    return words[first].text if is_group else line[words[first].start : end]
+
+
+def is_text(text):
+    """Whether a text may be a title, or a value that is kept: it can stand between braces."""
+    if len(text) > MOST_OF_A_TEXT or b"\n" in text or b"\r" in text:
+        return False
+    try:
+        words, _ = read_words(b"{%s}" % text)
+    except Refused:
+        return False
+    return len(words) == 1
 
 
 def number(text, least, most):

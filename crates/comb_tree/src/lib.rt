@@ -3,12 +3,14 @@
 
 mod changes;
 mod fault;
+mod limit;
 mod list;
 mod names;
 mod node;
 mod tree;
 
 pub use fault::TreeFault;
+pub use limit::{LEAVES, limit_laws};
 pub use node::{CombNode, ListEntry};
-pub use tree::{CombTree, LEAVES};
+pub use tree::CombTree;
 pub use tree_forms::Op;

@@ -1,5 +1,6 @@
 use crate::changes::{count_leaves, count_named, left_of, lost_head_in, place_nodes, rename_nodes};
 use crate::fault::TreeFault;
+use crate::limit::LEAVES;
 use crate::list::{entries_of, nodes_of_list, same_nodes};
 use crate::names::{first_missing, set_of, set_of_entries};
 use crate::node::{CombNode, ListEntry};
@@ -8,9 +9,6 @@ use memory_core::Memory;
 use name_core::Name;
 use std::alloc::Global;
 use std::marker::Model;
-
-/// The greatest number of leaves of a tree.
-pub const LEAVES: usize = 4_096;
 
 /// A boolean tree over named members, empty or with at most `LEAVES` leaves. Contracts see it as that tree; it is kept
 /// as its nodes in postfix order.

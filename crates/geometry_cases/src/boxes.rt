@@ -1,3 +1,5 @@
+//! Rows of boxes.
+
 use crate::shown::{push_number, push_text};
 use crate::words::{Words, parted, whole_within};
 use case_text::CaseFault;

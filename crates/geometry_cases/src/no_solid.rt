@@ -1,3 +1,5 @@
+//! Why a row has no solid to ask.
+
 use case_text::CaseFault;
 use plane_geom::ShapeFault;
 

@@ -1,3 +1,5 @@
+//! Rows of whole numbers.
+
 use crate::shown::push_number;
 use crate::words::{Words, natural};
 use case_text::CaseFault;

@@ -1,3 +1,5 @@
+//! Rows of turns, placements and matrices.
+
 use crate::shown::{push_number, push_point, push_text};
 use crate::words::{Words, byte};
 use case_text::CaseFault;

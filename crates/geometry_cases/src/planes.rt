@@ -1,3 +1,5 @@
+//! Rows of planes.
+
 ghost use Rattle.std.specs.Prelude.{IfOk};
 ghost use Rattle.plane_geom.specs.Planes.{IsSolidPlane, IsWorldPlane};
 

@@ -1,3 +1,5 @@
+//! Rows of positions on a ray.
+
 ghost use Rattle.std.specs.Prelude.{IfOk};
 ghost use Rattle.surd_order.specs.Range.{IsInRange};
 ghost use Rattle.surd_order.specs.Spelling.{IsSpelled};

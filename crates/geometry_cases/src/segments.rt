@@ -1,3 +1,5 @@
+//! Rows of placed solids and rays.
+
 ghost use Rattle.lattice_core.specs.declared.limit.TheConstants.{WORLD};
 ghost use Rattle.lattice_core.specs.Limits.{IsWithin};
 

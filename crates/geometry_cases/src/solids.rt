@@ -1,3 +1,5 @@
+//! Rows of the numbers that make solids, and of spheres.
+
 ghost use Rattle.std.specs.Prelude.{All, IfOk};
 ghost use Rattle.lattice_core.specs.declared.limit.TheConstants.{COORD};
 ghost use Rattle.lattice_core.specs.Limits.{IsWithin};
@@ -8,10 +10,10 @@ use crate::planes::{push_plane, push_plane_or_none};
 use crate::shown::{push_number, push_point, push_text};
 use crate::words::{Words, parted, point_within, whole_within};
 use case_text::CaseFault;
-use lattice_core::{COORD, V3};
+use lattice_core::{COORD, PLACED, V3};
 use prim_arb8::Arb8;
 use prim_half::Half;
-use prim_sphere::{Chord, PLACED, Sphere, bounds_at, crossed_at};
+use prim_sphere::{Chord, Sphere, bounds_at, crossed_at};
 
 /// The half-space that a word `X,Y,Z:D` is, by its normal and its distance.
 pub fn half(word: &[u8]) -> Result<Half, NoSolid> {

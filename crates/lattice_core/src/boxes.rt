@@ -1,3 +1,5 @@
+//! Closed boxes along the axes: the least one that holds two, what two share, and whether a ray meets one.
+
 ghost use Rattle.std.specs.Prelude.{◌↔◌, ◌≡◌, IsTrue};
 ghost use Rattle.lattice_core.specs.declared.limit.TheConstants.{WORLD};
 ghost use Rattle.lattice_core.specs.Limits.{IsWithin};

@@ -1,3 +1,5 @@
+//! One axis of a box: the rules of its low and its high side.
+
 ghost use Rattle.std.specs.Prelude.{◌↔◌, ◌≡◌, ◌≤ℤ◌, IsTrue, pos, ℤ};
 ghost use Rattle.lattice_core.specs.Extents.{IsOrdered, hull_low, hull_high, meet_low, meet_high, reach_low, reach_high, IsStep};
 ghost use Rattle.lattice_core.specs.Limits.{IsAtMost};

@@ -11,7 +11,7 @@ mod turn;
 mod vector;
 
 pub use boxes::{Box3, Side, box_meets_ray, hull, meet};
-pub use limit::{COORD, FAR, REACH, SHIFT, WORLD, limit_laws};
+pub use limit::{COORD, FAR, PLACED, REACH, SHIFT, WIDE, WORLD, limit_laws};
 pub use placement::{MatrixFault, Placement, compose, of_matrix};
 pub use ray::{Dir, Ray};
 pub use turn::Turn;

@@ -1,3 +1,5 @@
+//! How large the numbers of a model may be. Each limit is a constant here, and other crates build theirs from these.
+
 ghost use Rattle.std.specs.Prelude.{◌≡◌, pos};
 ghost use Rattle.lattice_core.specs.declared.limit.TheConstants.{COORD, SHIFT, WORLD, FAR};
 
@@ -15,6 +17,12 @@ pub const FAR: i64 = 1_048_576;
 
 /// Points and shifts that are placed or composed have components below this size, in millimetres.
 pub const REACH: i64 = 1_048_576;
+
+/// Vectors that are turned or added have components below this size.
+pub const WIDE: i64 = 1 << 62;
+
+/// The greatest size of a coordinate of a solid's point after it was placed, in millimetres.
+pub const PLACED: i64 = COORD + SHIFT;
 
 /// The limits are these numbers. This law is what refuses another constant.
 pub fn limit_laws()

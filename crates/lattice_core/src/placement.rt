@@ -1,3 +1,5 @@
+//! Placements, a turn followed by a shift, and the matrices that they are written as.
+
 ghost use Rattle.std.specs.Prelude.{◌≡◌, ◌↔◌, pos, ◌≤ℤ◌, ◌≤◌, IfOk, IsTrue, Result, Err};
 ghost use Rattle.lattice_core.specs.declared.vector.V3.{V3};
 ghost use Rattle.lattice_core.specs.Limits.{IsAtMost, IsWithin, IsBelow};

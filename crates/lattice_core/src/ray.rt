@@ -1,3 +1,5 @@
+//! Rays, and the six directions along the axes that they have.
+
 ghost use Rattle.std.specs.Prelude.{◌≡◌, pos};
 ghost use Rattle.lattice_core.specs.Limits.{IsWithin};
 ghost use Rattle.lattice_core.specs.Units.{unit_of};

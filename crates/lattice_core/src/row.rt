@@ -1,4 +1,7 @@
-ghost use Rattle.std.specs.Prelude.{◌≡◌, ◌≢◌, ◌^◌, ◌≤◌, pos, IfSome, IfNone};
+//! One row of a signed permutation.
+
+ghost use Rattle.std.specs.Prelude.{◌≡◌, ◌≢◌, ◌≤◌, IfSome, IfNone};
+ghost use Rattle.lattice_core.specs.declared.limit.TheConstants.{WIDE};
 ghost use Rattle.lattice_core.specs.Limits.{IsBelow, IsUnder};
 ghost use Rattle.lattice_core.specs.Rows.{picked, signed_by, row_times, row_entry, row_vector, IsPlace};
 
@@ -12,7 +15,7 @@ pub struct Row {
 }
 
 fn signed(negated: bool, component: i64) -> i64
-    requires { IsUnder (pos (2 ^ 62)) component }
+    requires { IsUnder WIDE component }
     ensures { result ≡ signed_by negated component }
 {
     if negated { -component } else { component }
@@ -20,9 +23,9 @@ fn signed(negated: bool, component: i64) -> i64
 
 fn component(v: V3, column: u8) -> i64
     requires column { IsPlace column }
-    requires below { IsBelow (pos (2 ^ 62)) v }
+    requires below { IsBelow WIDE v }
     ensures value { result ≡ picked column v }
-    ensures below { IsUnder (pos (2 ^ 62)) result }
+    ensures below { IsUnder WIDE result }
 {
     match column {
         1 => v.x,
@@ -35,7 +38,7 @@ impl Row {
     /// The row times a vector.
     pub fn times(&self, v: V3) -> i64
         requires column { IsPlace self.now.column }
-        requires below { IsBelow (pos (2 ^ 62)) v }
+        requires below { IsBelow WIDE v }
         ensures { result ≡ row_times self.now v }
     {
         signed(self.negated, component(v, self.column))

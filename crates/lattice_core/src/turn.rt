@@ -1,4 +1,7 @@
-ghost use Rattle.std.specs.Prelude.{◌≡◌, ◌<◌, ◌≤◌, ◌↔◌, ◌^◌, Option, IfSome, IfNone, IsNone, IsTrue, pos, ℕ, ℤ};
+//! The 48 turns, the signed permutations of the axes.
+
+ghost use Rattle.std.specs.Prelude.{◌≡◌, ◌<◌, ◌≤◌, ◌↔◌, Option, IfSome, IfNone, IsNone, IsTrue, pos, ℕ, ℤ};
+ghost use Rattle.lattice_core.specs.declared.limit.TheConstants.{WIDE};
 ghost use Rattle.lattice_core.specs.Limits.{IsBelow};
 ghost use Rattle.lattice_core.specs.Turns.{column_of, is_negated, column_in, is_negated_in, entry_of, turned};
 ghost use Rattle.lattice_core.specs.declared.vector.V3.{V3};
@@ -84,7 +87,7 @@ impl Turn {
 
     /// The signed permutation of a vector, without a shift.
     pub fn apply(&self, v: V3) -> V3
-        requires { IsBelow (pos (2 ^ 62)) v }
+        requires { IsBelow WIDE v }
         ensures value { result ≡ turned self.now.number v }
         ensures size { (limit : ℤ) → IsBelow limit v → IsBelow limit result }
     {

@@ -1,4 +1,9 @@
-ghost use Rattle.std.specs.Prelude.{◌≡◌, ◌↔◌, ◌^◌, pos, IsTrue};
+//! Points and vectors, and what is done to their components.
+
+ghost use Rattle.std.specs.Prelude.{◌≡◌, ◌↔◌, ℤ, IsTrue};
+ghost use Rattle.lattice_core.specs.declared.limit.TheConstants.{WIDE};
+
+use crate::ray::Dir;
 
 /// A point or a vector with whole components, in millimetres.
 #[derive(Clone, Copy, Debug, PartialEq, Eq, Hash)]
@@ -9,19 +14,37 @@ pub struct V3 {
 }
 
 impl V3 {
-    ghost use Rattle.lattice_core.specs.Limits.{IsBelow};
-    ghost use Rattle.lattice_core.specs.Vectors.{vector_sum, zero_vector};
+    ghost use Rattle.lattice_core.specs.Limits.{IsAtMost, IsWithin, IsBelow};
+    ghost use Rattle.lattice_core.specs.Units.{unit_of};
+    ghost use Rattle.lattice_core.specs.Vectors.{dot_product, vector_sum, zero_vector};
 
     /// The sum of two vectors.
     pub fn plus(self, other: V3) -> V3
-        requires first { IsBelow (pos (2 ^ 62)) self }
-        requires second { IsBelow (pos (2 ^ 62)) other }
+        requires first { IsBelow WIDE self }
+        requires second { IsBelow WIDE other }
         ensures { result ≡ vector_sum self other }
     {
         V3 {
             x: self.x + other.x,
             y: self.y + other.y,
             z: self.z + other.z,
+        }
+    }
+
+    /// The component in a direction, which is the dot product with the vector of length 1 in it, from either side.
+    pub fn along(self, dir: Dir) -> i64
+        requires { IsBelow WIDE self }
+        ensures value { result ≡ dot_product self (unit_of dir) }
+        ensures turned { result ≡ dot_product (unit_of dir) self }
+        ensures size { (limit : ℤ) → IsWithin limit self → IsAtMost limit result }
+    {
+        match dir {
+            Dir::PlusX => self.x,
+            Dir::MinusX => -self.x,
+            Dir::PlusY => self.y,
+            Dir::MinusY => -self.y,
+            Dir::PlusZ => self.z,
+            Dir::MinusZ => -self.z,
         }
     }
 

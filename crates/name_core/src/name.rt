@@ -1,6 +1,7 @@
 ghost use Rattle.std.specs.Prelude.{◌≡◌, ◌<◌, ◌↔◌, length, replicate, position, not, IsOk};
 ghost use Rattle.name_core.specs.NameText.{is_first_byte, is_next_byte, first_bad, read_name, IsName};
 
+use crate::limit::MOST_BYTES;
 use std::hash::{Hash, Hasher};
 use std::marker::Model;
 use thiserror::Error;
@@ -120,7 +121,7 @@ impl Name {
         if bytes.is_empty() {
             return Err(NameFault::Empty);
         }
-        if bytes.len() > 64 {
+        if bytes.len() > MOST_BYTES {
             return Err(NameFault::Long);
         }
         if let Some(place) = bad_place(bytes) {

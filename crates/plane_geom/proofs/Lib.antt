@@ -4,3 +4,4 @@ pub mod Cross
 pub mod Crossings
 pub mod Levels
 pub mod Placed
+pub mod Unique

@@ -1,4 +1,5 @@
 pub mod Vectors
 pub mod Edges
 pub mod Planes
+pub mod Crossings
 pub mod Examples

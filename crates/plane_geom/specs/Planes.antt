@@ -106,3 +106,8 @@ IsSmallCrossing Misses = Unit {0}
 -- 55 and 200 times the square of the cosine between normal and ray, rounded down
 abbrev pub level_of : V3 → Dir → ℕ
 level_of n dir = 55 + 200 * square_of (dot_product n (unit_of dir)) / length_squared n
+
+-- how bright a face is; one that has no plane is not met, and has the highest level
+abbrev pub side_level : Option Plane → Ray → ℕ
+side_level None ray = 255
+side_level (Some plane) ray = level_of plane.n ray.dir

@@ -1,3 +1,5 @@
+//! Why numbers make no solid, for every kind of solid.
+
 use thiserror::Error;
 
 /// Why numbers make no solid.

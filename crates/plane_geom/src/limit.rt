@@ -1,3 +1,5 @@
+//! How large the numbers of planes may be, from the limits of points and shifts.
+
 use lattice_core::{COORD, SHIFT};
 
 /// The greatest size of a component of a normal: that of a cross product of differences of solid coordinates.

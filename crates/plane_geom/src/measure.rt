@@ -1,11 +1,12 @@
+//! Products, lengths and differences of vectors, within the sizes that planes have.
+
 ghost use Rattle.std.specs.Prelude.{◌≡◌, ◌*ℤ◌, ◌-ℤ◌, ◌≤◌, ◌^◌, pos};
 ghost use Rattle.lattice_core.specs.Limits.{IsAtMost, IsWithin};
-ghost use Rattle.lattice_core.specs.Units.{unit_of};
 ghost use Rattle.lattice_core.specs.Vectors.{dot_product, vector_difference};
 ghost use Rattle.plane_geom.specs.Vectors.{cross_product, square_of, length_squared};
 
 use crate::limit::NORMAL;
-use lattice_core::{COORD, Dir, FAR, V3};
+use lattice_core::{COORD, FAR, V3};
 
 /// A product of a normal's and a point's component.
 fn product(component: i64, coordinate: i64) -> i128
@@ -48,22 +49,6 @@ pub fn high_dot(normal: V3, point: V3) -> i128
     let y = high_product(normal.y, point.y);
     let z = high_product(normal.z, point.z);
     x + y + z
-}
-
-/// The component of a normal in a direction.
-pub fn along(normal: V3, dir: Dir) -> i64
-    requires { IsWithin NORMAL normal }
-    ensures value { result ≡ dot_product normal (unit_of dir) }
-    ensures size { IsAtMost NORMAL result }
-{
-    match dir {
-        Dir::PlusX => normal.x,
-        Dir::MinusX => -normal.x,
-        Dir::PlusY => normal.y,
-        Dir::MinusY => -normal.y,
-        Dir::PlusZ => normal.z,
-        Dir::MinusZ => -normal.z,
-    }
 }
 
 /// The vector from one point to another.

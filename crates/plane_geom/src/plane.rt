@@ -1,9 +1,11 @@
+//! Planes: made, placed, crossed by rays, and lit. The rule for a ray that lies in a plane stands here.
+
 ghost use Rattle.std.specs.Prelude.{◌≡◌, ◌≢◌, ◌↔◌, ◌<◌, ◌^◌, pos, IsNone, IfSome, IsTrue};
 ghost use Rattle.lattice_core.specs.declared.limit.TheConstants.{COORD, SHIFT, WORLD};
 ghost use Rattle.lattice_core.specs.Limits.{IsAtMost, IsWithin};
 ghost use Rattle.plane_geom.specs.Edges.{FirstIsNegative, HoldsAlong};
 
-use crate::measure::{along, cross, dot, from_to, high_dot, square, square_of_length};
+use crate::measure::{cross, dot, from_to, high_dot, square, square_of_length};
 use lattice_core::{Placement, Ray, V3};
 
 /// The half-space of the points `p` with `n · p` at most `d`.
@@ -31,6 +33,7 @@ impl Plane {
     ghost use Rattle.lattice_core.specs.declared.limit.TheConstants.{COORD, SHIFT, WORLD, FAR};
     ghost use Rattle.plane_geom.specs.declared.limit.TheConstants.{NORMAL, WORLD_OFFSET};
     ghost use Rattle.lattice_core.specs.Limits.{IsAtMost, IsWithin};
+    ghost use Rattle.plane_geom.specs.Crossings.{crossing_of};
     ghost use Rattle.plane_geom.specs.Edges.{HoldsAlong};
     ghost use Rattle.plane_geom.specs.Planes.{IsSolidPlane, IsWorldPlane, AreOnOneLine, IsThrough, plane_through, placed_plane, KeepsHeights, slope_on, start_on, height_over, IsCrossing, IsSmallCrossing, level_of};
 
@@ -71,6 +74,7 @@ impl Plane {
     pub fn crossing(&self, ray: &Ray) -> Crossing
         requires plane { IsWorldPlane self.now }
         requires origin { IsWithin WORLD ray.now.origin }
+        ensures value { result ≡ crossing_of self.now ray.now }
         ensures crossing { IsCrossing self.now ray.now result }
         ensures size { IsSmallCrossing result }
     {
@@ -93,7 +97,7 @@ impl Plane {
         ensures value { result ≡ slope_on self.now ray.now }
         ensures size { IsAtMost NORMAL result }
     {
-        i128::from(along(self.n, ray.dir))
+        i128::from(self.n.along(ray.dir))
     }
 
     /// How far `n · p` is below `d` where the ray starts.
@@ -131,7 +135,7 @@ impl Plane {
         requires crossed { slope_on self.now ray.now ≢ pos 0 }
         ensures { result ≡ level_of self.now.n ray.now.dir }
     {
-        let square = square(along(self.n, ray.dir));
+        let square = square(self.n.along(ray.dir));
         (55 + 200 * square / square_of_length(self.n)) as u8
     }
 }

@@ -6,3 +6,5 @@ pub mod Flatness
 pub mod Lines
 pub mod Outward
 pub mod Sides
+pub mod Bounding
+pub mod Eight

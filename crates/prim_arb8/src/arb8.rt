@@ -1,3 +1,5 @@
+//! Solids of eight vertices: made, the planes of their faces, and put into the world.
+
 ghost use Rattle.std.specs.Prelude.{◌≡◌, ◌≤◌, All, Some, None};
 ghost use Rattle.std.specs.Option.{ForSome};
 ghost use Rattle.lattice_core.specs.declared.limit.TheConstants.{COORD};
@@ -6,7 +8,8 @@ ghost use Rattle.plane_geom.specs.Planes.{IsSolidPlane};
 ghost use Rattle.prim_arb8.specs.Faces.{planes_of, first_fault, cases_of};
 
 use crate::face::{fault_of, planes_of};
-use lattice_core::V3;
+use crate::rpp::rpp_vertices;
+use lattice_core::{Placement, V3};
 use plane_geom::{Plane, ShapeFault};
 use std::marker::Model;
 
@@ -34,14 +37,16 @@ impl Model for Arb8 {
 }
 
 impl Arb8 {
-    ghost use Rattle.std.specs.Prelude.{◌≡◌, ◌↔◌, ◌≤◌, All, MatchResult, Result, Err, Some, None, length};
-    ghost use Rattle.std.specs.Option.{ForSome};
-    ghost use Rattle.lattice_core.specs.declared.limit.TheConstants.{COORD};
-    ghost use Rattle.lattice_core.specs.Limits.{IsWithin};
-    ghost use Rattle.plane_geom.specs.Planes.{IsSolidPlane};
+    ghost use Rattle.std.specs.Prelude.{◌≡◌, ◌↔◌, ◌≤◌, All, IfSome, MatchResult, Result, Err, Some, None, length};
+    ghost use Rattle.std.specs.Option.{ForSome, option_map};
+    ghost use Rattle.lattice_core.specs.declared.limit.TheConstants.{COORD, SHIFT};
+    ghost use Rattle.lattice_core.specs.Limits.{IsAtMost, IsWithin};
+    ghost use Rattle.plane_geom.specs.Planes.{IsSolidPlane, IsWorldPlane, placed_plane};
     ghost use Rattle.plane_geom.specs.declared.fault.ShapeFault.{ShapeFault};
     ghost use Rattle.prim_arb8.specs.Faces.{first_fault, cases_of, plane_at, planes_of};
     ghost use Rattle.prim_arb8.specs.Solids.{IsArb8};
+    ghost use Rattle.prim_arb8.specs.Placing.{placed_sides};
+    ghost use Rattle.prim_arb8.specs.Rpps.{IsMadeOf, rpp_vertices};
     ghost use Rattle.prim_arb8.specs.Laws.{IsFlat, IsFaceLaw};
 
     /// The solid of these vertices, or the first fault: `Flat`, then face by face `NotPlanar` and `NotConvex`.
@@ -58,6 +63,27 @@ impl Arb8 {
                 planes: planes_of(&v),
             }),
         }
+    }
+
+    /// The box from the least to the greatest coordinates along each axis, in millimetres, or the fault of its vertices.
+    /// Vertices 1 to 4 lie at `xmin`: (ymin, zmin), (ymax, zmin), (ymax, zmax), (ymin, zmax); 5 to 8 likewise at `xmax`.
+    pub fn of_extents(
+        xmin: i64,
+        xmax: i64,
+        ymin: i64,
+        ymax: i64,
+        zmin: i64,
+        zmax: i64,
+    ) -> Result<Arb8, ShapeFault>
+        requires xmin { IsAtMost COORD xmin }
+        requires xmax { IsAtMost COORD xmax }
+        requires ymin { IsAtMost COORD ymin }
+        requires ymax { IsAtMost COORD ymax }
+        requires zmin { IsAtMost COORD zmin }
+        requires zmax { IsAtMost COORD zmax }
+        ensures { IsMadeOf result (rpp_vertices xmin xmax ymin ymax zmin zmax) }
+    {
+        Arb8::new(rpp_vertices(xmin, xmax, ymin, ymax, zmin, zmax))
     }
 
     /// The vertices 1 to 8.
@@ -79,5 +105,39 @@ impl Arb8 {
         ensures size { ForSome result IsSolidPlane }
     {
         self.planes[usize::from(face - 1)]
+    }
+
+    fn placed_side(&self, face: u8, by: &Placement) -> Option<Plane>
+        requires face { (1 ≤ face) × (face ≤ 12) }
+        requires shift { IsWithin SHIFT by.now.shift }
+        ensures value { result ≡ option_map (placed_plane by.now) (plane_at self.now.vertices face) }
+        ensures size { IfSome result IsWorldPlane }
+    {
+        match self.plane(face) {
+            Some(plane) => Some(plane.placed(by)),
+            None => None,
+        }
+    }
+
+    /// The solid in the world: the planes that the placement takes those of the faces 1 to 12 to.
+    pub fn placed(&self, by: &Placement) -> [Option<Plane>; 12]
+        requires { IsWithin SHIFT by.now.shift }
+        ensures value { result ≡ placed_sides by.now (planes_of self.now.vertices) }
+        ensures size { All (λ side. ForSome side IsWorldPlane) result }
+    {
+        [
+            self.placed_side(1, by),
+            self.placed_side(2, by),
+            self.placed_side(3, by),
+            self.placed_side(4, by),
+            self.placed_side(5, by),
+            self.placed_side(6, by),
+            self.placed_side(7, by),
+            self.placed_side(8, by),
+            self.placed_side(9, by),
+            self.placed_side(10, by),
+            self.placed_side(11, by),
+            self.placed_side(12, by),
+        ]
     }
 }

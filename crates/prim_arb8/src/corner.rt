@@ -1,3 +1,5 @@
+//! Where vertices lie against planes.
+
 ghost use Rattle.std.specs.Prelude.{◌≡◌, ◌≤◌, All};
 ghost use Rattle.std.specs.List.{list_all, list_any};
 ghost use Rattle.lattice_core.specs.declared.limit.TheConstants.{COORD};

@@ -1,9 +1,9 @@
+//! The planes of the faces and of the box of eight vertices, and what is wrong with vertices.
+
 ghost use Rattle.std.specs.Prelude.{◌≡◌, ◌≤◌, All, IfSome, Some, None};
 ghost use Rattle.std.specs.Option.{ForSome};
 ghost use Rattle.lattice_core.specs.declared.limit.TheConstants.{COORD};
 ghost use Rattle.lattice_core.specs.Limits.{IsWithin, IsAtMost};
-ghost use Rattle.lattice_core.specs.Units.{unit_of};
-ghost use Rattle.lattice_core.specs.Vectors.{dot_product};
 ghost use Rattle.plane_geom.specs.Planes.{IsSolidPlane};
 ghost use Rattle.prim_arb8.specs.Faces.{corners_of, plane_of_four, face_plane, reversed, outward, outward_face, box_plane, planes_of, first_fault, face_cases, cases_of, vertex_at};
 
@@ -97,31 +97,15 @@ fn outward_face(v: &[V3; 8], face: u8) -> Option<Plane>
     }
 }
 
-/// How far a point lies in a direction.
-fn reach(p: V3, dir: Dir) -> i64
-    requires { IsWithin COORD p }
-    ensures value { result ≡ dot_product (unit_of dir) p }
-    ensures size { IsAtMost COORD result }
-{
-    match dir {
-        Dir::PlusX => p.x,
-        Dir::MinusX => -p.x,
-        Dir::PlusY => p.y,
-        Dir::MinusY => -p.y,
-        Dir::PlusZ => p.z,
-        Dir::MinusZ => -p.z,
-    }
-}
-
 /// How far the vertices reach in a direction.
 fn greatest(v: &[V3; 8], dir: Dir) -> i64
     requires { All (IsWithin COORD) v.now }
     ensures value { result ≡ (box_plane v.now dir).d }
     ensures size { IsAtMost COORD result }
 {
-    let mut most = reach(v[0], dir);
+    let mut most = v[0].along(dir);
     for p in v {
-        most = most.max(reach(*p, dir));
+        most = most.max(p.along(dir));
     }
     most
 }

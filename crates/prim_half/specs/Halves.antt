@@ -1,9 +1,14 @@
 -- Half-spaces: the points p with normal · p at most distance.
 use Rattle.std.specs.Prelude.{◌≢◌, ℤ}
 use Rattle.lattice_core.specs.declared.limit.TheConstants.{COORD}
+use Rattle.lattice_core.specs.declared.boxes.Box3.{Box3}
+use Rattle.lattice_core.specs.declared.boxes.Box3.TheVariants.{Span}
+use Rattle.lattice_core.specs.declared.boxes.Side.TheVariants.{Open}
 use Rattle.lattice_core.specs.declared.vector.V3.{V3}
+use Rattle.lattice_core.specs.Boxes.{HasPoint}
 use Rattle.lattice_core.specs.Limits.{IsAtMost, IsWithin}
 use Rattle.lattice_core.specs.Vectors.{zero_vector}
+use Rattle.plane_geom.specs.declared.plane.Plane.{Plane}
 
 pub record HalfSpace : Type 0 where
   pub normal : V3
@@ -14,3 +19,15 @@ pub record IsHalf (normal : V3) (distance : ℤ) : Type 0 where
   pub normal_size : IsWithin COORD normal
   pub distance_size : IsAtMost COORD distance
   pub direction : normal ≢ zero_vector
+
+-- the plane of the one face
+abbrev pub plane_of_half : HalfSpace → Plane
+plane_of_half half = record { n = half.normal; d = half.distance }
+
+-- the box without sides
+abbrev pub all_of_space : Box3
+all_of_space = Span Open Open Open Open Open Open
+
+-- the box holds every point
+abbrev pub HoldsAll : Box3 → Type 0
+HoldsAll b = (v : V3) (w : ℤ) → HasPoint b v w

@@ -1,12 +1,17 @@
-ghost use Rattle.std.specs.Prelude.{◌≡◌, ◌≢◌, ◌↔◌, Result, Err, MatchResult};
-ghost use Rattle.lattice_core.specs.declared.limit.TheConstants.{COORD};
+//! Half-spaces: made, placed, crossed by rays, and their box and level.
+
+ghost use Rattle.std.specs.Prelude.{◌≡◌, ◌≢◌, ◌↔◌, ◌==◌, cond, pos, Result, Err, MatchResult};
+ghost use Rattle.lattice_core.specs.declared.limit.TheConstants.{COORD, WORLD};
 ghost use Rattle.lattice_core.specs.Limits.{IsAtMost, IsWithin};
 ghost use Rattle.lattice_core.specs.Vectors.{zero_vector};
+ghost use Rattle.plane_geom.specs.Crossings.{crossing_of};
+ghost use Rattle.plane_geom.specs.Planes.{IsWorldPlane, IsCrossing, IsSmallCrossing, slope_on, level_of};
+ghost use Rattle.prim_half.specs.Halves.{all_of_space, HoldsAll};
 ghost use Rattle.plane_geom.specs.declared.fault.ShapeFault.{ShapeFault};
 ghost use Rattle.plane_geom.specs.declared.fault.ShapeFault.TheVariants.{ZeroNormal};
 
-use lattice_core::V3;
-use plane_geom::{Plane, ShapeFault};
+use lattice_core::{Box3, Placement, Ray, Side, V3};
+use plane_geom::{Crossing, Plane, ShapeFault};
 use std::marker::Model;
 
 /// The half-space of the points `p` with `normal · p` at most `distance`. Its normal is not zero, and its numbers are
@@ -31,12 +36,12 @@ impl Model for Half {
 
 impl Half {
     ghost use Rattle.std.specs.Prelude.{◌≡◌, ◌≢◌, ◌↔◌, Result, Err, MatchResult};
-    ghost use Rattle.lattice_core.specs.declared.limit.TheConstants.{COORD};
+    ghost use Rattle.lattice_core.specs.declared.limit.TheConstants.{COORD, SHIFT};
     ghost use Rattle.lattice_core.specs.Limits.{IsAtMost, IsWithin};
     ghost use Rattle.lattice_core.specs.Vectors.{zero_vector};
-    ghost use Rattle.plane_geom.specs.Planes.{IsSolidPlane};
+    ghost use Rattle.plane_geom.specs.Planes.{IsSolidPlane, IsWorldPlane, placed_plane};
     ghost use Rattle.plane_geom.specs.declared.fault.ShapeFault.{ShapeFault};
-    ghost use Rattle.prim_half.specs.Halves.{IsHalf};
+    ghost use Rattle.prim_half.specs.Halves.{IsHalf, plane_of_half};
 
     /// The half-space of a normal and a distance, or `ZeroNormal` where the normal is zero.
     pub fn new(n: V3, d: i64) -> Result<Half, ShapeFault>
@@ -83,4 +88,50 @@ impl Half {
             d: i128::from(self.distance),
         }
     }
+
+    /// The half-space in the world: the plane that the placement takes its plane to.
+    pub fn placed(&self, by: &Placement) -> Plane
+        requires { IsWithin SHIFT by.now.shift }
+        ensures value { result ≡ placed_plane by.now (plane_of_half self.now) }
+        ensures size { IsWorldPlane result }
+        ensures lawful { IsHalf self.now.normal self.now.distance }
+    {
+        self.plane().placed(by)
+    }
+}
+
+/// What the placed half-space of a plane does to a ray.
+pub fn crossed_at(plane: &Plane, ray: &Ray) -> Crossing
+    requires plane { IsWorldPlane plane.now }
+    requires origin { IsWithin WORLD ray.now.origin }
+    ensures value { result ≡ crossing_of plane.now ray.now }
+    ensures crossing { IsCrossing plane.now ray.now result }
+    ensures size { IsSmallCrossing result }
+{
+    plane.crossing(ray)
+}
+
+/// The box of a half-space, wherever it is placed: all of space.
+pub fn bounds_at() -> Box3
+    ensures value { result ≡ all_of_space }
+    ensures holds { HoldsAll result }
+{
+    Box3::Span {
+        xlo: Side::Open,
+        xhi: Side::Open,
+        ylo: Side::Open,
+        yhi: Side::Open,
+        zlo: Side::Open,
+        zhi: Side::Open,
+    }
+}
+
+/// The brightness, from 55 to 255, where the ray meets a face of the placed half-space of a plane: the one face has
+/// number 1, and no other number is met.
+pub fn level_at(plane: &Plane, face: u8, ray: &Ray) -> u8
+    requires plane { IsWorldPlane plane.now }
+    requires crossed { face ≡ 1 → slope_on plane.now ray.now ≢ pos 0 }
+    ensures { result ≡ cond (face == 1) (level_of plane.now.n ray.now.dir) 255 }
+{
+    if face == 1 { plane.level(ray) } else { 255 }
 }

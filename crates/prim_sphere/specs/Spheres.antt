@@ -100,3 +100,8 @@ HoldsPointsOf centre radius b = (v : V3) (w : ℤ) → pos 0 <ℤ w → HasWithi
 -- 55 and 200 times the square of the cosine between ray and normal, which is k / r², rounded down
 abbrev pub level_of : Chord → ℤ → ℕ
 level_of chord radius = 55 + 200 * chord.k / (unsigned_abs radius * unsigned_abs radius)
+
+-- the level where a ray runs through a sphere, and the highest where it does not
+abbrev pub chord_level : Option Chord → ℤ → ℕ
+chord_level None radius = 255
+chord_level (Some chord) radius = level_of chord radius

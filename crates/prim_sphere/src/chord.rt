@@ -1,14 +1,15 @@
+//! Where a ray runs through a placed sphere, its box, and how bright it is there.
+
 ghost use Rattle.std.specs.Prelude.{◌≡◌, ◌≢◌, ◌↔◌, ◌≤◌, ◌≤ℤ◌, ◌*ℤ◌, ◌-ℤ◌, pos, IsNone, IfNone, IfSome};
-ghost use Rattle.lattice_core.specs.declared.limit.TheConstants.{COORD, WORLD};
-ghost use Rattle.prim_sphere.specs.declared.limit.TheConstants.{PLACED, REMOTE};
+ghost use Rattle.lattice_core.specs.declared.limit.TheConstants.{COORD, PLACED, WORLD};
+ghost use Rattle.prim_sphere.specs.declared.limit.TheConstants.{REMOTE};
 ghost use Rattle.lattice_core.specs.Limits.{IsAtMost, IsWithin};
 ghost use Rattle.lattice_core.specs.Boxes.{IsTidy};
-ghost use Rattle.lattice_core.specs.Units.{unit_of};
-ghost use Rattle.lattice_core.specs.Vectors.{dot_product, vector_difference};
-ghost use Rattle.prim_sphere.specs.Spheres.{IsRadius, nearest_on, half_chord_squared, squared, length_squared, chord_at, chord_of, IsSmallChord, HoldsBetween, HoldsOnceAtMost, box_of, HoldsPointsOf, level_of};
+ghost use Rattle.lattice_core.specs.Vectors.{vector_difference};
+ghost use Rattle.prim_sphere.specs.Spheres.{IsRadius, nearest_on, half_chord_squared, squared, length_squared, chord_at, chord_of, IsSmallChord, HoldsBetween, HoldsOnceAtMost, box_of, HoldsPointsOf, level_of, chord_level};
 
 use crate::limit::REMOTE;
-use lattice_core::{Box3, Dir, Ray, Side, V3};
+use lattice_core::{Box3, Ray, Side, V3};
 
 /// Where a ray runs through a sphere: from `a - √k` to `a + √k` millimetres from its origin, with `k` over 0.
 #[derive(Clone, Copy, Debug, PartialEq, Eq)]
@@ -43,8 +44,22 @@ pub fn crossed_at(centre: V3, radius: i64, ray: &Ray) -> Option<Chord>
     ensures missed { IfNone result (HoldsOnceAtMost centre radius ray.now) }
 {
     let apart = from_to(ray.origin, centre);
-    let a = along(apart, ray.dir);
+    let a = apart.along(ray.dir);
     chord_from(a, half_chord(apart, a, radius))
+}
+
+/// The brightness, from 55 to 255, where the ray meets the sphere of a placed centre and a radius, and 255 where it does
+/// not.
+pub fn level_at(centre: V3, radius: i64, ray: &Ray) -> u8
+    requires centre { IsWithin PLACED centre }
+    requires radius { IsRadius radius }
+    requires origin { IsWithin WORLD ray.now.origin }
+    ensures { result ≡ chord_level (chord_at centre radius ray.now) radius }
+{
+    match crossed_at(centre, radius, ray) {
+        Some(chord) => chord.level(radius),
+        None => 255,
+    }
 }
 
 /// The chord of these numbers, or `None` where it has no length.
@@ -98,22 +113,6 @@ fn from_to(origin: V3, centre: V3) -> V3
         x: centre.x - origin.x,
         y: centre.y - origin.y,
         z: centre.z - origin.z,
-    }
-}
-
-/// The component of a vector in a direction.
-fn along(v: V3, dir: Dir) -> i64
-    requires { IsWithin REMOTE v }
-    ensures value { result ≡ dot_product v (unit_of dir) }
-    ensures size { IsAtMost REMOTE result }
-{
-    match dir {
-        Dir::PlusX => v.x,
-        Dir::MinusX => -v.x,
-        Dir::PlusY => v.y,
-        Dir::MinusY => -v.y,
-        Dir::PlusZ => v.z,
-        Dir::MinusZ => -v.z,
     }
 }
 

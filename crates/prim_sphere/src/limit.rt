@@ -1,7 +1,6 @@
-use lattice_core::{COORD, SHIFT, WORLD};
+//! How large the numbers of a placed sphere may be, from the limits of points and rays.
 
-/// The greatest size of a coordinate of a centre after it was placed, in millimetres.
-pub const PLACED: i64 = COORD + SHIFT;
+use lattice_core::{PLACED, WORLD};
 
 /// The greatest size of a component of the vector from a ray's origin to a placed centre, in millimetres.
 pub const REMOTE: i64 = PLACED + WORLD;

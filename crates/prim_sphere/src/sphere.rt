@@ -1,4 +1,6 @@
-use lattice_core::V3;
+//! Spheres: made, their numbers, and put into the world.
+
+use lattice_core::{Placement, V3};
 use plane_geom::ShapeFault;
 use std::marker::Model;
 
@@ -24,10 +26,11 @@ impl Model for Sphere {
 
 impl Sphere {
     ghost use Rattle.std.specs.Prelude.{◌≡◌, ◌↔◌, ◌<ℤ◌, ◌≤ℤ◌, pos, Result, Err, MatchResult};
-    ghost use Rattle.lattice_core.specs.declared.limit.TheConstants.{COORD};
+    ghost use Rattle.lattice_core.specs.declared.limit.TheConstants.{COORD, PLACED, SHIFT};
     ghost use Rattle.lattice_core.specs.Limits.{IsAtMost, IsWithin};
     ghost use Rattle.plane_geom.specs.declared.fault.ShapeFault.{ShapeFault};
-    ghost use Rattle.prim_sphere.specs.Spheres.{IsRadius};
+    ghost use Rattle.lattice_core.specs.Placements.{placed};
+    ghost use Rattle.prim_sphere.specs.Spheres.{IsBall, IsRadius};
 
     /// The sphere of a centre and a radius, or `Radius` where the radius is below 1.
     pub fn new(c: V3, r: i64) -> Result<Sphere, ShapeFault>
@@ -59,5 +62,15 @@ impl Sphere {
         ensures size { IsRadius result }
     {
         self.radius
+    }
+
+    /// The sphere in the world: where the placement takes its centre.
+    pub fn placed(&self, by: &Placement) -> V3
+        requires { IsWithin SHIFT by.now.shift }
+        ensures value { result ≡ placed by.now self.now.centre }
+        ensures size { IsWithin PLACED result }
+        ensures lawful { IsBall self.now.centre self.now.radius }
+    {
+        by.place(self.centre)
     }
 }

@@ -5,7 +5,7 @@ use Rattle.std.specs.Option.{option_map}
 use Rattle.region_attr.specs.Ranges.{most_number, most_los, HasRanges}
 use Rattle.region_attr.specs.Values.{truth_of, number_to}
 use Rattle.region_attr.specs.Colours.{colour_of}
-use Rattle.region_attr.specs.Attrs.{IsValueOf, with_value, or_bad, set_known, takes, known_takes}
+use Rattle.region_attr.specs.Attrs.{IsValueOf, IsSetTo, with_value, or_bad, set_known, takes, known_takes}
 use Rattle.region_attr.proofs.ValueForm.{truth_read, truth_form, number_read, number_form}
 use Rattle.region_attr.proofs.ColourForm.{colour_read, colour_form}
 use Rattle.region_attr.specs.declared.attr.Attr.{Attr}
@@ -53,19 +53,24 @@ kept Mater value attr new e was = let p = put_in (λ (v : ℕ). record attr { ma
 kept Rgb value attr new e was = let p = put_in (λ v. record attr { rgb = Some v }) (colour_of value) new e in subst HasRanges (sym p.2) (record { id = was.id; air = was.air; los = was.los; mater = was.mater })
 kept Inherit value attr new e was = let p = put_in (λ v. record attr { inherit = v }) (truth_of value) new e in subst HasRanges (sym p.2) (record { id = was.id; air = was.air; los = was.los; mater = was.mater })
 
-taken : (k : Key) (value : List ℕ) (attr new : Attr) → Ok new ≡ or_bad (with_value k value attr) → IsValueOf k value
-taken Region value attr new e = let p = put_in (λ v. record attr { region = v }) (truth_of value) new e in (p.0, truth_form value p.0 p.1)
-taken Id value attr new e = let p = put_in (λ (v : ℕ). record attr { id = v }) (number_to most_number value) new e in (p.0, number_form most_number value p.0 p.1)
-taken Air value attr new e = let p = put_in (λ (v : ℕ). record attr { air = v }) (number_to most_number value) new e in (p.0, number_form most_number value p.0 p.1)
-taken Los value attr new e = let p = put_in (λ (v : ℕ). record attr { los = v }) (number_to most_los value) new e in (p.0, number_form most_los value p.0 p.1)
-taken Mater value attr new e = let p = put_in (λ (v : ℕ). record attr { mater = v }) (number_to most_number value) new e in (p.0, number_form most_number value p.0 p.1)
-taken Rgb value attr new e = let p = put_in (λ v. record attr { rgb = Some v }) (colour_of value) new e in (p.0, colour_form value p.0 p.1)
-taken Inherit value attr new e = let p = put_in (λ v. record attr { inherit = v }) (truth_of value) new e in (p.0, truth_form value p.0 p.1)
+-- what was put in is what the text says
+is_set : (k : Key) (value : List ℕ) (attr new : Attr) → Ok new ≡ or_bad (with_value k value attr) → IsSetTo k value attr new
+is_set Region value attr new e = let p = put_in (λ v. record attr { region = v }) (truth_of value) new e in (p.0, truth_form value p.0 p.1, p.2)
+is_set Id value attr new e = let p = put_in (λ (v : ℕ). record attr { id = v }) (number_to most_number value) new e in (p.0, number_form most_number value p.0 p.1, p.2)
+is_set Air value attr new e = let p = put_in (λ (v : ℕ). record attr { air = v }) (number_to most_number value) new e in (p.0, number_form most_number value p.0 p.1, p.2)
+is_set Los value attr new e = let p = put_in (λ (v : ℕ). record attr { los = v }) (number_to most_los value) new e in (p.0, number_form most_los value p.0 p.1, p.2)
+is_set Mater value attr new e = let p = put_in (λ (v : ℕ). record attr { mater = v }) (number_to most_number value) new e in (p.0, number_form most_number value p.0 p.1, p.2)
+is_set Rgb value attr new e = let p = put_in (λ v. record attr { rgb = Some v }) (colour_of value) new e in (p.0, colour_form value p.0 p.1, p.2)
+is_set Inherit value attr new e = let p = put_in (λ v. record attr { inherit = v }) (truth_of value) new e in (p.0, truth_form value p.0 p.1, p.2)
+
+pub set_to : (named : Option Key) (value : List ℕ) (attr new : Attr) → Ok new ≡ set_known named value attr → IsSomeAnd named (λ k. IsSetTo k value attr new)
+set_to None value attr new e = cc
+set_to (Some k) value attr new e = is_set k value attr new e
 
 -- what is set is a value of the attribute that is named
 pub good_value : (named : Option Key) (value : List ℕ) (attr new : Attr) → Ok new ≡ set_known named value attr → IsSomeAnd named (λ k. ¬ IsValueOf k value) → ⊥
 good_value None value attr new e none = cc
-good_value (Some k) value attr new e none = none (taken k value attr new e)
+good_value (Some k) value attr new e none = let is = is_set k value attr new e in none (is.0, is.1)
 
 pub ranges_kept : (named : Option Key) (value : List ℕ) (attr new : Attr) → Ok new ≡ set_known named value attr → HasRanges attr → HasRanges new
 ranges_kept None value attr new e was = cc

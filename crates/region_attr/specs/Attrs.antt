@@ -1,5 +1,5 @@
 -- Setting the attribute that a key names.
-use Rattle.std.specs.Prelude.{ℕ, Bool, true, false, List, Option, Some, None, is_some, Result, Ok, Err}
+use Rattle.std.specs.Prelude.{◌≡◌, ℕ, Bool, true, false, List, Option, Some, None, is_some, Result, Ok, Err}
 use Rattle.std.specs.Option.{option_map}
 use Rattle.region_attr.specs.Keys.{key_of}
 use Rattle.region_attr.specs.Ranges.{most_number, most_los}
@@ -12,15 +12,43 @@ use Rattle.region_attr.specs.declared.attr.Rgb.{Rgb as Colour}
 use Rattle.region_attr.specs.declared.key.Key.{Key}
 use Rattle.region_attr.specs.declared.key.Key.TheVariants.{Region, Id, Air, Los, Mater, Rgb, Inherit}
 
--- which texts are values of an attribute
+-- what the values of an attribute are
+abbrev pub ValueOf : Key → Type 0
+ValueOf Region = Bool
+ValueOf Id = ℕ
+ValueOf Air = ℕ
+ValueOf Los = ℕ
+ValueOf Mater = ℕ
+ValueOf Rgb = Colour
+ValueOf Inherit = Bool
+
+-- a text says a value of an attribute
+abbrev pub Says : (key : Key) → List ℕ → ValueOf key → Type 0
+Says Region text value = IsTruth text value
+Says Id text value = IsNumberTo most_number text value
+Says Air text value = IsNumberTo most_number text value
+Says Los text value = IsNumberTo most_los text value
+Says Mater text value = IsNumberTo most_number text value
+Says Rgb text value = IsColour text value
+Says Inherit text value = IsTruth text value
+
+-- the attributes with one of them set to a value
+abbrev pub having : (key : Key) → ValueOf key → Attr → Attr
+having Region value attr = record attr { region = value }
+having Id value attr = record attr { id = value }
+having Air value attr = record attr { air = value }
+having Los value attr = record attr { los = value }
+having Mater value attr = record attr { mater = value }
+having Rgb value attr = record attr { rgb = Some value }
+having Inherit value attr = record attr { inherit = value }
+
+-- a text says some value of an attribute
 abbrev pub IsValueOf : Key → List ℕ → Type 0
-IsValueOf Region value = (truth : Bool) × IsTruth value truth
-IsValueOf Id value = (n : ℕ) × IsNumberTo most_number value n
-IsValueOf Air value = (n : ℕ) × IsNumberTo most_number value n
-IsValueOf Los value = (n : ℕ) × IsNumberTo most_los value n
-IsValueOf Mater value = (n : ℕ) × IsNumberTo most_number value n
-IsValueOf Rgb value = (c : Colour) × IsColour value c
-IsValueOf Inherit value = (truth : Bool) × IsTruth value truth
+IsValueOf key text = (value : ValueOf key) × Says key text value
+
+-- an attribute has the value that a text says, and the others are as they were
+abbrev pub IsSetTo : Key → List ℕ → Attr → Attr → Type 0
+IsSetTo key text old new = (value : ValueOf key) × Says key text value × (new ≡ having key value old)
 
 -- the attributes with one of them set to a value, if it is a value of that one
 abbrev pub with_value : Key → List ℕ → Attr → Option Attr

@@ -5,6 +5,7 @@ ghost use Rattle.region_attr.specs.Ranges.{HasRanges};
 
 use crate::colour::colour;
 use crate::key::{Key, read_key};
+use crate::limit::{MOST_LOS, MOST_NUMBER};
 use crate::value::{number_to, truth};
 use thiserror::Error;
 
@@ -45,12 +46,6 @@ pub enum AttrFault {
     #[error("bad value of an attribute")]
     BadValue,
 }
-
-/// The greatest number of a region, an air and a material.
-const MOST_NUMBER: u32 = 999_999;
-
-/// The greatest density.
-const MOST_LOS: u32 = 100;
 
 /// The attributes with one of them set to a value.
 fn with_value(key: Key, value: &[u8], attr: Attr) -> Option<Attr>
@@ -115,6 +110,7 @@ impl Attr {
     /// 0 to 255, parted by blanks or by `/` without blanks. A refusal changes nothing.
     pub fn set(&mut self, key: &[u8], value: &[u8]) -> Result<(), AttrFault>
         ensures ok { OnOk result (attrs.set_attr key.now value.now self.old ≡ Ok self.new) }
+        ensures set { OnOk result (IsSomeAnd (key_of key.now) (λ named. attrs.IsSetTo named value.now self.old self.new)) }
         ensures accepted { IsOk result ↔ IsTrue (attrs.is_setting key.now value.now) }
         ensures unknown { (result ≡ Err AttrFault.UnknownKey) ↔ IsNone (key_of key.now) }
         ensures bad { (result ≡ Err AttrFault.BadValue) ↔ IsSomeAnd (key_of key.now) (λ named. ¬ (attrs.IsValueOf named value.now)) }

@@ -4,11 +4,9 @@ ghost use Rattle.tcl_words.specs.Bytes.{is_blank};
 ghost use Rattle.region_attr.specs.Colours as colours;
 
 use crate::attr::Rgb;
+use crate::limit::MOST_PART;
 use crate::value::number_to;
 use tcl_words::is_blank;
-
-/// The greatest red, green or blue part.
-const MOST_PART: u32 = 255;
 
 fn is_slash(byte: u8) -> bool
     ensures { result ≡ colours.is_slash byte }

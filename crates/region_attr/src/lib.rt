@@ -4,6 +4,8 @@
 mod attr;
 mod colour;
 mod key;
+mod limit;
 mod value;
 
 pub use attr::{Attr, AttrFault, Rgb};
+pub use limit::limit_laws;

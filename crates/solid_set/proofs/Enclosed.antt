@@ -31,7 +31,7 @@ use Rattle.prim_sphere.proofs.Bounds.{holds_points}
 use Rattle.solid_set.specs.declared.solid.Solid.{Solid}
 use Rattle.solid_set.specs.declared.solid.Solid.TheVariants as solids
 use Rattle.solid_set.specs.declared.surface.Surface.{Surface}
-use Rattle.solid_set.specs.Bounds.{reach_of, farthest, box_of}
+use Rattle.prim_arb8.specs.Bounds.{reach_of, farthest, box_of}
 use Rattle.solid_set.specs.Surfaces.{AllHold, IsInside, IsMade, IsLawful, HoldsInside, surface_of, bounds_of}
 use Rattle.solid_set.proofs.Landing.{LandsOn, lands}
 

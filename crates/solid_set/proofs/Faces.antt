@@ -11,9 +11,10 @@ use Rattle.plane_geom.specs.declared.plane.Crossing.TheVariants.{Enters, Leaves,
 use Rattle.plane_geom.specs.Planes.{IsCrossing, slope_on}
 use Rattle.surd_order.specs.declared.position.Seg.{Seg}
 use Rattle.solid_set.specs.declared.crossed.Crossed.{Crossed}
-use Rattle.solid_set.specs.Crossings.{crossing_of, entered, left, entering_from, leaving_from, is_missed_by}
+use Rattle.plane_geom.specs.Crossings.{crossing_of}
+use Rattle.solid_set.specs.Crossings.{entered, left, entering_from, leaving_from, is_missed_by}
 use Rattle.solid_set.specs.Segments.{face_or_none, segment_through}
-use Rattle.solid_set.proofs.Unique.{crossing_is}
+use Rattle.plane_geom.proofs.Unique.{crossing_is}
 
 -- the ray crosses the plane of a face
 pub record IsCut (ray : Ray) (n : ℕ) (sides : List (Option Plane)) (face : ℕ) : Type 0 where

@@ -1,5 +1,5 @@
 -- What whole lists of crossings tell of the points of a ray.
-use Rattle.std.proofs.Common.{◌≡◌, ◌∙◌, ℕ, ◌+◌, ℤ, pos, ◌*ℤ◌, ◌<ℤ◌, ◌≤ℤ◌, Bool, true, false, cond, ◌||◌, List, [], ◌∷◌, ◌++◌, Option, Some, None, refl, ap, sym, subst, inl, inr, arith}
+use Rattle.std.proofs.Common.{◌≡◌, ◌↔◌, ◌∙◌, ℕ, ◌+◌, ℤ, pos, ◌*ℤ◌, ◌<ℤ◌, ◌≤ℤ◌, Bool, true, false, cond, ◌||◌, List, [], ◌∷◌, ◌++◌, Option, Some, None, refl, ap, sym, subst, inl, inr, arith}
 use Rattle.std.proofs.lemmas.Int.{ints, by_lt_z}
 use Rattle.std.specs.Ordering.{is_lt, is_gt}
 use Rattle.std.specs.declared.cmp.Ordering.{Ordering}
@@ -24,13 +24,14 @@ use Rattle.surd_order.proofs.SpelledPlaces.{is_one_spelling}
 use Rattle.surd_order.proofs.PlaceOrderLaws.{places_are_compared}
 use Rattle.solid_set.specs.declared.crossed.Crossed.{Crossed}
 use Rattle.solid_set.specs.declared.surface.Surface.{Surface}
-use Rattle.solid_set.specs.Crossings.{crossing_of, entered, left, is_miss, entering_from, leaving_from, is_missed_by}
+use Rattle.plane_geom.specs.Crossings.{crossing_of}
+use Rattle.solid_set.specs.Crossings.{entered, left, is_miss, entering_from, leaving_from, is_missed_by}
 use Rattle.solid_set.specs.Segments.{ray_start, ray_end, places_of, start_of, end_of, segment_between}
 use Rattle.solid_set.specs.Surfaces.{AllHold, IsInside}
-use Rattle.solid_set.specs.Laws.{Encloses, HoldsAtMostOne, TellsInside}
+use Rattle.solid_set.specs.Laws.{IsWithinRay, Encloses, HoldsAtMostOne, TellsInside}
 use Rattle.solid_set.proofs.Ranking.{turned_cmp}
 use Rattle.solid_set.proofs.Foremost.{Has, IsForemost, none_at}
-use Rattle.solid_set.proofs.Unique.{crossing_is}
+use Rattle.plane_geom.proofs.Unique.{crossing_is}
 use Rattle.solid_set.proofs.SpanLaws.{ArePlaces}
 
 -- a fraction precedes none of the places
@@ -175,6 +176,19 @@ not_before_ray p q h = not_preceding p q (pos 0) (pos 1) h.positive (omega (arit
 
 not_after_ray : (p q : ℤ) → IsOnRay p q → ¬ (Precedes ray_end (Frac p q))
 not_after_ray p q h = not_preceding FAR (pos 1) p q (omega (arith, ints)) h.positive (omega (arith, ints, h.not_ended))
+
+not_early : (p q : ℤ) → ¬ (Precedes (Frac p q) ray_start) → pos 0 ≤ℤ p
+not_early p q h = by_lt_z p (pos 0) (λ lt. absurd (h (fraction_before p q (pos 0) (pos 1) (omega (arith, ints)) (omega (arith, ints, lt))))) (λ le. le)
+
+not_late : (p q : ℤ) → pos 0 <ℤ q → ¬ (Precedes ray_end (Frac p q)) → p ≤ℤ (FAR *ℤ q)
+not_late p q some h = by_lt_z (FAR *ℤ q) p (λ lt. absurd (h (fraction_before FAR (pos 1) p q some (omega (arith, ints, lt))))) (λ le. le)
+
+-- a fraction lies on a ray exactly where it is between the ends of rays
+pub on_ray_within : (p q : ℤ) → pos 0 <ℤ q → IsOnRay p q ↔ IsWithinRay (Frac p q)
+on_ray_within p q some = (
+  λ on. (not_before_ray p q on, not_after_ray p q on),
+  λ h. record { positive = some; begun = not_early p q h.0; not_ended = not_late p q some h.1 },
+)
 
 pub encloses : (surface : Surface) (ray : Ray) (es ls : List Crossed) (seg : Seg) → IsCutBy surface ray es ls → (s e : Pos) → AreEnds es ls s e → SamePlace seg.start s → SamePlace seg.end e → Encloses surface ray seg
 encloses surface ray es ls seg cut s e ends same same' = record {

@@ -1,10 +1,8 @@
-pub mod Unique
 pub mod Ranking
 pub mod Foremost
 pub mod Spellings
 pub mod Ranges
 pub mod Faces
-pub mod Bounding
 pub mod Made
 pub mod InsideLaws
 pub mod SpelledRange

@@ -1,16 +1,22 @@
--- The one side of a half-space.
+-- What a solid that was made and placed keeps.
 use Rattle.std.proofs.Common.{◌≡◌, zero, suc, All, List, [], ◌∷◌, Option, Some, subst, arith}
 use Rattle.std.proofs.Common.{FitsSigned, w64, lit<}
-use Rattle.std.proofs.lemmas.Int.{ints}
+use Rattle.std.proofs.Common.{refl}
+use mir.Val.{to_z, of_z}
+use Rattle.std.proofs.lemmas.Int.{ints, to_z-of_z}
 use Rattle.plane_geom.proofs.Sizes.{fits64}
 use Rattle.prim_sphere.specs.Spheres.{IsRadius}
-use Rattle.lattice_core.specs.declared.limit.TheConstants.{COORD}
-use Rattle.lattice_core.specs.Limits.{IsWithin}
 use Rattle.std.specs.Option.{ForSome}
 use Rattle.plane_geom.specs.declared.plane.Plane.{Plane}
 use Rattle.plane_geom.specs.Planes.{IsWorldPlane}
 use Rattle.std.proofs.Common.{ℤ}
 use Rattle.lattice_core.specs.declared.vector.V3.{V3}
+use Rattle.std.specs.Prelude.{Result, Ok, Err}
+use Rattle.plane_geom.specs.declared.fault.ShapeFault.{ShapeFault}
+use Rattle.prim_arb8.specs.Rpps.{IsMadeOf, rpp_vertices}
+use Rattle.prim_arb8.specs.Solids.{EightVertices}
+use Rattle.solid_set.specs.declared.solid.Solid.TheVariants as solids
+use Rattle.solid_set.specs.Rpps.{IsArb8Of}
 use Rattle.solid_set.specs.declared.surface.Surface.TheVariants.{Planes, HalfSpace, Ball}
 use Rattle.solid_set.specs.Surfaces.{IsBallSize, IsBallSized}
 
@@ -36,14 +42,14 @@ no_side c r k d lt x e = absurd (omega arith)
 pub radius_fits : (r : ℤ) → IsRadius r → FitsSigned w64 r
 radius_fits r h = fits64 16384 r (lit< tt) (omega (arith, ints, h.some), h.size)
 
-pub all_eight : (a b c d e f g h : V3) → IsWithin COORD a → IsWithin COORD b → IsWithin COORD c → IsWithin COORD d → IsWithin COORD e → IsWithin COORD f → IsWithin COORD g → IsWithin COORD h
-    → All (IsWithin COORD) (a ∷ b ∷ c ∷ d ∷ e ∷ f ∷ g ∷ h ∷ [])
-all_eight a b c d e f g h i j k l m n o p zero x lt = i
-all_eight a b c d e f g h i j k l m n o p (suc zero) x lt = j
-all_eight a b c d e f g h i j k l m n o p (suc (suc zero)) x lt = k
-all_eight a b c d e f g h i j k l m n o p (suc (suc (suc zero))) x lt = l
-all_eight a b c d e f g h i j k l m n o p (suc (suc (suc (suc zero)))) x lt = m
-all_eight a b c d e f g h i j k l m n o p (suc (suc (suc (suc (suc zero))))) x lt = n
-all_eight a b c d e f g h i j k l m n o p (suc (suc (suc (suc (suc (suc zero)))))) x lt = o
-all_eight a b c d e f g h i j k l m n o p (suc (suc (suc (suc (suc (suc (suc zero))))))) x lt = p
-all_eight a b c d e f g h i j k l m n o p (suc (suc (suc (suc (suc (suc (suc (suc q)))))))) x lt = absurd (omega arith)
+pub arb8_made : (r : Result EightVertices ShapeFault) (a : EightVertices) (v : List V3) → IsMadeOf r v → r ≡ Ok a → IsArb8Of (Ok (solids.Arb8 a)) v
+arb8_made r a v made is = subst (λ (x : Result EightVertices ShapeFault). IsMadeOf x v) is made
+
+pub arb8_fault : (r : Result EightVertices ShapeFault) (e : ShapeFault) (v : List V3) → IsMadeOf r v → r ≡ Err e → IsArb8Of (Err e) v
+arb8_fault r e v made is = subst (λ (x : Result EightVertices ShapeFault). IsMadeOf x v) is made
+
+pub rpp_same : {a b c d e f a' b' c' d' e' f' : ℤ} → a ≡ a' → b ≡ b' → c ≡ c' → d ≡ d' → e ≡ e' → f ≡ f' → rpp_vertices a b c d e f ≡ rpp_vertices a' b' c' d' e' f'
+rpp_same h i j k l m = cc
+
+pub fitted : (z : ℤ) → FitsSigned w64 z → to_z w64 (of_z w64 z) ≡ z
+fitted z f = simp to_z-of_z refl

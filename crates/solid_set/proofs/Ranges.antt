@@ -1,5 +1,5 @@
 -- Spans stay in range.
-use Rattle.std.proofs.Common.{◌<◌, ◌^◌, ℤ, pos, ◌<ℤ◌, arith, FitsSigned, w64}
+use Rattle.std.proofs.Common.{◌≡◌, Option, Some, None, sym, subst, ◌<◌, ◌^◌, ℤ, pos, ◌<ℤ◌, arith, FitsSigned, w64}
 use Rattle.std.proofs.lemmas.Int.{ints, fits_signed_from_abs}
 use mir.Syntax.{w128}
 use Rattle.std.specs.Int.RustNames.{unsigned_abs}
@@ -7,7 +7,9 @@ use Rattle.lattice_core.specs.declared.ray.Ray.{Ray}
 use Rattle.plane_geom.specs.declared.plane.Plane.{Plane}
 use Rattle.plane_geom.specs.declared.plane.Crossing.{Crossing}
 use Rattle.plane_geom.specs.declared.plane.Crossing.TheVariants.{Enters, Leaves, Holds, Misses}
+use Rattle.plane_geom.specs.Crossings.{side_crossing}
 use Rattle.plane_geom.specs.Planes.{IsCrossing, IsSmallCrossing}
+use Rattle.plane_geom.proofs.Unique.{crossing_is}
 use Rattle.solid_set.specs.Spans.{IsCrossingInRange, IsSpanInRange, whole_span}
 
 pub fits_over : (z : ℤ) → unsigned_abs z < 2 ^ 57 → FitsSigned w128 z
@@ -27,6 +29,10 @@ crossing_range plane ray (Enters r s) h small = record { over = small.0; positiv
 crossing_range plane ray (Leaves r s) h small = record { over = small.0; positive = h.2; under = small_under s small.1 }
 crossing_range plane ray Holds h small = tt
 crossing_range plane ray Misses h small = tt
+
+pub side_range : (side : Option Plane) (ray : Ray) (c : Crossing) → c ≡ side_crossing side ray → IsSmallCrossing c → IsCrossingInRange c
+side_range None ray c e small = subst IsCrossingInRange (sym e) tt
+side_range (Some plane) ray c e small = crossing_range plane ray c (subst (IsCrossing plane ray) (sym e) (crossing_is plane ray)) small
 
 pub whole_range : IsSpanInRange whole_span
 whole_range = record {

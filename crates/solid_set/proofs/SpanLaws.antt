@@ -1,5 +1,5 @@
 -- The running span against the whole lists of crossings.
-use Rattle.std.proofs.Common.{◌≡◌, ◌∙◌, ℕ, ◌+◌, ◌≤◌, Bool, true, false, cond, ◌||◌, List, [], ◌∷◌, ◌++◌, length, take, drop, ◌<◌, Option, Some, None, MatchOption, refl, ap, sym, subst, inl, inr, arith, append_assoc}
+use Rattle.std.proofs.Common.{◌≡◌, ◌∙◌, ℕ, ◌+◌, ◌-◌, ◌≤◌, Bool, true, false, cond, ◌||◌, List, [], ◌∷◌, ◌++◌, length, take, drop, ◌<◌, Option, Some, None, MatchOption, refl, ap, sym, subst, inl, inr, arith, append_assoc}
 use Rattle.std.proofs.lemmas.Int.{ints}
 use Rattle.std.proofs.lemmas.Cmp.{alike_right}
 use Rattle.std.specs.Prelude.{slice_index_or}
@@ -22,13 +22,14 @@ use Rattle.surd_order.specs.PlaceOrder.{place_cmp}
 use Rattle.surd_order.proofs.PlaceOrderLaws.{place_cmp_total}
 use Rattle.solid_set.specs.declared.crossed.Crossed.{Crossed}
 use Rattle.solid_set.specs.declared.span.Span.{Span}
-use Rattle.solid_set.specs.Crossings.{crossing_of, entered, left, is_miss, entering_from, leaving_from, is_missed_by}
+use Rattle.plane_geom.specs.Crossings.{crossing_of}
+use Rattle.solid_set.specs.Crossings.{entered, left, is_miss, entering_from, leaving_from, is_missed_by}
 use Rattle.solid_set.specs.Segments.{ray_start, ray_end, places_of, face_at, face_or_none, start_of, end_of, segment_between, segment_through}
 use Rattle.solid_set.specs.Spans.{IsSpanInRange, crossed_span, cut_span, finished_span, whole_span}
 use Rattle.surd_order.specs.Spelled.{spelled}
 use Rattle.solid_set.proofs.Ranking.{IsRanking, turned_cmp, forwards, backwards}
 use Rattle.solid_set.proofs.Foremost.{Has, IsForemost, IsBest, face_is, foremost_is, foremost_tie, best_next, best_first}
-use Rattle.solid_set.proofs.Unique.{crossing_is}
+use Rattle.plane_geom.proofs.Unique.{crossing_is}
 use Rattle.solid_set.proofs.Spellings.{spelled_tie, ranged_place}
 
 append_none : (cs : List Crossed) → cs ++ [] ≡ cs
@@ -217,6 +218,12 @@ finished ray sides span range h =
 
 pub missed_none : (ray : Ray) (sides : List (Option Plane)) → is_missed_by ray sides ≡ true → segment_through sides ray ≡ None
 missed_none ray sides e = ap (λ (b : Bool). cond b None (segment_between (entering_from ray 1 sides) (leaving_from ray 1 sides))) e
+
+pub loop_cut : (ray : Ray) (all : List (Option Plane)) (i : ℕ) (span : Span) (next : Option Span) → next ≡ cut_span span (i + 1) (slice_index_or all ((i + 1) - 1) None) ray
+    → next ≡ cut_span span (i + 1) (slice_index_or all i None) ray
+loop_cut ray all i span next e =
+    let back : (i + 1) - 1 ≡ i = omega arith in
+    e ∙ ap (λ (k : ℕ). cut_span span (i + 1) (slice_index_or all k None) ray) back
 
 -- the step of a loop over all planes
 pub loop_next : (ray : Ray) (all : List (Option Plane)) (i : ℕ) (span : Span) → i < length all → IsSpanOf ray (take i all) span

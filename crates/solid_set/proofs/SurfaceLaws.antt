@@ -1,6 +1,7 @@
 -- The segment of a surface: what it tells of the points of a ray, and that it is sound.
-use Rattle.std.proofs.Common.{◌≡◌, ◌≢◌, ◌∙◌, ℕ, ℤ, pos, Bool, true, false, cond, List, [], ◌∷◌, Option, Some, None, refl, ap, sym, subst, inl, inr, arith}
-use Rattle.std.specs.Prelude.{IfSome, IfNone}
+use Rattle.std.proofs.Common.{◌≡◌, ◌≢◌, ◌∙◌, ℕ, ◌-◌, ℤ, pos, Bool, true, false, cond, List, [], ◌∷◌, Option, Some, None, refl, ap, sym, subst, inl, inr, arith}
+use Rattle.std.specs.Prelude.{IfSome, IfNone, slice_index_or}
+use Rattle.std.specs.Option.{ForSome}
 use Rattle.std.proofs.lemmas.Cmp.{tied_itself}
 use Rattle.std.specs.Cmp.{IsTotalOrder}
 use Rattle.std.specs.Ordering.{is_lt, is_gt, ordering_reverse}
@@ -177,3 +178,10 @@ steep_on (Planes sides) ray face plane some on is =
 steep_on (HalfSpace half) ray face plane some on is =
     steep_at ray (Some half ∷ []) face plane some (elim on [ inl none ↦ inl none | inr at_end ↦ segment_cut ray (Some half ∷ []) face at_end ]) is
 steep_on (Ball c r) ray face plane some on is = absurd (let none : None ≡ Some plane = is in cc)
+
+pub steep_sides : (sides : List (Option Plane)) (ray : Ray) (face : ℕ) → face ≢ 0 → IsFaceOn (Planes sides) ray face → ForSome (slice_index_or sides (face - 1) None) (λ plane. slope_on plane ray ≢ pos 0)
+steep_sides sides ray face some on plane is = steep_on (Planes sides) ray face plane some on is
+
+pub steep_half : (plane : Plane) (ray : Ray) (face : ℕ) → face ≢ 0 → IsFaceOn (HalfSpace plane) ray face → face ≡ 1 → slope_on plane ray ≢ pos 0
+steep_half plane ray face some on one =
+    steep_on (HalfSpace plane) ray face plane some on (subst (λ (k : ℕ). side_at (HalfSpace plane) k ≡ Some plane) (sym one) refl)

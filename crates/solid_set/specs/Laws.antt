@@ -2,6 +2,7 @@
 use Rattle.std.specs.Prelude.{ℤ, pos, ◌<ℤ◌, Option, Some, None}
 use Rattle.lattice_core.specs.declared.ray.Ray.{Ray}
 use Rattle.lattice_core.specs.Rays.{IsOnRay}
+use Rattle.surd_order.specs.declared.position.Pos.{Pos}
 use Rattle.surd_order.specs.declared.position.Pos.TheVariants.{Frac}
 use Rattle.surd_order.specs.declared.position.Seg.{Seg}
 use Rattle.surd_order.specs.Order.{Precedes, SamePlace}
@@ -10,6 +11,10 @@ use Rattle.surd_order.specs.Spelling.{IsSpelled}
 use Rattle.solid_set.specs.declared.surface.Surface.{Surface}
 use Rattle.solid_set.specs.Segments.{ray_start, ray_end}
 use Rattle.solid_set.specs.Surfaces.{IsInside}
+
+-- neither before the position at which rays begin nor after the one at which they end
+abbrev pub IsWithinRay : Pos → Type 0
+IsWithinRay x = (¬ (Precedes x ray_start)) × (¬ (Precedes ray_end x))
 
 -- the points between the ends are inside; those of the ray before the start or after the end are not
 pub record Encloses (surface : Surface) (ray : Ray) (seg : Seg) : Type 0 where

@@ -16,7 +16,8 @@ use Rattle.surd_order.specs.PlaceOrder.{place_cmp}
 use Rattle.solid_set.specs.declared.crossed.Crossed.{Crossed}
 use Rattle.solid_set.specs.declared.span.Span.{Span}
 use Rattle.surd_order.specs.Spelled.{spelled}
-use Rattle.solid_set.specs.Crossings.{crossing_of, crossed_at}
+use Rattle.plane_geom.specs.Crossings.{side_crossing}
+use Rattle.solid_set.specs.Crossings.{crossed_at}
 use Rattle.solid_set.specs.Segments.{ray_start, ray_end}
 
 pub record IsSpanInRange (span : Span) : Type 0 where
@@ -56,8 +57,7 @@ crossed_span span face Holds = Some span
 crossed_span span face Misses = None
 
 abbrev pub cut_span : Span → ℕ → Option Plane → Ray → Option Span
-cut_span span face None ray = Some span
-cut_span span face (Some plane) ray = crossed_span span face (crossing_of plane ray)
+cut_span span face side ray = crossed_span span face (side_crossing side ray)
 
 abbrev pub segment_at : Crossed → Crossed → Seg
 segment_at start end = record { start = spelled start.place; start_face = start.face; end = spelled end.place; end_face = end.face }

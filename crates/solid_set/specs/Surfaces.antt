@@ -1,7 +1,6 @@
 -- The surfaces of placed solids, and which points they enclose.
-use Rattle.std.specs.Prelude.{◌≡◌, ℤ, List, [], ◌∷◌, map, Option, Some, None, pos, ◌<ℤ◌, All}
-use Rattle.std.specs.Option.{option_map}
-use Rattle.lattice_core.specs.declared.limit.TheConstants.{SHIFT}
+use Rattle.std.specs.Prelude.{◌≡◌, ℤ, List, [], ◌∷◌, Option, Some, None, pos, ◌<ℤ◌}
+use Rattle.lattice_core.specs.declared.limit.TheConstants.{SHIFT, PLACED}
 use Rattle.lattice_core.specs.declared.boxes.Box3.{Box3}
 use Rattle.lattice_core.specs.declared.ray.Ray.{Ray}
 use Rattle.lattice_core.specs.declared.vector.V3.{V3}
@@ -10,10 +9,10 @@ use Rattle.lattice_core.specs.declared.placement.Placement.{Placement}
 use Rattle.lattice_core.specs.Limits.{IsWithin}
 use Rattle.plane_geom.specs.declared.plane.Plane.{Plane}
 use Rattle.plane_geom.specs.Planes.{PlaneHolds, placed_plane}
-use Rattle.prim_half.specs.Halves.{HalfSpace as HalfNumbers, IsHalf}
+use Rattle.prim_half.specs.Halves.{IsHalf, HoldsAll, all_of_space}
+pub use Rattle.prim_half.specs.Halves.{plane_of_half}
 use Rattle.prim_arb8.specs.Solids.{IsArb8}
 use Rattle.prim_arb8.specs.Faces.{planes_of}
-use Rattle.prim_sphere.specs.declared.limit.TheConstants.{PLACED}
 use Rattle.lattice_core.specs.Boxes.{HasPoint}
 use Rattle.lattice_core.specs.Rays.{scaled_point}
 use Rattle.prim_sphere.specs.Spheres.{SphereHolds, IsBall, IsRadius, HoldsPointsOf}
@@ -22,13 +21,8 @@ use Rattle.solid_set.specs.declared.solid.Solid.{Solid}
 use Rattle.solid_set.specs.declared.solid.Solid.TheVariants as solids
 use Rattle.solid_set.specs.declared.surface.Surface.{Surface}
 use Rattle.solid_set.specs.declared.surface.Surface.TheVariants.{Planes, HalfSpace, Ball}
-use Rattle.solid_set.specs.Bounds.{box_of, all_of_space}
-
-abbrev pub plane_of_half : HalfNumbers → Plane
-plane_of_half half = record { n = half.normal; d = half.distance }
-
-abbrev pub placed_sides : Placement → List (Option Plane) → List (Option Plane)
-placed_sides by sides = map (option_map (placed_plane by)) sides
+use Rattle.prim_arb8.specs.Bounds.{box_of, HoldsVertices}
+pub use Rattle.prim_arb8.specs.Placing.{placed_sides}
 
 -- the surface of a placed solid: each face keeps its number
 abbrev pub surface_of : Solid → Placement → Surface
@@ -77,14 +71,6 @@ pub record IsBallSize (centre : V3) (radius : ℤ) : Type 0 where
 -- a surface that is a ball has these sizes
 abbrev pub IsBallSized : Surface → Type 0
 IsBallSized surface = (centre : V3) (radius : ℤ) → surface ≡ Ball centre radius → IsBallSize centre radius
-
--- the box holds the vertices where the placement takes them
-abbrev pub HoldsVertices : Box3 → Placement → List V3 → Type 0
-HoldsVertices b by vertices = All (λ p. HasPoint b (placed by p) (pos 1)) vertices
-
--- the box holds every point
-abbrev pub HoldsAll : Box3 → Type 0
-HoldsAll b = (v : V3) (w : ℤ) → HasPoint b v w
 
 -- the box holds a placed solid: its vertices, the points of a sphere, or all points
 abbrev pub HoldsSolid : Solid → Placement → Box3 → Type 0

@@ -1,3 +1,5 @@
+//! One crossing of a face on a ray.
+
 use surd_order::Pos;
 
 /// A place on a ray and the number of the face that is crossed there, or 0 where the ray itself begins or ends.

@@ -1,3 +1,5 @@
+//! The kinds of solids.
+
 use prim_arb8::Arb8;
 use prim_half::Half;
 use prim_sphere::Sphere;

@@ -1,4 +1,6 @@
-ghost use Rattle.std.specs.Prelude.{◌≡◌, ◌<◌, ◌≤◌, ◌^◌, All, length};
+//! From crossings to segments: the running start and end of the part of a ray that is inside.
+
+ghost use Rattle.std.specs.Prelude.{◌≡◌, ◌-◌, ◌≤◌, All, None, slice_index_or};
 ghost use Rattle.std.specs.Option.{ForSome};
 ghost use Rattle.lattice_core.specs.declared.limit.TheConstants.{WORLD};
 ghost use Rattle.lattice_core.specs.Limits.{IsWithin};
@@ -7,7 +9,7 @@ ghost use Rattle.surd_order.specs.PlaceOrder.{place_cmp};
 ghost use Rattle.surd_order.specs.Range.{IsInRange, IsSurdInRange};
 ghost use Rattle.surd_order.specs.Spelled.{spelled};
 ghost use Rattle.solid_set.specs.declared.surface.Surface.{Surface};
-ghost use Rattle.solid_set.specs.Segments.{segment_through, segment_of};
+ghost use Rattle.solid_set.specs.Segments.{segment_of};
 ghost use Rattle.solid_set.specs.Surfaces.{IsBallSize};
 ghost use Rattle.solid_set.specs.Laws.{IsSegInRange};
 ghost use Rattle.solid_set.specs.Spans.{IsSpanInRange, IsCrossingInRange, chosen, later, earlier, whole_span, crossed_span, cut_span, finished_span, ball_span, ball_crossed};
@@ -15,7 +17,7 @@ ghost use Rattle.solid_set.specs.Spans.{IsSpanInRange, IsCrossingInRange, chosen
 use crate::crossed::Crossed;
 use lattice_core::{FAR, Ray, V3};
 use plane_geom::{Crossing, Plane};
-use prim_sphere::{Chord, crossed_at};
+use prim_sphere::Chord;
 use std::cmp::Ordering;
 use surd_order::{Pos, Seg};
 
@@ -126,17 +128,15 @@ fn crossed_span(span: Span, face: u8, crossing: Crossing) -> Option<Span>
     }
 }
 
-fn cut_span(span: Span, face: u8, side: Option<Plane>, ray: &Ray) -> Option<Span>
+fn cut_span(span: Span, face: u8, sides: &[Option<Plane>; 12], ray: &Ray) -> Option<Span>
     requires span { IsSpanInRange span }
-    requires side { ForSome side IsWorldPlane }
+    requires face { 1 ≤ face }
+    requires sides { All (λ side. ForSome side IsWorldPlane) sides.now }
     requires origin { IsWithin WORLD ray.now.origin }
-    ensures value { result ≡ cut_span span face side ray.now }
+    ensures value { result ≡ cut_span span face (slice_index_or sides.now (face - 1) None) ray.now }
     ensures range { ForSome result IsSpanInRange }
 {
-    match side {
-        Some(plane) => crossed_span(span, face, plane.crossing(ray)),
-        None => Some(span),
-    }
+    crossed_span(span, face, prim_arb8::crossed_at(sides, face, ray))
 }
 
 fn finished_span(span: Span) -> Option<Seg>
@@ -156,18 +156,28 @@ fn finished_span(span: Span) -> Option<Seg>
     }
 }
 
-/// The part of the ray that all planes hold. Their faces have the numbers from 1 on.
-pub fn segment_through(sides: &[Option<Plane>], ray: &Ray) -> Option<Seg>
+/// The part of the ray that is in a solid of eight vertices, whose faces have the numbers from 1 to 12.
+pub fn segment_of_faces(sides: &[Option<Plane>; 12], ray: &Ray) -> Option<Seg>
     requires sides { All (λ side. ForSome side IsWorldPlane) sides.now }
-    requires count { length sides.now ≤ 12 }
     requires origin { IsWithin WORLD ray.now.origin }
-    ensures value { result ≡ segment_through sides.now ray.now }
+    ensures value { result ≡ segment_of (Surface.Planes sides.now) ray.now }
     ensures range { ForSome result IsSegInRange }
 {
     let mut span = whole_span();
-    for (i, side) in sides.iter().enumerate() {
-        span = cut_span(span, i as u8 + 1, *side, ray)?;
+    for i in 0..12usize {
+        span = cut_span(span, i as u8 + 1, sides, ray)?;
     }
+    finished_span(span)
+}
+
+/// The part of the ray that is in a half-space, whose one face has number 1.
+pub fn segment_of_half(plane: &Plane, ray: &Ray) -> Option<Seg>
+    requires plane { IsWorldPlane plane.now }
+    requires origin { IsWithin WORLD ray.now.origin }
+    ensures value { result ≡ segment_of (Surface.HalfSpace plane.now) ray.now }
+    ensures range { ForSome result IsSegInRange }
+{
+    let span = crossed_span(whole_span(), 1, prim_half::crossed_at(plane, ray))?;
     finished_span(span)
 }
 
@@ -178,7 +188,7 @@ pub fn segment_of_ball(centre: V3, radius: i64, ray: &Ray) -> Option<Seg>
     ensures value { result ≡ segment_of (Surface.Ball centre radius) ray.now }
     ensures range { ForSome result IsSegInRange }
 {
-    match crossed_at(centre, radius, ray) {
+    match prim_sphere::crossed_at(centre, radius, ray) {
         Some(chord) => finished_span(ball_span(chord)),
         None => None,
     }

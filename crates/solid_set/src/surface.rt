@@ -1,3 +1,5 @@
+//! What a placed solid of each kind keeps to decide where a ray is inside.
+
 use lattice_core::V3;
 use plane_geom::Plane;
 

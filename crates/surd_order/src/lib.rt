@@ -9,5 +9,5 @@ mod text;
 
 pub use laws::{order_laws, place_order_laws};
 pub use position::{Pos, Seg};
-pub use range::{OVER_LIMIT, SQUARE_LIMIT, UNDER_LIMIT, WHOLE_LIMIT};
+pub use range::{OVER_LIMIT, SQUARE_LIMIT, UNDER_LIMIT, WHOLE_LIMIT, limit_laws};
 pub use text::PosText;

@@ -1,4 +1,5 @@
-ghost use Rattle.std.specs.Prelude.{◌↔◌, IsTrue};
+ghost use Rattle.std.specs.Prelude.{◌≡◌, ◌↔◌, ◌^◌, pos, IsTrue};
+ghost use Rattle.surd_order.specs.declared.range.TheConstants.{OVER_LIMIT, UNDER_LIMIT, WHOLE_LIMIT, SQUARE_LIMIT};
 ghost use Rattle.surd_order.specs.Range.{IsInRange};
 
 use crate::Pos;
@@ -26,3 +27,11 @@ impl Pos {
         }
     }
 }
+
+/// The limits are these numbers. This law is what refuses another constant.
+pub fn limit_laws()
+    ensures over { OVER_LIMIT ≡ 2 ^ 57 }
+    ensures under { UNDER_LIMIT ≡ pos (2 ^ 33) }
+    ensures whole { WHOLE_LIMIT ≡ 2 ^ 24 }
+    ensures square { SQUARE_LIMIT ≡ 2 ^ 32 }
+{}

@@ -8,13 +8,11 @@ ghost use Rattle.tcl_words.specs.TopWords.{AreTokensIn};
 
 use crate::bytes::{is_atom, is_bad, is_bad_outside, is_close, is_open};
 use crate::fault::WordFault;
+use crate::limit::MOST_OPEN;
 use crate::token::{Kind, Token};
 use memory_core::Memory;
 use std::alloc::Global;
 use std::marker::Model;
-
-/// How many groups may be open at once.
-const MOST_OPEN: u32 = 4100;
 
 fn is_bad_at(byte: u8, groups: u32) -> bool
     ensures { result ≡ faults.is_bad_at byte groups }

@@ -4,6 +4,7 @@ use Rattle.std.proofs.lemmas.Bool.{false≢true}
 use mir.Syntax.{w128}
 use Rattle.plane_geom.proofs.Sizes.{fits128}
 use Rattle.plane_geom.proofs.Crossings.{leaves, enters, holds, misses}
+use Rattle.plane_geom.proofs.Unique.{one_crossing, crossing_is}
 use Rattle.plane_geom.proofs.plane.Plane.crossing.Goals as goal
 
 pub returns-then-slope-gt0-clause-crossing : goal.returns-then-slope-gt0-clause-crossing
@@ -31,3 +32,15 @@ returns-else-holds_along-clause-crossing c =
     let fs : FitsSigned w128 c.slope-slope.result = fits128 2147483648 c.slope-slope.result (lit< tt) c.slope-slope.ensures.size in
     let along = simp to_z-of_z at c.if-holds_along.ensures in
     misses c.args.self.now c.args.ray.now c.gap-gap.result c.gap-gap.ensures.value (omega (arith, ints, c.slope-slope.ensures.value)) (λ h. false≢true (along.1 h))
+
+pub returns-then-slope-gt0-clause-value : goal.returns-then-slope-gt0-clause-value
+returns-then-slope-gt0-clause-value c = one_crossing c.args.self.now c.args.ray.now _ _ (returns-then-slope-gt0-clause-crossing c) (crossing_is c.args.self.now c.args.ray.now)
+
+pub returns-then-slope-lt0-clause-value : goal.returns-then-slope-lt0-clause-value
+returns-then-slope-lt0-clause-value c = one_crossing c.args.self.now c.args.ray.now _ _ (returns-then-slope-lt0-clause-crossing c) (crossing_is c.args.self.now c.args.ray.now)
+
+pub returns-then-holds_along-clause-value : goal.returns-then-holds_along-clause-value
+returns-then-holds_along-clause-value c = one_crossing c.args.self.now c.args.ray.now _ _ (returns-then-holds_along-clause-crossing c) (crossing_is c.args.self.now c.args.ray.now)
+
+pub returns-else-holds_along-clause-value : goal.returns-else-holds_along-clause-value
+returns-else-holds_along-clause-value c = one_crossing c.args.self.now c.args.ray.now _ _ (returns-else-holds_along-clause-crossing c) (crossing_is c.args.self.now c.args.ray.now)

@@ -1,7 +1,7 @@
 use Rattle.std.proofs.Common.{refl}
 use Rattle.std.proofs.lemmas.Result.{err_from_is_err_and}
 use Rattle.region_attr.specs.Keys.{key_of}
-use Rattle.region_attr.proofs.Setting.{bad_value, good_value, ranges_kept, refuses, sets}
+use Rattle.region_attr.proofs.Setting.{bad_value, good_value, ranges_kept, refuses, set_to, sets}
 use Rattle.region_attr.proofs.attr.Attr.set.Goals as goal
 
 pub returns-in_err-self-clause-bad : goal.returns-in_err-self-clause-bad
@@ -25,3 +25,6 @@ returns-in_err-self-clause-accepted c =
 pub returns-clause-accepted : goal.returns-clause-accepted
 returns-clause-accepted c =
     let yes_ = sets (key_of c.args.key.now) c.args.value.now c.args.self.now c.in_ok-self.field-0 c.in_ok-self.ensures in ((λ e. yes_), (λ h. refl))
+
+pub returns-clause-set : goal.returns-clause-set
+returns-clause-set c = set_to (key_of c.args.key.now) c.args.value.now c.args.self.now c.in_ok-self.field-0 c.in_ok-self.ensures

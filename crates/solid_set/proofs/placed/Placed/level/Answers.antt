@@ -1,8 +1,29 @@
-use Rattle.std.proofs.Common.{◌≢◌, ◌∙◌, sym}
-use Rattle.solid_set.proofs.SurfaceLaws.{steep_on}
+use Rattle.std.proofs.Common.{subst, FitsSigned, w64}
+use Rattle.std.proofs.lemmas.Int.{to_z-of_z}
+use Rattle.prim_sphere.specs.Spheres.{IsRadius}
+use Rattle.solid_set.specs.declared.surface.Surface.{Surface}
+use Rattle.solid_set.specs.Levels.{IsFaceOn}
+use Rattle.solid_set.specs.Surfaces.{IsBallSize}
+use Rattle.solid_set.proofs.Made.{radius_fits}
+use Rattle.solid_set.proofs.SurfaceLaws.{steep_sides, steep_half}
 use Rattle.solid_set.proofs.placed.Placed.level.Goals as goal
 
-pub level-requires-clause-crossed : goal.level-requires-clause-crossed
-level-requires-clause-crossed c =
-    let some : c.args.face ≢ 0 = c.if-face-eq0.false in
-    steep_on c.args.self.now.surface c.args.ray.now c.args.face c.in-Some.plane some c.requires.face (sym c.side.ensures.value ∙ c.in-Some.is)
+pub level_at-requires-clause-crossed : goal.level_at-requires-clause-crossed
+level_at-requires-clause-crossed c =
+    steep_sides c.in-Planes.sides c.args.ray.now c.args.face c.if-face-eq0.false (subst (λ (s : Surface). IsFaceOn s c.args.ray.now c.args.face) c.in-Planes.is c.requires.face)
+
+pub level_at-requires-in-HalfSpace-clause-crossed : goal.level_at-requires-in-HalfSpace-clause-crossed
+level_at-requires-in-HalfSpace-clause-crossed c =
+    steep_half c.in-HalfSpace.plane c.args.ray.now c.args.face c.if-face-eq0.false (subst (λ (s : Surface). IsFaceOn s c.args.ray.now c.args.face) c.in-HalfSpace.is c.requires.face)
+
+pub level_at-requires-in-Ball-clause-centre : goal.level_at-requires-in-Ball-clause-centre
+level_at-requires-in-Ball-clause-centre c =
+    let sized : IsBallSize c.in-Ball.centre c.in-Ball.radius = c.args.self.now.ball_size c.in-Ball.centre c.in-Ball.radius c.in-Ball.is in
+    sized.centre_size
+
+pub level_at-requires-in-Ball-clause-radius : goal.level_at-requires-in-Ball-clause-radius
+level_at-requires-in-Ball-clause-radius c =
+    let sized : IsBallSize c.in-Ball.centre c.in-Ball.radius = c.args.self.now.ball_size c.in-Ball.centre c.in-Ball.radius c.in-Ball.is in
+    let size : IsRadius c.in-Ball.radius = sized.radius_size in
+    let fr : FitsSigned w64 c.in-Ball.radius = radius_fits c.in-Ball.radius size in
+    simp to_z-of_z size

@@ -1,16 +1,15 @@
-use Rattle.std.proofs.Common.{subst, List, FitsSigned, w64}
-use Rattle.std.proofs.lemmas.Int.{to_z-of_z}
+use Rattle.std.proofs.Common.{subst, List}
 use Rattle.lattice_core.specs.declared.vector.V3.{V3}
-use Rattle.solid_set.specs.Rpps.{IsArb8Of}
+use Rattle.prim_arb8.specs.Rpps.{IsMadeOf}
+use Rattle.solid_set.proofs.Made.{arb8_made, arb8_fault, rpp_same, fitted}
 use Rattle.solid_set.proofs.solid.Solid.rpp.Goals as goal
 
-pub returns : goal.returns
-returns c =
-    let f1 : FitsSigned w64 c.args.xmin = c.ranges.xmin in
-    let f2 : FitsSigned w64 c.args.xmax = c.ranges.xmax in
-    let f3 : FitsSigned w64 c.args.ymin = c.ranges.ymin in
-    let f4 : FitsSigned w64 c.args.ymax = c.ranges.ymax in
-    let f5 : FitsSigned w64 c.args.zmin = c.ranges.zmin in
-    let f6 : FitsSigned w64 c.args.zmax = c.ranges.zmax in
-    let value = simp to_z-of_z at c.rpp_vertices.ensures.value in
-    subst (λ (v : List V3). IsArb8Of c.arb8_of.result v) value c.arb8_of.ensures
+pub returns-in-Ok : goal.returns-in-Ok
+returns-in-Ok c =
+    let same = rpp_same (fitted _ c.ranges.xmin) (fitted _ c.ranges.xmax) (fitted _ c.ranges.ymin) (fitted _ c.ranges.ymax) (fitted _ c.ranges.zmin) (fitted _ c.ranges.zmax) in
+    arb8_made c.of_extents.result c.in-Ok.arb8 _ (subst (λ (v : List V3). IsMadeOf c.of_extents.result v) same c.of_extents.ensures) c.in-Ok.is
+
+pub returns-in-Err : goal.returns-in-Err
+returns-in-Err c =
+    let same = rpp_same (fitted _ c.ranges.xmin) (fitted _ c.ranges.xmax) (fitted _ c.ranges.ymin) (fitted _ c.ranges.ymax) (fitted _ c.ranges.zmin) (fitted _ c.ranges.zmax) in
+    arb8_fault c.of_extents.result c.in-Err.fault _ (subst (λ (v : List V3). IsMadeOf c.of_extents.result v) same c.of_extents.ensures) c.in-Err.is

@@ -6,13 +6,11 @@ ghost use Rattle.directory.specs.Edits.{judged_by};
 ghost use Rattle.directory.specs.Places.{name_of_node, node_names, depth_at, depth_of_object};
 
 use crate::fault::DirFault;
+use crate::limit::DEPTH;
 use comb_tree::CombNode;
 use indexmap::IndexMap;
 use name_core::Name;
 use object_set::{Body, Object};
-
-/// The greatest number of combinations on a walk.
-pub(crate) const DEPTH: u8 = 16;
 
 /// More than the depth of any name after one edit of a sound directory without a cycle. It stands for a depth that is not
 /// known.

@@ -10,8 +10,9 @@ ghost use Rattle.directory.specs.Alone.{IsAlone, GoesAlone, KeepsDepth, StaysAlo
 ghost use Rattle.directory.specs.Counting.{times};
 ghost use Rattle.directory.specs.Edits.{judged, appended, put_fault, replaced, replace_fault, removed, remove_fault, renamed_all, rename_fault, references_of, Follows};
 
-use crate::depths::{DEPTH, depth_of};
+use crate::depths::depth_of;
 use crate::fault::DirFault;
+use crate::limit::{DEPTH, OBJECTS};
 use crate::members::{is_solid, keeps_names, leaves_named};
 use crate::walk::{resettle, settle};
 use indexmap::IndexMap;
@@ -19,9 +20,6 @@ use memory_core::Memory;
 use name_core::Name;
 use object_set::Object;
 use std::alloc::Global;
-
-/// The greatest number of objects.
-const OBJECTS: usize = 65_535;
 
 /// Adds a pair at the end.
 pub(crate) fn push_new(

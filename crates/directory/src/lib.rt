@@ -7,9 +7,13 @@ mod depths;
 mod directory;
 mod edits;
 mod fault;
+mod limit;
 mod members;
+mod recall;
 mod walk;
 mod whole;
 
 pub use directory::Directory;
 pub use fault::DirFault;
+pub use limit::limit_laws;
+pub use recall::recall_entries;

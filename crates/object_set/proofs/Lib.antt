@@ -1,3 +1,4 @@
 pub mod Renamed
 pub mod Distinct
 pub mod Noted
+pub mod Each

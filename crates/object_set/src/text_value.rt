@@ -1,4 +1,5 @@
-ghost use Rattle.std.specs.Prelude.{◌≢◌, ◌↔◌, All, IsTrue};
+ghost use Rattle.std.specs.Prelude.{◌≡◌, ◌≢◌, ◌↔◌, All, IsTrue};
+ghost use Rattle.object_set.specs.declared.text_value.TheConstants.{MOST_TEXT};
 ghost use Rattle.object_set.specs.TextValues.{IsTextValue};
 
 use tcl_words::is_group_text;
@@ -19,3 +20,8 @@ pub fn is_text_value(text: &[u8]) -> bool
 {
     text.len() <= MOST_TEXT && is_one_line(text) && is_group_text(text)
 }
+
+/// The limit is this number. This law is what refuses another constant.
+pub fn limit_laws()
+    ensures text { MOST_TEXT ≡ 1024 }
+{}

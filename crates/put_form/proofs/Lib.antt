@@ -6,3 +6,4 @@ pub mod SolidLaws
 pub mod CombLaws
 pub mod TreeLaws
 pub mod PutLaws
+pub mod OneLine

@@ -16,7 +16,8 @@ use Rattle.transcript.proofs.TranscriptLaws.{computed}
 use Rattle.directory.specs.Walks.{Entries, object_of}
 use Rattle.report_text.specs.Listings.{Listed, listed_from, listed_in, mark_in, marked, operator_text, leaf_line, with_below, lines_below, leaves_of}
 use Rattle.report_text.specs.Steps.{found_at, operators_after, found_in}
-use Rattle.report_text.proofs.LineLaws.{name_lacks, mark_lacks}
+use Rattle.put_form.proofs.OneLine.{name_lacks}
+use Rattle.report_text.proofs.LineLaws.{mark_lacks}
 
 -- an operator's node, its right side and its left side
 nodes_back : (left right rest : List CombNode) (n : CombNode) → reverse (left ++ (right ++ n ∷ [])) ++ rest ≡ n ∷ (reverse right ++ (reverse left ++ rest))

@@ -2,4 +2,3 @@ pub mod LineLaws
 pub mod ShotLaws
 pub mod LeafLaws
 pub mod PushLaws
-pub mod WrittenLaws

@@ -1,11 +1,11 @@
 -- Names with their marks stand on one line, and how long the text of a list of lines is.
-use Rattle.std.proofs.Common.{◌≡◌, ◌≤◌, ◌<◌, ◌+◌, ◌++◌, ◌∙◌, ℕ, suc, ap, take, drop, Some, None, Err, zero, Bool, true, false, cond, List, [], ◌∷◌, All, length, codes, map, refl, sym, subst, arith, true≢false, length-append}
+use Rattle.std.proofs.Common.{◌≡◌, ◌≤◌, ◌<◌, ◌+◌, ◌++◌, ◌∙◌, ℕ, suc, ap, take, drop, Some, None, Err, zero, Bool, true, false, cond, List, [], ◌∷◌, length, codes, map, refl, sym, arith, length-append}
 use Rattle.std.proofs.lemmas.List.{take-append-drop, map-append}
-use Rattle.std.proofs.lemmas.List.Elements.{All-head, All-tail}
 use Rattle.std.specs.List.{slice_get}
-use Rattle.name_core.specs.NameText.{IsName, is_first_byte, is_next_byte}
+use Rattle.name_core.specs.NameText.{IsName}
 use Rattle.object_set.specs.declared.object.Body.{Body}
 use Rattle.object_set.specs.declared.object.Body.TheVariants.{Solid, Comb}
+use Rattle.put_form.proofs.OneLine.{name_lacks}
 use Rattle.transcript.specs.Lines.{Lacks, text_of, ended}
 use Rattle.transcript.proofs.LineLaws.{lacks_append}
 use Rattle.transcript.proofs.TranscriptLaws.{computed}
@@ -13,14 +13,6 @@ use Rattle.report_text.specs.declared.fault.TextFault.{TextFault}
 use Rattle.report_text.specs.declared.fault.TextFault.TheVariants.{Room, Memory}
 use Rattle.report_text.specs.Names.{mark_of}
 use Rattle.report_text.specs.Texts.{IsText}
-
-rest_lacks : (bytes : List ℕ) → All (λ b. is_next_byte b ≡ true) bytes → Lacks 10 bytes
-rest_lacks [] h = tt
-rest_lacks (b ∷ bs) h = (λ e. true≢false (sym (subst (λ x. is_next_byte x ≡ true) e (All-head (λ x. is_next_byte x ≡ true) b bs h))), rest_lacks bs (All-tail (λ x. is_next_byte x ≡ true) b bs h))
-
-pub name_lacks : (bytes : List ℕ) → IsName bytes → Lacks 10 bytes
-name_lacks [] h = absurd (omega (arith, h.some))
-name_lacks (b ∷ bs) h = (λ e. true≢false (sym (subst (λ x. is_first_byte x ≡ true) e h.first)), rest_lacks bs h.rest)
 
 mark_of_comb : (region : Bool) → Lacks 10 (cond region (codes "/R") (codes "/"))
 mark_of_comb true = computed 10 (codes "/R") refl

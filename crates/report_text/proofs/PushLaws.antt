@@ -1,8 +1,7 @@
 -- Lines that are put one behind the other at the end of a body, while there is room.
-use Rattle.std.proofs.Common.{◌≡◌, ◌≤◌, ◌<◌, ◌+◌, ◌++◌, ◌∙◌, ℕ, ap, take, drop, get_or, Ok, Err, Result, All, List, [], ◌∷◌, flat_map, length, sym, append_assoc, append-nil, subst, arith, length-append}
+use Rattle.std.proofs.Common.{◌≡◌, ◌≤◌, ◌<◌, ◌+◌, ◌++◌, ◌∙◌, ℕ, ap, take, drop, get_or, Ok, Err, Result, List, [], ◌∷◌, flat_map, length, sym, append_assoc, append-nil, subst, arith, length-append}
 use Rattle.std.proofs.lemmas.List.{take-append-drop, take_more}
 use Rattle.std.proofs.lemmas.List.Concat.{flat_map-append}
-use Rattle.std.proofs.lemmas.List.Elements.{All-push}
 use Rattle.std.proofs.Math.Seq.{take-length}
 use Rattle.transcript.specs.Lines.{text_of, ended}
 use Rattle.report_text.specs.declared.fault.TextFault.{TextFault}
@@ -67,10 +66,3 @@ is_text left body lines room h = (h.0, omega (arith, h.1))
 pub no_text : (fault : TextFault) (old new lines : List (List ℕ)) (room : ℕ) → IsPushed (Err fault) old new lines room → IsText (Err fault) lines room
 no_text Room old new lines room h = h
 no_text Memory old new lines room h = tt
-
--- every value of a list, one more of those at the front
-pub all_more : {X : Type 0} (P : X → Type 0) (xs : List X) (i : ℕ) (x : X) → i < length xs → x ≡ get_or xs i x → All P (take i xs) → P x → All P (take (i + 1) xs)
-all_more P xs i x lt is h one = subst (All P) (sym (take_more xs i x lt)) (All-push P (take i xs) (get_or xs i x) h (subst P is one))
-
-pub all_done : {X : Type 0} (P : X → Type 0) (xs : List X) (i : ℕ) → i ≡ length xs → All P (take i xs) → All P xs
-all_done P xs i end h = subst (All P) (ap (λ (n : ℕ). take n xs) end ∙ take-length xs) h

@@ -1,13 +1,13 @@
 -- The line of a part of a ray is one line, and what it is made of.
-use Rattle.std.proofs.Common.{◌≡◌, ◌≢◌, ◌<◌, ◌+◌, ◌/◌, ◌%◌, ◌==◌, ◌++◌, ◌∙◌, ℕ, ℤ, pos, negsuc, zero, suc, ap, Bool, true, false, cond, List, [], ◌∷◌, Option, Some, get_or, length, codes, refl, sym, arith, decimal}
-use Rattle.std.specs.Fmt.{digits, digits_onto, digit_glyph, signed_decimal}
+use Rattle.std.proofs.Common.{◌≡◌, ◌≢◌, ◌<◌, ◌+◌, ◌/◌, ◌++◌, ◌∙◌, ℕ, pos, zero, suc, ap, Bool, true, false, cond, List, [], ◌∷◌, Option, Some, get_or, length, codes, refl, sym, arith, decimal}
+use Rattle.std.specs.Fmt.{signed_decimal}
 use Rattle.std.specs.List.{slice_get}
 use Rattle.std.specs.Ordering.{int_eq}
-use Rattle.std.specs.Bool.{nat_lt}
 use Rattle.std.proofs.lemmas.List.Elements.{All-head, All-tail}
 use Rattle.transcript.specs.Lines.{Lacks}
 use Rattle.transcript.proofs.LineLaws.{lacks_append}
 use Rattle.transcript.proofs.TranscriptLaws.{computed}
+pub use Rattle.put_form.proofs.OneLine.{number_lacks, signed_lacks}
 use Rattle.surd_order.specs.Text.{sign_text, position_text}
 use Rattle.surd_order.specs.declared.position.Pos.{Pos}
 use Rattle.surd_order.specs.declared.position.Pos.TheVariants.{Frac, Surd}
@@ -18,25 +18,6 @@ use Rattle.report_text.specs.Shots.{part_line, line_in}
 either_lacks : (b : Bool) (xs ys : List ℕ) → Lacks 10 xs → Lacks 10 ys → Lacks 10 (cond b xs ys)
 either_lacks true xs ys h k = h
 either_lacks false xs ys h k = k
-
--- a number in decimal has digits alone
-glyph_other : (b : Bool) (d : ℕ) → cond b (48 + d) (87 + d) ≢ 10
-glyph_other true d e = omega (arith, e)
-glyph_other false d e = omega (arith, e)
-
-onto_lacks : (k n : ℕ) (acc : List ℕ) → Lacks 10 acc → Lacks 10 (digits_onto k 10 false n acc)
-onto_lacks zero n acc h = h
-onto_lacks (suc k) n acc h =
-    let more : Lacks 10 (digit_glyph false (n % 10) ∷ acc) = (glyph_other (nat_lt (n % 10) 10) (n % 10), h) in
-    either_lacks (n / 10 == 0) _ _ more (onto_lacks k (n / 10) _ more)
-
-pub number_lacks : (n : ℕ) → Lacks 10 (decimal n)
-unfolding digits
-number_lacks n = onto_lacks 64 n [] tt
-
-pub signed_lacks : (z : ℤ) → Lacks 10 (signed_decimal z)
-signed_lacks (pos n) = number_lacks n
-signed_lacks (negsuc n) = (λ e. omega (arith, e), number_lacks (suc n))
 
 sign_lacks : (plus : Bool) → Lacks 10 (sign_text plus)
 sign_lacks true = computed 10 (codes "+") refl

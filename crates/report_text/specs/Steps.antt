@@ -1,15 +1,10 @@
 -- The words of the code: lines that are put at the end of a body, and leaves that are found from the last node to the first.
-use Rattle.std.specs.Prelude.{◌≡◌, ◌<◌, ◌+◌, ℕ, List, [], ◌∷◌, ◌++◌, length, All, Result, Ok, Err}
+use Rattle.std.specs.Prelude.{◌≡◌, ◌<◌, ◌+◌, ℕ, List, [], ◌∷◌, ◌++◌, length, Result, Ok, Err}
 use Rattle.transcript.specs.Lines.{text_of}
 use Rattle.tree_forms.specs.declared.Op.{Op}
 use Rattle.tree_forms.specs.declared.Op.TheVariants as ops
-use Rattle.name_core.specs.NameText.{IsName}
-use Rattle.comb_tree.specs.Nodes.{comb_nodes}
 use Rattle.comb_tree.specs.declared.node.CombNode.{CombNode}
 use Rattle.comb_tree.specs.declared.node.CombNode.TheVariants as nodes
-use Rattle.object_set.specs.declared.kept.KeptAttr.{KeptAttr}
-use Rattle.object_set.specs.declared.object.Body.{Body}
-use Rattle.object_set.specs.declared.object.Body.TheVariants as bodies
 use Rattle.report_text.specs.Listings.{Listed}
 use Rattle.report_text.specs.declared.fault.TextFault.{TextFault}
 use Rattle.report_text.specs.declared.fault.TextFault.TheVariants.{Room, Memory}
@@ -47,17 +42,3 @@ operators_after nodes.Minus operators = ops.Minus ∷ operators
 abbrev pub found_in : List CombNode → List Op → List Listed
 found_in [] operators = []
 found_in (node ∷ rest) operators = found_at node operators ++ found_in rest (operators_after node operators)
-
--- the names of members and of keys are names
-abbrev pub HasName : CombNode → Type 0
-HasName (nodes.Leaf name placement) = IsName name
-HasName nodes.U = Unit {0}
-HasName nodes.N = Unit {0}
-HasName nodes.Minus = Unit {0}
-
-abbrev pub HaveNames : Body → Type 0
-HaveNames (bodies.Solid solid) = Unit {0}
-HaveNames (bodies.Comb attr tree) = All HasName (comb_nodes tree)
-
-abbrev pub HasKey : KeptAttr → Type 0
-HasKey attribute = IsName attribute.name

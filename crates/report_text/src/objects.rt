@@ -1,61 +1,23 @@
 //! The written lines of objects.
-ghost use Rattle.std.specs.Prelude.{◌≡◌, ◌<◌, ◌+◌, ◌^◌, length, All, IfOk};
+ghost use Rattle.std.specs.Prelude.{◌≡◌, ◌<◌, ◌+◌, ◌^◌, length, IfOk};
 ghost use Rattle.transcript.specs.Lines.{Lacks};
 ghost use Rattle.object_set.specs.Objects.{IsKept};
 ghost use Rattle.directory.specs.Walks.{object_of};
 ghost use Rattle.put_form.specs.Written as written;
 ghost use Rattle.put_form.specs.Written.{kept_lines, object_lines};
 ghost use Rattle.report_text.specs.Listings.{lines_of, written_lines};
-ghost use Rattle.report_text.specs.Steps.{IsPushed, HasName, HaveNames, HasKey};
+ghost use Rattle.report_text.specs.Steps.{IsPushed};
 ghost use Rattle.report_text.specs.Texts.{IsText};
 
 use crate::fault::TextFault;
 use crate::lines::push_one;
-use comb_tree::CombNode;
 use directory::Directory;
 use memory_core::Memory;
 use name_core::Name;
-use object_set::{Body as ObjectBody, KeptAttr, Object};
+use object_set::{Body as ObjectBody, KeptAttr, Object, recall_keys, recall_members};
 use put_form::{push_kept_line, push_put_line};
 use std::alloc::Global;
 use transcript::Body;
-
-/// Nothing is done here and in the three functions below. They tell a proof that the names that stand in a line are names,
-/// and so have no line feed.
-fn recall_name(node: &CombNode)
-    ensures { HasName node.now }
-{
-    if let CombNode::Leaf { name, .. } = node {
-        let _bytes = name.bytes();
-    }
-}
-
-/// The same for all nodes.
-fn recall_names(nodes: &[CombNode])
-    ensures { All HasName nodes.now }
-{
-    for node in nodes {
-        recall_name(node);
-    }
-}
-
-/// The same for all members of a body.
-fn recall_members(body: &ObjectBody)
-    ensures { HaveNames body.now }
-{
-    if let ObjectBody::Comb { tree, .. } = body {
-        recall_names(tree.nodes());
-    }
-}
-
-/// The same for the keys of kept attributes.
-fn recall_keys(kept: &[KeptAttr])
-    ensures { All HasKey kept.now }
-{
-    for attribute in kept {
-        let _bytes = attribute.name.bytes();
-    }
-}
 
 fn put_line(alloc: Global, name: &Name, body: &ObjectBody) -> Result<Vec<u8>, Memory>
     ensures value { IfOk result (λ line. line.items ≡ written.put_line name.now body.now) }

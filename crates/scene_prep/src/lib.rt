@@ -17,4 +17,4 @@ mod walk;
 pub use fault::PrepFault;
 pub use laws::region_laws;
 pub use preparing::prepare;
-pub use size::MOST_SIZE;
+pub use size::{MOST_SIZE, limit_laws};

@@ -3,7 +3,8 @@ ghost use Rattle.std.specs.HashMap.{get};
 ghost use Rattle.std.specs.Option.{option_copied};
 ghost use Rattle.name_core.specs.Same.{same_name};
 ghost use Rattle.directory.specs.Walks.{IsSound};
-ghost use Rattle.scene_prep.specs.Sizes.{size_of_name, names_size, told_size};
+ghost use Rattle.scene_prep.specs.Sizes.{size_of_name, names_size, told_size, most_size};
+ghost use Rattle.scene_prep.specs.declared.size.TheConstants.{MOST_SIZE};
 ghost use Rattle.scene_prep.specs.Levels.{IsShallow, StandsWithin, node_size, nodes_size, AreSizes};
 
 use comb_tree::CombNode;
@@ -144,3 +145,9 @@ pub(crate) fn size_of(alloc: Global, directory: &Directory, names: &[Name]) -> R
     }
     Ok(total)
 }
+
+/// The limit is this number, in definitions and in code. This law is what refuses another one.
+pub fn limit_laws()
+    ensures size { most_size ≡ 65536 }
+    ensures size_in_code { MOST_SIZE ≡ 65536 }
+{}

@@ -2,9 +2,7 @@ pub mod TextLines
 pub mod TextSegments
 pub mod TextWords
 pub mod TextCommands
-pub mod TextLacks
 pub mod TextObjects
-pub mod TextAll
 pub mod TextEntries
 pub mod LineNumbers
 pub mod LinePieces

@@ -6,9 +6,8 @@ use Rattle.std.specs.Option.{option_map}
 use Rattle.std.proofs.lemmas.Bool.{lt-leb, le-ltb}
 use Rattle.std.proofs.lemmas.Bool.Decides.{leb_tells}
 use Rattle.std.proofs.lemmas.List.Elements.{All-head, All-tail}
-use Rattle.name_core.specs.NameText.{IsName, is_first_byte, is_next_byte, read_name}
+use Rattle.name_core.specs.NameText.{IsName, is_next_byte, read_name}
 use Rattle.name_core.proofs.NameLaws.{accepted}
-use Rattle.transcript.specs.Lines.{Lacks}
 use Rattle.tcl_words.specs.Bytes.{is_atom, is_blank}
 use Rattle.tcl_words.specs.Faults.{is_bad_at}
 use Rattle.tcl_words.specs.TopWords.{top_words, atom_of}
@@ -72,14 +71,6 @@ name_atom [] h = absurd (omega (arith, h.some))
 name_atom (b ∷ bs) h =
     let here : is_next_byte b ≡ true = ap (λ (t : Bool). t || b == 46 || b == 45) h.first in
     (omega arith, (byte_atom b here, byte_good b here, rest_atoms bs h.rest))
-
-rest_lacks : (bytes : List ℕ) → All (λ b. is_next_byte b ≡ true) bytes → Lacks 10 bytes
-rest_lacks [] h = tt
-rest_lacks (b ∷ bs) h = (λ e. true≢false (sym (subst (λ x. is_next_byte x ≡ true) e (All-head (λ x. is_next_byte x ≡ true) b bs h))), rest_lacks bs (All-tail (λ x. is_next_byte x ≡ true) b bs h))
-
-pub name_lacks : (bytes : List ℕ) → IsName bytes → Lacks 10 bytes
-name_lacks [] h = absurd (omega (arith, h.some))
-name_lacks (b ∷ bs) h = (λ e. true≢false (sym (subst (λ x. is_first_byte x ≡ true) e h.first)), rest_lacks bs h.rest)
 
 -- ---- the title
 

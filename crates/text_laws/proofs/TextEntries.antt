@@ -2,14 +2,15 @@
 use Rattle.std.proofs.Common.{◌≡◌, ◌∙◌, All, List, [], ◌∷◌, Ok, sym, ap}
 use Rattle.std.specs.List.{AllByRecursion}
 use Rattle.std.proofs.lemmas.List.Elements.{All-head, All-tail}
+use Rattle.object_set.specs.Named.{HasKey, IsNamedEntry}
 use Rattle.object_set.specs.TextValues.{IsTextValue}
 use Rattle.object_set.specs.declared.kept.KeptAttr.{KeptAttr}
 use Rattle.directory.specs.Listing.{Listing}
 use Rattle.directory.specs.Walks.{Entries, IsSound}
 use Rattle.asc_form.specs.Reading.{directory_of}
-use Rattle.text_laws.specs.TextAgain.{HasKey, IsNamedEntry, IsEntryAgain, HaveLinesAgain, IsTextAgain, AreToldApart}
+use Rattle.text_laws.specs.TextAgain.{IsEntryAgain, HaveLinesAgain, IsTextAgain, AreToldApart}
 use Rattle.text_laws.proofs.TextCommands.{IsAttribute}
-use Rattle.text_laws.proofs.TextLacks.{put_lacks, kept_lacks}
+use Rattle.put_form.proofs.OneLine.{put_lacks, kept_lacks}
 use Rattle.text_laws.proofs.TextObjects.{IsReadEntry, text_again}
 
 attributes_of : (kept : List KeptAttr) → All HasKey kept → All (λ (k : KeptAttr). IsTextValue k.value) kept → AllByRecursion IsAttribute kept

@@ -44,7 +44,7 @@ use Rattle.asc_form.specs.Written.{title_line, objects_lines, written}
 use Rattle.asc_form.specs.Commands.{Piece}
 use Rattle.asc_form.specs.declared.fault.AscFault.{AscFault}
 use Rattle.text_laws.specs.PutAgain.{IsPutAgain}
-use Rattle.text_laws.proofs.TextAll.{by_each}
+use Rattle.object_set.proofs.Each.{by_each}
 use Rattle.text_laws.proofs.TextCommands.{IsAttribute, title_is_read, title_made_again, kept_is_read, kept_made_again}
 use Rattle.text_laws.proofs.TextLines.{IsWholeLine, numbered, lines_are_pieces}
 

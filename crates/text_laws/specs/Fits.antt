@@ -4,8 +4,6 @@ use Rattle.lattice_core.specs.declared.limit.TheConstants.{COORD}
 use Rattle.lattice_core.specs.Limits.{IsWithin}
 use Rattle.name_core.specs.NameText.{IsName}
 use Rattle.tree_forms.specs.Trees.{Tree, Leaf, Join, leaves}
-use Rattle.comb_tree.specs.declared.node.CombNode.{CombNode}
-use Rattle.comb_tree.specs.declared.node.CombNode.TheVariants as nodes
 use Rattle.comb_tree.specs.Nodes.{Comb, Member}
 use Rattle.region_attr.specs.declared.attr.Rgb.{Rgb}
 
@@ -16,13 +14,6 @@ IsColour c = (c.r ≤ 255) × (c.g ≤ 255) × (c.b ≤ 255)
 abbrev pub HasColour : Option Rgb → Type 0
 HasColour None = Unit {0}
 HasColour (Some c) = IsColour c
-
--- the name of a leaf is a name
-abbrev pub HasName : CombNode → Type 0
-HasName (nodes.Leaf name placement) = IsName name
-HasName nodes.U = Unit {0}
-HasName nodes.N = Unit {0}
-HasName nodes.Minus = Unit {0}
 
 -- the shift of a leaf is near
 abbrev pub IsNear : Member → Type 0

@@ -5,12 +5,12 @@ ghost use Rattle.solid_set.specs.declared.solid.Solid.TheVariants as solids;
 ghost use Rattle.comb_tree.specs.Nodes.{members};
 ghost use Rattle.object_set.specs.declared.object.Body.TheVariants as bodies;
 ghost use Rattle.object_set.specs.Objects.{IsComb};
-ghost use Rattle.text_laws.specs.Fits.{IsColour, HasColour, HasName, IsNear, IsFitTree};
+ghost use Rattle.text_laws.specs.Fits.{IsColour, HasColour, IsNear, IsFitTree};
 ghost use Rattle.text_laws.specs.PutAgain.{IsPutAgain};
 
-use comb_tree::{CombNode, CombTree};
+use comb_tree::CombTree;
 use name_core::Name;
-use object_set::{Body, Object};
+use object_set::{Body, Object, recall_names};
 use prim_arb8::Arb8;
 use prim_half::Half;
 use prim_sphere::Sphere;
@@ -51,24 +51,6 @@ fn solid_line_reads_again(name: &Name, solid: &Solid)
         Solid::Sphere(sphere) => sphere_line_reads_again(name, sphere),
         Solid::Half(half) => half_line_reads_again(name, half),
         Solid::Arb8(arb8) => arb8_line_reads_again(name, arb8),
-    }
-}
-
-/// The name of a leaf is a name.
-fn recall_name(node: &CombNode)
-    ensures { HasName node.now }
-{
-    if let CombNode::Leaf { name, .. } = node {
-        let _bytes = name.bytes();
-    }
-}
-
-/// The same for all nodes.
-fn recall_names(nodes: &[CombNode])
-    ensures { All HasName nodes.now }
-{
-    for node in nodes {
-        recall_name(node);
     }
 }
 

@@ -1,7 +1,7 @@
 use Rattle.std.proofs.Common.{◌∙◌, ◌++◌, ap, subst, sym}
 use Rattle.transcript.specs.Lines.{Lacks}
 use Rattle.put_form.specs.Written.{kept_line}
-use Rattle.report_text.proofs.WrittenLaws.{kept_lacks}
+use Rattle.put_form.proofs.OneLine.{kept_lacks}
 use Rattle.report_text.proofs.objects.kept_line.Goals as goal
 
 pub returns-clause-one_line : goal.returns-clause-one_line

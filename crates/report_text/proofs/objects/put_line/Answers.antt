@@ -1,7 +1,7 @@
 use Rattle.std.proofs.Common.{◌∙◌, ◌++◌, ap, subst, sym}
 use Rattle.transcript.specs.Lines.{Lacks}
 use Rattle.put_form.specs.Written.{put_line}
-use Rattle.report_text.proofs.WrittenLaws.{put_lacks}
+use Rattle.put_form.proofs.OneLine.{put_lacks}
 use Rattle.report_text.proofs.objects.put_line.Goals as goal
 
 pub returns-clause-one_line : goal.returns-clause-one_line

@@ -1,5 +1,5 @@
 use Rattle.std.proofs.Common.{All, subst}
-use Rattle.text_laws.specs.Fits.{HasName}
+use Rattle.object_set.specs.Named.{HasName}
 use Rattle.text_laws.proofs.LineFits.{fit_tree}
 use Rattle.text_laws.proofs.line.recall_tree.Goals as goal
 

@@ -2,7 +2,7 @@ use Rattle.std.proofs.Common.{◌≡◌, Some, None, arith, rules}
 use Rattle.std.specs.List.{slice_get}
 use Rattle.asc_form.proofs.WritingLaws.{there_is}
 use Rattle.text_laws.specs.TextAgain.{IsEntryAgain}
-use Rattle.text_laws.proofs.TextAll.{all_found, all_done}
+use Rattle.object_set.proofs.Each.{all_found, all_done}
 use Rattle.text_laws.proofs.text.recall_lines.Goals as goal
 use Rattle.text_laws.proofs.text.recall_lines.Goals.{in-Some, in_default}
 

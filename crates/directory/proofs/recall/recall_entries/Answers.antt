@@ -1,10 +1,11 @@
-use Rattle.std.proofs.Common.{◌≡◌, Some, None, arith, rules}
+use Rattle.std.proofs.Common.{◌≡◌, ◌∙◌, Some, None, sym, arith, rules}
 use Rattle.std.specs.List.{slice_get}
-use Rattle.asc_form.proofs.WritingLaws.{there_is}
-use Rattle.text_laws.specs.TextAgain.{IsNamedEntry}
-use Rattle.text_laws.proofs.TextAll.{all_found, all_done}
-use Rattle.text_laws.proofs.text.recall_entries.Goals as goal
-use Rattle.text_laws.proofs.text.recall_entries.Goals.{in-Some, in_default}
+use Rattle.std.proofs.lemmas.Option.{none-some}
+use Rattle.object_set.specs.Named.{IsNamedEntry}
+use Rattle.object_set.proofs.Each.{all_found, all_done}
+use Rattle.directory.proofs.FindLemmas.{some_at}
+use Rattle.directory.proofs.recall.recall_entries.Goals as goal
+use Rattle.directory.proofs.recall.recall_entries.Goals.{in-Some, in_default}
 
 pub loop-place-preserved : goal.loop-place-preserved
 loop-place-preserved c =
@@ -14,7 +15,8 @@ loop-place-preserved c =
           all_found IsNamedEntry c.args.directory.now.objects c.loop-place.place (w.in-Some.name.now, w.in-Some.object.now) there c.loop-place.invariant w.recall_entry.ensures
       | in_default w ↦
           let gone : slice_get c.args.directory.now.objects c.loop-place.place ≡ None = search rules in
-          absurd (there_is c.args.directory.now.objects c.loop-place.place (omega (arith, c.loop-place-test.true, c.len-place-end.ensures.value)) gone)
+          let one = some_at c.args.directory.now.objects c.loop-place.place (omega (arith, c.loop-place-test.true, c.len-place-end.ensures.value)) in
+          absurd (none-some (one.0, one.1) (sym gone ∙ one.2))
     ]
 
 pub returns : goal.returns

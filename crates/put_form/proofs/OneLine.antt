@@ -1,10 +1,11 @@
--- The written lines of an object have no line feed.
-use Rattle.std.proofs.Common.{◌≢◌, ◌+◌, ◌++◌, ℕ, ℤ, Bool, true, false, ◌&&◌, ◌==◌, List, [], ◌∷◌, Some, None, Option, All, codes, decimal, flat_map, refl, arith, if◌then◌else◌}
-use Rattle.std.specs.Fmt.{signed_decimal}
+-- What is written of an object has no line feed.
+use Rattle.std.proofs.Common.{◌≢◌, ◌+◌, ◌/◌, ◌%◌, ◌++◌, ℕ, ℤ, pos, negsuc, zero, suc, cond, Bool, true, false, ◌&&◌, ◌==◌, List, [], ◌∷◌, Some, None, Option, All, codes, decimal, flat_map, refl, sym, subst, arith, true≢false, ◌≡◌, if◌then◌else◌}
+use Rattle.std.specs.Fmt.{digits, digits_onto, digit_glyph, signed_decimal}
+use Rattle.std.specs.Bool.{nat_lt}
 use Rattle.std.specs.List.{AllByRecursion}
 use Rattle.std.proofs.lemmas.List.Elements.{All-head, All-tail}
 use Rattle.name_core.specs.declared.name.Name.{Name}
-use Rattle.name_core.specs.NameText.{IsName}
+use Rattle.name_core.specs.NameText.{IsName, is_first_byte, is_next_byte}
 use Rattle.lattice_core.specs.declared.vector.V3.{V3}
 use Rattle.lattice_core.specs.declared.placement.Placement.{Placement}
 use Rattle.lattice_core.specs.Placements.{matrix_of}
@@ -16,18 +17,49 @@ use Rattle.region_attr.specs.declared.attr.Attr.{Attr}
 use Rattle.region_attr.specs.declared.attr.Rgb.{Rgb}
 use Rattle.solid_set.specs.declared.solid.Solid.{Solid}
 use Rattle.solid_set.specs.declared.solid.Solid.TheVariants as solids
-use Rattle.object_set.specs.Objects.{IsKept}
+use Rattle.object_set.specs.Named.{HasName, HaveNames, HasKey, IsNamedEntry}
+use Rattle.object_set.specs.Objects.{Parts, IsKept}
 use Rattle.object_set.specs.TextValues.{IsTextValue}
 use Rattle.object_set.specs.declared.kept.KeptAttr.{KeptAttr}
 use Rattle.object_set.specs.declared.object.Body.{Body}
 use Rattle.object_set.specs.declared.object.Body.TheVariants as bodies
+use Rattle.object_set.proofs.Each.{by_each, of_first, of_rest}
 use Rattle.transcript.specs.Lines.{Lacks}
 use Rattle.transcript.proofs.LineLaws.{lacks_append}
 use Rattle.transcript.proofs.TranscriptLaws.{computed}
-use Rattle.put_form.specs.Written.{numbers_text, vector_text, vertices_text, solid_text, truth_text, colour_text, attr_text, is_zero, matrix_text, operator_text, node_text, tree_text, body_text, put_line, kept_text, kept_line}
-use Rattle.report_text.specs.Steps.{HasName, HaveNames, HasKey}
-use Rattle.report_text.proofs.LineLaws.{name_lacks}
-use Rattle.report_text.proofs.ShotLaws.{number_lacks, signed_lacks}
+use Rattle.put_form.specs.Written.{numbers_text, vector_text, vertices_text, solid_text, truth_text, colour_text, attr_text, is_zero, matrix_text, operator_text, node_text, tree_text, body_text, put_line, kept_text, kept_line, kept_lines, object_lines}
+
+-- a name has none
+rest_lacks : (bytes : List ℕ) → All (λ b. is_next_byte b ≡ true) bytes → Lacks 10 bytes
+rest_lacks [] h = tt
+rest_lacks (b ∷ bs) h = (λ e. true≢false (sym (subst (λ x. is_next_byte x ≡ true) e (All-head (λ x. is_next_byte x ≡ true) b bs h))), rest_lacks bs (All-tail (λ x. is_next_byte x ≡ true) b bs h))
+
+pub name_lacks : (bytes : List ℕ) → IsName bytes → Lacks 10 bytes
+name_lacks [] h = absurd (omega (arith, h.some))
+name_lacks (b ∷ bs) h = (λ e. true≢false (sym (subst (λ x. is_first_byte x ≡ true) e h.first)), rest_lacks bs h.rest)
+
+chosen_lacks : (b : Bool) (xs ys : List ℕ) → Lacks 10 xs → Lacks 10 ys → Lacks 10 (cond b xs ys)
+chosen_lacks true xs ys h k = h
+chosen_lacks false xs ys h k = k
+
+-- a number in decimal has digits alone
+glyph_other : (b : Bool) (d : ℕ) → cond b (48 + d) (87 + d) ≢ 10
+glyph_other true d e = omega (arith, e)
+glyph_other false d e = omega (arith, e)
+
+onto_lacks : (k n : ℕ) (acc : List ℕ) → Lacks 10 acc → Lacks 10 (digits_onto k 10 false n acc)
+onto_lacks zero n acc h = h
+onto_lacks (suc k) n acc h =
+    let more : Lacks 10 (digit_glyph false (n % 10) ∷ acc) = (glyph_other (nat_lt (n % 10) 10) (n % 10), h) in
+    chosen_lacks (n / 10 == 0) _ _ more (onto_lacks k (n / 10) _ more)
+
+pub number_lacks : (n : ℕ) → Lacks 10 (decimal n)
+unfolding digits
+number_lacks n = onto_lacks 64 n [] tt
+
+pub signed_lacks : (z : ℤ) → Lacks 10 (signed_decimal z)
+signed_lacks (pos n) = number_lacks n
+signed_lacks (negsuc n) = (λ e. omega (arith, e), number_lacks (suc n))
 
 -- a text that is known, and one behind it
 begun : (known rest : List ℕ) → Lacks 10 known → Lacks 10 rest → Lacks 10 (known ++ rest)
@@ -88,19 +120,6 @@ operator_lacks U = computed 10 (codes "u") refl
 operator_lacks N = computed 10 (codes "n") refl
 operator_lacks Minus = computed 10 (codes "-") refl
 
--- of each of a list, one after another
-by_each : {X : Type 0} (P : X → Type 0) (xs : List X) → All P xs → AllByRecursion P xs
-by_each P [] h = tt
-by_each P (x ∷ xs) h = (All-head P x xs h, by_each P xs (All-tail P x xs h))
-
-of_first : {X : Type 0} (P : X → Type 0) (xs ys : List X) → AllByRecursion P (xs ++ ys) → AllByRecursion P xs
-of_first P [] ys h = tt
-of_first P (x ∷ xs) ys h = (h.0, of_first P xs ys h.1)
-
-of_rest : {X : Type 0} (P : X → Type 0) (xs ys : List X) → AllByRecursion P (xs ++ ys) → AllByRecursion P ys
-of_rest P [] ys h = h
-of_rest P (x ∷ xs) ys h = of_rest P xs ys h.1
-
 node_lacks : (t : Tree Member) → AllByRecursion HasName (postfix leaf apply t) → Lacks 10 (node_text t)
 node_lacks (Leaf m) h = begun (codes "l ") _ (computed 10 (codes "l ") refl) (begun m.name _ (name_lacks m.name h.0) (matrix_lacks m.placement))
 node_lacks (Join op l r) h =
@@ -134,3 +153,11 @@ pub kept_lacks : (name : Name) (kept : List KeptAttr) → IsName name → All Ha
 kept_lacks name kept h keys lawful =
     begun (codes "attr set ") _ (computed 10 (codes "attr set ") refl) (begun name _ (name_lacks name h)
     (attributes_lack kept (by_each HasKey kept keys) (by_each (λ (k : KeptAttr). IsTextValue k.value) kept lawful.texts)))
+
+kept_lines_lack : (name : Name) (kept : List KeptAttr) → IsName name → All HasKey kept → IsKept kept → AllByRecursion (Lacks 10) (kept_lines name kept)
+kept_lines_lack name [] h keys lawful = tt
+kept_lines_lack name (k ∷ ks) h keys lawful = (kept_lacks name (k ∷ ks) h keys lawful, tt)
+
+-- no line of an object has one
+pub object_lines_lack : (name : Name) (object : Parts) → IsNamedEntry (name, object) → AllByRecursion (Lacks 10) (object_lines name object)
+object_lines_lack name object h = (put_lacks name object.body h.name h.members, kept_lines_lack name object.kept h.name h.keys h.kept)

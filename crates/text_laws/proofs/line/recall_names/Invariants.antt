@@ -1,6 +1,0 @@
-use Rattle.std.proofs.Common.{All, take}
-use Rattle.text_laws.specs.Fits.{HasName}
-use Rattle.text_laws.proofs.line.recall_names.Given as goal
-
-abbrev pub invariant-loop-node : goal.invariant-loop-node
-invariant-loop-node l = All HasName (take l.node-index l.nodes)

@@ -6,6 +6,7 @@ pub mod LawProofs
 pub mod Ordered
 pub mod Parts
 pub mod FirstRuns
+pub mod Placing
 pub mod Covering
 pub mod Trees
 pub mod Hitting

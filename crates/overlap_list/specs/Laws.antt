@@ -1,9 +1,12 @@
 -- Laws of winners, of the partitions that they win, of their hits, and of overlaps.
 use Rattle.std.specs.Prelude.{◌≡◌, ◌≢◌, ◌↔◌, ◌⊎◌, ◌<◌, ◌≤◌, ◌+◌, ℕ, List, true, false, IsSome, IfSome, MatchOption, All, AllPairs, Any, Contains, length, slice_index_or}
+use Rattle.surd_order.specs.declared.position.Pos.{Pos}
 use Rattle.surd_order.specs.Order.{Precedes, SamePlace}
+use Rattle.surd_order.specs.Range.{IsInRange}
+use Rattle.surd_order.specs.Spelling.{IsSpelled}
 use Rattle.tree_forms.specs.Trees.{leaves}
 use Rattle.bool_weave.specs.declared.woven.Woven.{Woven}
-use Rattle.bool_weave.specs.Cuts.{IsWoven}
+use Rattle.bool_weave.specs.Cuts.{ray_start, ray_end, IsWoven}
 use Rattle.bool_weave.specs.Masks.{Mask}
 use Rattle.bool_weave.specs.Claims.{intervals_of, claims_of}
 use Rattle.overlap_list.specs.declared.region.RegionClaims.{RegionClaims}
@@ -53,6 +56,20 @@ pub record AreInOrder (partitions : List Partition) : Type 0 where
 -- so partitions are in order and disjoint
 abbrev pub PartitionsAreInOrder : Type 0
 PartitionsAreInOrder = (woven : List Woven) (regions : List RegionClaims) → IsWoven woven → AreInOrder (partitions_of woven regions)
+
+-- from a place to a later one, both on the ray, in range and in their one spelling
+pub record IsPartOfRay (start end : Pos) : Type 0 where
+  pub ordered : Precedes start end
+  pub begun : ¬ (Precedes start ray_start)
+  pub not_ended : ¬ (Precedes ray_end end)
+  pub start_range : IsInRange start
+  pub start_spelled : IsSpelled start
+  pub end_range : IsInRange end
+  pub end_spelled : IsSpelled end
+
+-- each partition is such a part
+abbrev pub PartitionsAreOnTheRay : Type 0
+PartitionsAreOnTheRay = (woven : List Woven) (regions : List RegionClaims) → IsWoven woven → All (λ p. IsPartOfRay p.start p.end) (partitions_of woven regions)
 
 -- a partition is made of neighbouring intervals, and its region wins each of them
 pub record IsWonPart (woven : List Woven) (regions : List RegionClaims) (p : Partition) : Type 0 where
@@ -146,3 +163,8 @@ pub record IsFirstOverlap (woven : List Woven) (regions : List RegionClaims) (o 
 abbrev pub OverlapsAreFirst : Type 0
 OverlapsAreFirst = (woven : List Woven) (regions : List RegionClaims) → All (λ r. length r.claims ≡ length (intervals_of woven)) regions
     → (o : OverlapRun) → Contains (overlaps_of woven regions) o ↔ IsFirstOverlap woven regions o
+
+-- and each lies on the ray
+abbrev pub OverlapsAreOnTheRay : Type 0
+OverlapsAreOnTheRay = (woven : List Woven) (regions : List RegionClaims) → IsWoven woven → All (λ r. length r.claims ≡ length (intervals_of woven)) regions
+    → All (λ o. IsPartOfRay o.start o.end) (overlaps_of woven regions)

@@ -1,10 +1,11 @@
-ghost use Rattle.overlap_list.specs.Laws.{WinnersAreRight, RunsAreMaximal, PartitionsAreInOrder, PartitionsAreWon, ClaimsArePartitioned, HitsAreThere, OverlapsAreInOrder, OverlapsAreFirst};
+ghost use Rattle.overlap_list.specs.Laws.{WinnersAreRight, RunsAreMaximal, PartitionsAreInOrder, PartitionsAreOnTheRay, PartitionsAreWon, ClaimsArePartitioned, HitsAreThere, OverlapsAreInOrder, OverlapsAreFirst, OverlapsAreOnTheRay};
 
 /// Laws of winners, of partitions and of their hits. The function does nothing: its contract is the laws.
 pub fn partition_laws()
     ensures winners { WinnersAreRight }
     ensures runs { RunsAreMaximal }
     ensures order { PartitionsAreInOrder }
+    ensures places { PartitionsAreOnTheRay }
     ensures won { PartitionsAreWon }
     ensures all { ClaimsArePartitioned }
     ensures hits { HitsAreThere }
@@ -14,4 +15,5 @@ pub fn partition_laws()
 pub fn overlap_laws()
     ensures order { OverlapsAreInOrder }
     ensures first { OverlapsAreFirst }
+    ensures places { OverlapsAreOnTheRay }
 {}

@@ -136,7 +136,7 @@ marked_short [] n = omega arith
 marked_short (true ∷ ms) n = omega (arith, marked_short ms (n + 1))
 marked_short (false ∷ ms) n = omega (arith, marked_short ms (n + 1))
 
-claims_length : (woven : List Woven) (first : ℕ) (rs : List Region) → length (claims_from woven first rs) ≡ length rs
+pub claims_length : (woven : List Woven) (first : ℕ) (rs : List Region) → length (claims_from woven first rs) ≡ length rs
 claims_length woven first [] = refl
 claims_length woven first (r ∷ rs) = ap (λ k. suc k) (claims_length woven (first + length r.body.instances) rs)
 

@@ -9,3 +9,5 @@ pub mod Weaving
 pub mod Claiming
 pub mod PickingOverlaps
 pub mod Shooting
+pub mod ResultLaws
+pub mod Placing

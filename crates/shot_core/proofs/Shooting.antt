@@ -122,6 +122,15 @@ module _ (rs : List Region) (ray : Ray) (woven : List Woven) (numbers : List ℕ
   lit_when_none none =
       ap (map (λ p. lit_by rs ray (renumbered numbers p))) (sym (no_partitions woven)) ∙ ap (λ l. map (λ p. lit_by rs ray (renumbered numbers p)) (partitions_of woven l)) (sym none) ∙ lit_picked
 
+  runs_when_none : regions ≡ [] → [] ≡ overlaps_on rs ray
+  runs_when_none none = ap (λ l. map (renumbered_run numbers) (overlaps_of woven l)) (sym none) ∙ overlaps_picked
+
+-- nothing overlaps where nothing is woven
+pub runs_none : (rs : List Region) (ray : Ray) (woven : List Woven) → woven ≡ woven_of rs ray → HaveInstances rs → woven ≡ [] → [] ≡ overlaps_on rs ray
+runs_none rs ray woven woven_is leaves none =
+    runs_when_none rs ray woven (hit_from ray 0 rs) (map (numbered_claims woven rs) (hit_from ray 0 rs)) woven_is refl refl leaves
+    (ap (map (numbered_claims woven rs)) (nothing_hit ray rs (sym woven_is ∙ none)))
+
 -- nothing is lit where nothing is woven
 pub lit_none : (rs : List Region) (ray : Ray) (woven : List Woven) → woven ≡ woven_of rs ray → HaveInstances rs → woven ≡ [] → [] ≡ lit_of rs ray
 lit_none rs ray woven woven_is leaves none =

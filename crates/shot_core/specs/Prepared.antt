@@ -10,7 +10,7 @@ use Rattle.solid_set.specs.declared.placed.Placed.{Placed}
 use Rattle.solid_set.specs.declared.surface.Surface.{Surface}
 use Rattle.solid_set.specs.contracts.surface.Surface as surfaces
 use Rattle.bool_weave.specs.Masks.{Mask, mask_code}
-use Rattle.shot_core.specs.Regions.{Instance, RegionBody, Region, HasLeavesBelow, HaveInstances, IsScene, firsts_from}
+use Rattle.shot_core.specs.Regions.{Instance, RegionBody, Region, HasLeavesBelow, HaveInstances, HavePlacedSolids, IsScene, firsts_from}
 use Rattle.shot_core.specs.TreeBoxes.{tree_box}
 
 abbrev pub instance_of : Placed → Instance
@@ -39,8 +39,9 @@ region_code =
     code_by (ℕ × (List ℕ × RegionBody)) (coded× coded_ℕ (coded× (coded_list coded_ℕ) body_code)) (λ r. (r.place, (r.path, r.body)))
     (λ p. record { place = p.0; path = p.1.0; body = p.1.1 }) (λ _. refl)
 
--- the scene is sound, and its regions' first instances are numbered
+-- the scene is sound, its instances are solids that were placed, and its regions' first instances are numbered
 pub record IsNumbered (regions : List Region) (firsts : List ℕ) : Type 0 where
   pub sound : IsScene regions
   pub leaves : HaveInstances regions
+  pub placed : HavePlacedSolids regions
   pub numbers : firsts ≡ firsts_from 0 regions

@@ -5,6 +5,7 @@ use Rattle.region_attr.specs.declared.attr.Rgb.{Rgb}
 use Rattle.tree_forms.specs.Trees.{leaves}
 use Rattle.bool_weave.specs.Masks.{Mask}
 use Rattle.solid_set.specs.declared.surface.Surface.{Surface}
+use Rattle.solid_set.specs.Surfaces.{IsMade}
 use Rattle.shot_core.specs.declared.limit.TheConstants.{MOST_LEAVES}
 
 -- an instance: a solid where it stands in the world, by its surface and its box
@@ -58,6 +59,14 @@ HasLeavesBelow count tree = All (λ leaf. IfSome leaf (λ i. i < count)) (leaves
 -- the leaves of each region's tree stand for its instances
 abbrev pub HaveInstances : List Region → Type 0
 HaveInstances regions = All (λ r. HasLeavesBelow (length r.body.instances) r.body.tree) regions
+
+-- an instance is what some lawful solid is where a placement within the limits puts it
+abbrev pub IsPlacedSolid : Instance → Type 0
+IsPlacedSolid instance = ∥ IsMade instance.surface instance.bounds ∥₁
+
+-- the instances of each region are such
+abbrev pub HavePlacedSolids : List Region → Type 0
+HavePlacedSolids regions = All (λ r. All IsPlacedSolid r.body.instances) regions
 
 -- the places of regions rise from at least 1, and their bodies are not too large
 pub record IsScene (regions : List Region) : Type 0 where

@@ -63,9 +63,9 @@ fn leaf_count(nodes: &[MaskNode]) -> u32
 }
 
 impl PrepRegion {
-    ghost use Rattle.std.specs.Prelude.{◌≡◌, ◌<◌, ◌^◌, IfOk, length, map, vec_len};
+    ghost use Rattle.std.specs.Prelude.{◌≡◌, ◌<◌, ◌^◌, IfOk, All, length, map, vec_len};
     ghost use Rattle.tree_forms.specs.Trees.{leaves};
-    ghost use Rattle.shot_core.specs.Regions.{size_of, HasLeavesBelow};
+    ghost use Rattle.shot_core.specs.Regions.{size_of, HasLeavesBelow, IsPlacedSolid};
     ghost use Rattle.shot_core.specs.Prepared.{instance_of, boxes_of};
     ghost use Rattle.shot_core.specs.TreeBoxes.{tree_box};
 
@@ -127,6 +127,7 @@ impl PrepRegion {
     pub fn solids(&self) -> &[Placed]
         ensures value { map instance_of result.now ≡ self.now.instances }
         ensures leaves { HasLeavesBelow (length self.now.instances) self.now.tree }
+        ensures placed { All IsPlacedSolid self.now.instances }
     {
         &self.solids
     }

@@ -31,7 +31,7 @@ impl Model for Scene {
 ghost use Rattle.std.specs.Prelude.{◌≡◌, ◌≤◌, true, false, nat_le, length, IfOk};
 ghost use Rattle.shot_core.specs.declared.limit.TheConstants.{MOST_LEAVES};
 ghost use Rattle.std.specs.List.Sorted.{IsPartitionPoint};
-ghost use Rattle.shot_core.specs.Regions.{firsts_from, instances_of, HaveInstances};
+ghost use Rattle.shot_core.specs.Regions.{firsts_from, instances_of, HaveInstances, HavePlacedSolids};
 ghost use Rattle.shot_core.specs.Steps.{NeverFalls};
 
 /// The number of each region's first instance.
@@ -39,6 +39,7 @@ fn firsts_of(alloc: Global, regions: &[SceneRegion]) -> Result<Vec<u32>, Memory>
     requires { length (instances_of regions.now) ≤ MOST_LEAVES }
     ensures firsts { IfOk result (λ v. v.items ≡ firsts_from 0 regions.now) }
     ensures leaves { IfOk result (λ _. HaveInstances regions.now) }
+    ensures placed { IfOk result (λ _. HavePlacedSolids regions.now) }
 {
     let mut firsts = Vec::new(alloc);
     let mut first = 0;
@@ -61,7 +62,7 @@ fn count_up_to(firsts: &[u32], number: u32) -> usize
 impl Scene {
     ghost use Rattle.std.specs.Prelude.{◌≡◌, ◌<◌, ◌≤◌, ◌^◌, IfOk, length, slice_get, slice_index_or};
     ghost use Rattle.std.specs.Option.{option_map, option_copied};
-    ghost use Rattle.shot_core.specs.Regions.{IsScene, HaveInstances, instances_of, firsts_from};
+    ghost use Rattle.shot_core.specs.Regions.{IsScene, HaveInstances, HavePlacedSolids, instances_of, firsts_from};
     ghost use Rattle.shot_core.specs.Prepared.{instance_of};
 
     /// The scene of regions whose places rise from at least 1, and whose bodies together have a size of at most
@@ -79,6 +80,7 @@ impl Scene {
         ensures value { result.now ≡ self.now }
         ensures sound { IsScene self.now }
         ensures leaves { HaveInstances self.now }
+        ensures placed { HavePlacedSolids self.now }
     {
         &self.regions
     }

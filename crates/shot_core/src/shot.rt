@@ -2,9 +2,12 @@ ghost use Rattle.std.specs.Prelude.{◌≡◌, ◌<◌, ◌≤◌, IfOk, IfErr, 
 ghost use Rattle.overlap_list.specs.declared.overlap.TheConstants.{MOST_PAIRS};
 ghost use Rattle.lattice_core.specs.declared.limit.TheConstants.{WORLD};
 ghost use Rattle.lattice_core.specs.Limits.{IsWithin};
+ghost use Rattle.bool_weave.specs.Cuts.{IsWoven};
 ghost use Rattle.overlap_list.specs.Overlaps.{IsTooMany};
+ghost use Rattle.overlap_list.specs.Laws.{AreInOrder, IsPartOfRay, IsWonPart, HasHit, AreByPlace};
 ghost use Rattle.shot_core.specs.MetBoxes.{met_count};
-ghost use Rattle.shot_core.specs.Shots.{level_of_hit, lit_by, lit_of, overlaps_on};
+ghost use Rattle.shot_core.specs.Shots.{woven_of, claims_on, level_of_hit, lit_by, lit_of, overlaps_on};
+ghost use Rattle.shot_core.specs.Laws.{parts_of, IsHitInScene, HoldsAllClaims, AreFirstOverlaps};
 ghost use Rattle.shot_core.specs.Steps.{numbered_claims, HasRisen, IsHitOn, renumbered, renumbered_run};
 
 use crate::meet::weave_scene;
@@ -129,7 +132,14 @@ pub fn shoot<L: Ledger>(
 ) -> Result<Vec<Lit>, Memory>
     requires { IsWithin WORLD ray.now.origin }
     ensures lit { IfOk result (λ v. v.items ≡ lit_of scene.now ray.now) }
+    ensures segments { IfOk result (λ _. IsWoven (woven_of scene.now ray.now)) }
+    ensures order { IfOk result (λ v. AreInOrder (parts_of v.items)) }
+    ensures places { IfOk result (λ v. All (λ l. IsPartOfRay l.start l.end) v.items) }
     ensures regions { IfOk result (λ v. All (λ l. l.region < length scene.now) v.items) }
+    ensures won { IfOk result (λ v. All (IsWonPart (woven_of scene.now ray.now) (claims_on scene.now ray.now)) (parts_of v.items)) }
+    ensures all { IfOk result (λ v. HoldsAllClaims scene.now ray.now v.items) }
+    ensures hits { IfOk result (λ v. All (HasHit (woven_of scene.now ray.now) (claims_on scene.now ray.now)) (parts_of v.items)) }
+    ensures real { IfOk result (λ v. All (IsHitInScene scene.now ray.now) v.items) }
     ensures steps { HasRisen (met_count scene.now ray.now) steps.old steps.new }
 {
     let mut weave = Weave::new(alloc)?;
@@ -173,6 +183,10 @@ fn check_uncounted<L: Ledger>(
     requires some { 0 < blank.parts }
     requires origin { IsWithin WORLD ray.now.origin }
     ensures runs { IfOk result (λ v. v.items ≡ overlaps_on scene.now ray.now) }
+    ensures segments { IfOk result (λ _. IsWoven (woven_of scene.now ray.now)) }
+    ensures order { IfOk result (λ v. AreByPlace (length scene.now) v.items) }
+    ensures first { IfOk result (λ v. AreFirstOverlaps scene.now ray.now v.items) }
+    ensures places { IfOk result (λ v. All (λ r. IsPartOfRay r.start r.end) v.items) }
     ensures most { IfOk result (λ v. length v.items ≤ MOST_PAIRS) }
     ensures fault { IfErr result (IsTooMany (length (overlaps_on scene.now ray.now))) }
 {
@@ -183,6 +197,9 @@ fn check_uncounted<L: Ledger>(
     let Ok(numbers) = weave_scene(alloc, &mut weave, scene, ray, &mut steps) else {
         return Err(CheckFault::Memory);
     };
+    if weave.woven().is_empty() {
+        return Ok(Vec::new(alloc));
+    }
     let Ok(regions) = claims_of_all(alloc, &weave, scene, &numbers) else {
         return Err(CheckFault::Memory);
     };
@@ -196,6 +213,10 @@ fn check_uncounted<L: Ledger>(
 pub fn check_ray(alloc: Global, scene: &Scene, ray: &Ray) -> Result<Vec<OverlapRun>, CheckFault>
     requires { IsWithin WORLD ray.now.origin }
     ensures runs { IfOk result (λ v. v.items ≡ overlaps_on scene.now ray.now) }
+    ensures segments { IfOk result (λ _. IsWoven (woven_of scene.now ray.now)) }
+    ensures order { IfOk result (λ v. AreByPlace (length scene.now) v.items) }
+    ensures first { IfOk result (λ v. AreFirstOverlaps scene.now ray.now v.items) }
+    ensures places { IfOk result (λ v. All (λ r. IsPartOfRay r.start r.end) v.items) }
     ensures most { IfOk result (λ v. length v.items ≤ MOST_PAIRS) }
     ensures fault { IfErr result (IsTooMany (length (overlaps_on scene.now ray.now))) }
 {

@@ -1,12 +1,16 @@
 use Rattle.std.proofs.Common.{rules, ◌≡◌, ◌<◌, ◌∙◌, ℕ, List, All, IfErr, length, map, ap, sym, subst, refl}
 use Rattle.std.proofs.lemmas.List.{length-map}
+use Rattle.bool_weave.specs.Cuts.{IsWoven}
 use Rattle.bool_weave.specs.Claims.{intervals_of}
 use Rattle.overlap_list.specs.declared.region.RegionClaims.{RegionClaims}
 use Rattle.overlap_list.specs.declared.overlap.OverlapRun.{OverlapRun}
 use Rattle.overlap_list.specs.Overlaps.{overlaps_of, IsTooMany}
-use Rattle.shot_core.specs.Shots.{overlaps_on}
+use Rattle.overlap_list.specs.Laws.{IsPartOfRay, AreByPlace}
+use Rattle.shot_core.specs.Laws.{AreFirstOverlaps}
+use Rattle.shot_core.specs.Shots.{woven_of, overlaps_on}
 use Rattle.shot_core.specs.Steps.{numbered_claims, renumbered_run}
-use Rattle.shot_core.proofs.Shooting.{overlaps_picked, rows, few, runs_within, numbers_below}
+use Rattle.shot_core.proofs.ResultLaws.{runs_on_ray, runs_by_place, runs_are_first}
+use Rattle.shot_core.proofs.Shooting.{empty_from, runs_none, overlaps_picked, rows, few, runs_within, numbers_below}
 use Rattle.shot_core.proofs.shot.check_uncounted.Goals as goal
 
 pub claims_of_all-requires : goal.claims_of_all-requires
@@ -58,3 +62,46 @@ returns-clause-runs g c =
     ∙ ap (λ ns. map (renumbered_run ns) c.in_ok-runs.runs.items) c.deref-3.ensures.value
     ∙ ap (map (renumbered_run c.in-Ok-weave_scene.numbers.items)) runs
     ∙ overlaps_picked c.args.scene.now c.args.ray.now c.weave_scene.new.weave c.in-Ok-weave_scene.numbers.items c.in-Ok-claims_of_all.regions.items c.in-Ok-weave_scene.ensures.woven c.in-Ok-weave_scene.ensures.hit regions_are c.in-Ok-weave_scene.ensures.leaves
+
+pub returns-then-is_empty-clause-runs : goal.returns-then-is_empty-clause-runs
+returns-then-is_empty-clause-runs g c =
+    let none : length c.woven.result.now ≡ 0 = search rules in
+    c.new-then-is_empty.ensures.items
+    ∙ runs_none c.args.scene.now c.args.ray.now c.weave_scene.new.weave c.in-Ok-weave_scene.ensures.woven c.in-Ok-weave_scene.ensures.leaves
+    (sym c.woven.ensures.woven ∙ empty_from c.woven.result.now none)
+
+pub returns-then-is_empty-clause-order : goal.returns-then-is_empty-clause-order
+returns-then-is_empty-clause-order g c =
+    let sound : IsWoven (woven_of c.args.scene.now c.args.ray.now) = subst IsWoven c.in-Ok-weave_scene.ensures.woven c.woven.ensures.sound in
+    subst (λ (os : List OverlapRun). AreByPlace (length c.args.scene.now) os) (sym (returns-then-is_empty-clause-runs g c)) (runs_by_place c.args.scene.now c.args.ray.now c.in-Ok-weave_scene.ensures.leaves sound)
+
+pub returns-clause-order : goal.returns-clause-order
+returns-clause-order g c =
+    let sound : IsWoven (woven_of c.args.scene.now c.args.ray.now) = subst IsWoven c.in-Ok-weave_scene.ensures.woven c.woven.ensures.sound in
+    subst (λ (os : List OverlapRun). AreByPlace (length c.args.scene.now) os) (sym (returns-clause-runs g c)) (runs_by_place c.args.scene.now c.args.ray.now c.in-Ok-weave_scene.ensures.leaves sound)
+
+pub returns-then-is_empty-clause-first : goal.returns-then-is_empty-clause-first
+returns-then-is_empty-clause-first g c =
+    let sound : IsWoven (woven_of c.args.scene.now c.args.ray.now) = subst IsWoven c.in-Ok-weave_scene.ensures.woven c.woven.ensures.sound in
+    subst (λ (os : List OverlapRun). AreFirstOverlaps c.args.scene.now c.args.ray.now os) (sym (returns-then-is_empty-clause-runs g c)) (runs_are_first c.args.scene.now c.args.ray.now c.in-Ok-weave_scene.ensures.leaves sound)
+
+pub returns-clause-first : goal.returns-clause-first
+returns-clause-first g c =
+    let sound : IsWoven (woven_of c.args.scene.now c.args.ray.now) = subst IsWoven c.in-Ok-weave_scene.ensures.woven c.woven.ensures.sound in
+    subst (λ (os : List OverlapRun). AreFirstOverlaps c.args.scene.now c.args.ray.now os) (sym (returns-clause-runs g c)) (runs_are_first c.args.scene.now c.args.ray.now c.in-Ok-weave_scene.ensures.leaves sound)
+
+pub returns-then-is_empty-clause-places : goal.returns-then-is_empty-clause-places
+returns-then-is_empty-clause-places g c =
+    let sound : IsWoven (woven_of c.args.scene.now c.args.ray.now) = subst IsWoven c.in-Ok-weave_scene.ensures.woven c.woven.ensures.sound in
+    subst (λ (os : List OverlapRun). All (λ (r : OverlapRun). IsPartOfRay r.start r.end) os) (sym (returns-then-is_empty-clause-runs g c)) (runs_on_ray c.args.scene.now c.args.ray.now c.in-Ok-weave_scene.ensures.leaves sound)
+
+pub returns-clause-places : goal.returns-clause-places
+returns-clause-places g c =
+    let sound : IsWoven (woven_of c.args.scene.now c.args.ray.now) = subst IsWoven c.in-Ok-weave_scene.ensures.woven c.woven.ensures.sound in
+    subst (λ (os : List OverlapRun). All (λ (r : OverlapRun). IsPartOfRay r.start r.end) os) (sym (returns-clause-runs g c)) (runs_on_ray c.args.scene.now c.args.ray.now c.in-Ok-weave_scene.ensures.leaves sound)
+
+pub returns-then-is_empty-clause-segments : goal.returns-then-is_empty-clause-segments
+returns-then-is_empty-clause-segments g c = subst IsWoven c.in-Ok-weave_scene.ensures.woven c.woven.ensures.sound
+
+pub returns-clause-segments : goal.returns-clause-segments
+returns-clause-segments g c = subst IsWoven c.in-Ok-weave_scene.ensures.woven c.woven.ensures.sound

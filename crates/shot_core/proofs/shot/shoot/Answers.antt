@@ -1,13 +1,17 @@
 use Rattle.std.proofs.Common.{rules, ◌≡◌, ◌<◌, ◌∙◌, ℕ, List, All, length, map, ap, sym, subst, refl, arith}
 use Rattle.std.proofs.lemmas.Result.{IfOk-weaker}
+use Rattle.bool_weave.specs.Cuts.{IsWoven}
 use Rattle.bool_weave.specs.Claims.{intervals_of}
 use Rattle.overlap_list.specs.declared.region.RegionClaims.{RegionClaims}
 use Rattle.overlap_list.specs.declared.partition.Partition.{Partition}
 use Rattle.overlap_list.specs.Partitions.{partitions_of}
+use Rattle.overlap_list.specs.Laws.{AreInOrder, IsPartOfRay, IsWonPart, HasHit}
 use Rattle.shot_core.specs.declared.shot.Lit.{Lit}
-use Rattle.shot_core.specs.Shots.{lit_by, lit_of}
+use Rattle.shot_core.specs.Laws.{parts_of, IsHitInScene, HoldsAllClaims}
+use Rattle.shot_core.specs.Shots.{woven_of, claims_on, lit_by, lit_of}
 use Rattle.shot_core.specs.Steps.{numbered_claims, IsHitOn, renumbered}
 use Rattle.shot_core.proofs.Shooting.{empty_from, lit_none, lit_picked, lit_within, rows, few, parts_within, hits_on, numbers_below}
+use Rattle.shot_core.proofs.ResultLaws.{lit_in_order, lit_on_ray, lit_won, lit_all, lit_hits, lit_hits_in_scene}
 use Rattle.shot_core.proofs.shot.shoot.Goals as goal
 
 pub returns-then-is_empty-clause-lit : goal.returns-then-is_empty-clause-lit
@@ -89,3 +93,77 @@ returns-clause-regions g c =
     (λ v h. subst (All (λ (l : Lit). l.region < length c.args.scene.now))
     (sym (h ∙ ap (λ ns. map (λ (p : Partition). lit_by c.args.scene.now c.args.ray.now (renumbered ns p)) c.deref-4.result.now) c.deref-3.ensures.value))
     (lit_within c.args.scene.now c.args.ray.now c.in_ok-numbers.numbers.items c.deref-4.result.now below within)) c.lit_by_all.ensures
+
+pub returns-then-is_empty-clause-order : goal.returns-then-is_empty-clause-order
+returns-then-is_empty-clause-order g c =
+    let sound : IsWoven (woven_of c.args.scene.now c.args.ray.now) = subst IsWoven c.in_ok-numbers.ensures.woven c.woven.ensures.sound in
+    subst (λ (ls : List Lit). AreInOrder (parts_of ls)) (sym (returns-then-is_empty-clause-lit g c)) (lit_in_order c.args.scene.now c.args.ray.now c.in_ok-numbers.ensures.leaves sound)
+
+pub returns-clause-order : goal.returns-clause-order
+returns-clause-order g c =
+    let sound : IsWoven (woven_of c.args.scene.now c.args.ray.now) = subst IsWoven c.in_ok-numbers.ensures.woven c.woven.ensures.sound in
+    IfOk-weaker c.lit_by_all.result (λ v. v.items ≡ lit_of c.args.scene.now c.args.ray.now) (λ v. AreInOrder (parts_of v.items))
+    (λ v h. subst (λ (ls : List Lit). AreInOrder (parts_of ls)) (sym h) (lit_in_order c.args.scene.now c.args.ray.now c.in_ok-numbers.ensures.leaves sound)) (returns-clause-lit g c)
+
+pub returns-then-is_empty-clause-places : goal.returns-then-is_empty-clause-places
+returns-then-is_empty-clause-places g c =
+    let sound : IsWoven (woven_of c.args.scene.now c.args.ray.now) = subst IsWoven c.in_ok-numbers.ensures.woven c.woven.ensures.sound in
+    subst (λ (ls : List Lit). All (λ (l : Lit). IsPartOfRay l.start l.end) ls) (sym (returns-then-is_empty-clause-lit g c)) (lit_on_ray c.args.scene.now c.args.ray.now c.in_ok-numbers.ensures.leaves sound)
+
+pub returns-clause-places : goal.returns-clause-places
+returns-clause-places g c =
+    let sound : IsWoven (woven_of c.args.scene.now c.args.ray.now) = subst IsWoven c.in_ok-numbers.ensures.woven c.woven.ensures.sound in
+    IfOk-weaker c.lit_by_all.result (λ v. v.items ≡ lit_of c.args.scene.now c.args.ray.now) (λ v. All (λ (l : Lit). IsPartOfRay l.start l.end) v.items)
+    (λ v h. subst (λ (ls : List Lit). All (λ (l : Lit). IsPartOfRay l.start l.end) ls) (sym h) (lit_on_ray c.args.scene.now c.args.ray.now c.in_ok-numbers.ensures.leaves sound)) (returns-clause-lit g c)
+
+pub returns-then-is_empty-clause-won : goal.returns-then-is_empty-clause-won
+returns-then-is_empty-clause-won g c =
+    let sound : IsWoven (woven_of c.args.scene.now c.args.ray.now) = subst IsWoven c.in_ok-numbers.ensures.woven c.woven.ensures.sound in
+    subst (λ (ls : List Lit). All (IsWonPart (woven_of c.args.scene.now c.args.ray.now) (claims_on c.args.scene.now c.args.ray.now)) (parts_of ls)) (sym (returns-then-is_empty-clause-lit g c)) (lit_won c.args.scene.now c.args.ray.now c.in_ok-numbers.ensures.leaves sound)
+
+pub returns-clause-won : goal.returns-clause-won
+returns-clause-won g c =
+    let sound : IsWoven (woven_of c.args.scene.now c.args.ray.now) = subst IsWoven c.in_ok-numbers.ensures.woven c.woven.ensures.sound in
+    IfOk-weaker c.lit_by_all.result (λ v. v.items ≡ lit_of c.args.scene.now c.args.ray.now) (λ v. All (IsWonPart (woven_of c.args.scene.now c.args.ray.now) (claims_on c.args.scene.now c.args.ray.now)) (parts_of v.items))
+    (λ v h. subst (λ (ls : List Lit). All (IsWonPart (woven_of c.args.scene.now c.args.ray.now) (claims_on c.args.scene.now c.args.ray.now)) (parts_of ls)) (sym h) (lit_won c.args.scene.now c.args.ray.now c.in_ok-numbers.ensures.leaves sound)) (returns-clause-lit g c)
+
+pub returns-then-is_empty-clause-all : goal.returns-then-is_empty-clause-all
+returns-then-is_empty-clause-all g c =
+    let sound : IsWoven (woven_of c.args.scene.now c.args.ray.now) = subst IsWoven c.in_ok-numbers.ensures.woven c.woven.ensures.sound in
+    subst (λ (ls : List Lit). HoldsAllClaims c.args.scene.now c.args.ray.now ls) (sym (returns-then-is_empty-clause-lit g c)) (lit_all c.args.scene.now c.args.ray.now c.in_ok-numbers.ensures.leaves sound)
+
+pub returns-clause-all : goal.returns-clause-all
+returns-clause-all g c =
+    let sound : IsWoven (woven_of c.args.scene.now c.args.ray.now) = subst IsWoven c.in_ok-numbers.ensures.woven c.woven.ensures.sound in
+    IfOk-weaker c.lit_by_all.result (λ v. v.items ≡ lit_of c.args.scene.now c.args.ray.now) (λ v. HoldsAllClaims c.args.scene.now c.args.ray.now v.items)
+    (λ v h. subst (λ (ls : List Lit). HoldsAllClaims c.args.scene.now c.args.ray.now ls) (sym h) (lit_all c.args.scene.now c.args.ray.now c.in_ok-numbers.ensures.leaves sound)) (returns-clause-lit g c)
+
+pub returns-then-is_empty-clause-hits : goal.returns-then-is_empty-clause-hits
+returns-then-is_empty-clause-hits g c =
+    let sound : IsWoven (woven_of c.args.scene.now c.args.ray.now) = subst IsWoven c.in_ok-numbers.ensures.woven c.woven.ensures.sound in
+    subst (λ (ls : List Lit). All (HasHit (woven_of c.args.scene.now c.args.ray.now) (claims_on c.args.scene.now c.args.ray.now)) (parts_of ls)) (sym (returns-then-is_empty-clause-lit g c)) (lit_hits c.args.scene.now c.args.ray.now c.in_ok-numbers.ensures.leaves sound)
+
+pub returns-clause-hits : goal.returns-clause-hits
+returns-clause-hits g c =
+    let sound : IsWoven (woven_of c.args.scene.now c.args.ray.now) = subst IsWoven c.in_ok-numbers.ensures.woven c.woven.ensures.sound in
+    IfOk-weaker c.lit_by_all.result (λ v. v.items ≡ lit_of c.args.scene.now c.args.ray.now) (λ v. All (HasHit (woven_of c.args.scene.now c.args.ray.now) (claims_on c.args.scene.now c.args.ray.now)) (parts_of v.items))
+    (λ v h. subst (λ (ls : List Lit). All (HasHit (woven_of c.args.scene.now c.args.ray.now) (claims_on c.args.scene.now c.args.ray.now)) (parts_of ls)) (sym h) (lit_hits c.args.scene.now c.args.ray.now c.in_ok-numbers.ensures.leaves sound)) (returns-clause-lit g c)
+
+pub returns-then-is_empty-clause-real : goal.returns-then-is_empty-clause-real
+returns-then-is_empty-clause-real g c =
+    let sound : IsWoven (woven_of c.args.scene.now c.args.ray.now) = subst IsWoven c.in_ok-numbers.ensures.woven c.woven.ensures.sound in
+    subst (λ (ls : List Lit). All (IsHitInScene c.args.scene.now c.args.ray.now) ls) (sym (returns-then-is_empty-clause-lit g c)) (lit_hits_in_scene c.args.scene.now c.args.ray.now c.in_ok-numbers.ensures.leaves sound)
+
+pub returns-clause-real : goal.returns-clause-real
+returns-clause-real g c =
+    let sound : IsWoven (woven_of c.args.scene.now c.args.ray.now) = subst IsWoven c.in_ok-numbers.ensures.woven c.woven.ensures.sound in
+    IfOk-weaker c.lit_by_all.result (λ v. v.items ≡ lit_of c.args.scene.now c.args.ray.now) (λ v. All (IsHitInScene c.args.scene.now c.args.ray.now) v.items)
+    (λ v h. subst (λ (ls : List Lit). All (IsHitInScene c.args.scene.now c.args.ray.now) ls) (sym h) (lit_hits_in_scene c.args.scene.now c.args.ray.now c.in_ok-numbers.ensures.leaves sound)) (returns-clause-lit g c)
+
+pub returns-then-is_empty-clause-segments : goal.returns-then-is_empty-clause-segments
+returns-then-is_empty-clause-segments g c = subst IsWoven c.in_ok-numbers.ensures.woven c.woven.ensures.sound
+
+pub returns-clause-segments : goal.returns-clause-segments
+returns-clause-segments g c =
+    let sound : IsWoven (woven_of c.args.scene.now c.args.ray.now) = subst IsWoven c.in_ok-numbers.ensures.woven c.woven.ensures.sound in
+    IfOk-weaker c.lit_by_all.result (λ v. v.items ≡ lit_of c.args.scene.now c.args.ray.now) (λ _. IsWoven (woven_of c.args.scene.now c.args.ray.now)) (λ v h. sound) (returns-clause-lit g c)

@@ -3,3 +3,4 @@ pub mod Reading
 pub mod Written
 pub mod Examples
 pub mod Steps
+pub mod Gathering

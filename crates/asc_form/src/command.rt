@@ -13,7 +13,7 @@ use crate::cut::is_passed;
 use crate::fault::{AscFault, AscKind};
 use crate::keep::keep_command;
 use crate::kinds::{CommandFault, at_line, of_directory, of_put};
-use directory::Directory;
+use crate::reader::Reader;
 use name_core::Name;
 use object_set::{Object, is_text_value};
 use put_form::{read_keep, read_put};
@@ -31,33 +31,31 @@ fn is_word(word: &[u8], atom: Option<&[u8]>) -> bool
 }
 
 /// Sets the title to this text.
-fn set_title(alloc: Global, directory: &mut Directory, text: &[u8]) -> Result<(), CommandFault>
-    ensures { IsMade (reading.titled directory.old text.now) result directory.new }
+fn set_title(alloc: Global, reader: &mut Reader, text: &[u8]) -> Result<(), CommandFault>
+    ensures { IsMade (reading.titled reader.old text.now) result reader.new }
 {
     if !is_text_value(text) {
         return Err(CommandFault::Faulty(AscKind::Attr));
     }
-    directory.set_title(alloc, text)?;
+    reader.set_title(alloc, text)?;
     Ok(())
 }
 
 /// `title TEXT ..`
 fn title_command(
     alloc: Global,
-    directory: &mut Directory,
+    reader: &mut Reader,
     text: &[u8],
     tokens: &[Token],
     words: &[Word],
 ) -> Result<(), CommandFault>
     requires tokens { AreTokensIn (length text.now) tokens.now }
     requires words { All (IsWordOf tokens.now) words.now }
-    ensures { IsMade (reading.title_made directory.old text.now tokens.now words.now) result directory.new }
+    ensures { IsMade (reading.title_made reader.old text.now tokens.now words.now) result reader.new }
 {
     match words {
         [] => Err(CommandFault::Faulty(AscKind::NoType)),
-        [value, rest @ ..] => {
-            set_title(alloc, directory, value_text(text, tokens, *value, rest))
-        }
+        [value, rest @ ..] => { set_title(alloc, reader, value_text(text, tokens, *value, rest)) }
     }
 }
 
@@ -80,10 +78,10 @@ fn units_command(text: &[u8], tokens: &[Token], words: &[Word]) -> Result<(), Co
 }
 
 /// Puts an object under a new name.
-fn put_object(directory: &mut Directory, name: &Name, object: Object) -> Result<(), CommandFault>
-    ensures { IsMade (reading.put_into directory.old (Ok (name.now, object))) result directory.new }
+fn put_object(reader: &mut Reader, name: &Name, object: Object) -> Result<(), CommandFault>
+    ensures { IsMade (reading.put_into reader.old (Ok (name.now, object))) result reader.new }
 {
-    match directory.put(name, object) {
+    match reader.put(name, object) {
         Ok(()) => Ok(()),
         Err(fault) => Err(of_directory(fault)),
     }
@@ -92,7 +90,7 @@ fn put_object(directory: &mut Directory, name: &Name, object: Object) -> Result<
 /// `put NAME TYPE KEY VALUE ..`
 fn put_command(
     alloc: Global,
-    directory: &mut Directory,
+    reader: &mut Reader,
     text: &[u8],
     tokens: &[Token],
     words: &[Word],
@@ -101,10 +99,10 @@ fn put_command(
     requires tokens { AreTokensIn (length text.now) tokens.now }
     requires words { All (IsWordOf tokens.now) words.now }
     requires few { length words.now ≤ 2 ^ 31 }
-    ensures { IsMade (reading.put_into directory.old (put_of text.now tokens.now words.now)) result directory.new }
+    ensures { IsMade (reading.put_into reader.old (put_of text.now tokens.now words.now)) result reader.new }
 {
     match read_put(alloc, text, tokens, words) {
-        Ok((name, object)) => put_object(directory, &name, object),
+        Ok((name, object)) => put_object(reader, &name, object),
         Err(fault) => Err(of_put(fault)),
     }
 }
@@ -112,7 +110,7 @@ fn put_command(
 /// `attr set NAME KEY VALUE ..`
 fn attr_command(
     alloc: Global,
-    directory: &mut Directory,
+    reader: &mut Reader,
     text: &[u8],
     tokens: &[Token],
     words: &[Word],
@@ -120,13 +118,13 @@ fn attr_command(
     requires tokens { AreTokensIn (length text.now) tokens.now }
     requires words { All (IsWordOf tokens.now) words.now }
     requires few { length words.now ≤ 2 ^ 31 }
-    ensures { IsMade (reading.attr_made directory.old text.now tokens.now words.now) result directory.new }
+    ensures { IsMade (reading.attr_made reader.old text.now tokens.now words.now) result reader.new }
 {
     match words {
         [set, name, rest @ ..] => {
             if is_word(b"set", atom_text(text, tokens, *set)) {
                 let read = read_keep(alloc, text, tokens, rest, 4);
-                keep_command(alloc, directory, atom_text(text, tokens, *name), read)
+                keep_command(alloc, reader, atom_text(text, tokens, *name), read)
             } else {
                 Err(CommandFault::Faulty(AscKind::NoType))
             }
@@ -138,7 +136,7 @@ fn attr_command(
 /// The command of this name: `words` are all its words, and `rest` those that follow the first.
 fn named_command(
     alloc: Global,
-    directory: &mut Directory,
+    reader: &mut Reader,
     text: &[u8],
     tokens: &[Token],
     words: &[Word],
@@ -151,14 +149,14 @@ fn named_command(
     requires few { length words.now ≤ 2 ^ 31 }
     requires rest { All (IsWordOf tokens.now) rest.now }
     requires fewer { length rest.now ≤ 2 ^ 31 }
-    ensures { (word : Word) → words.now ≡ word ∷ rest.now → IsMade (reading.named_made directory.old text.now tokens.now word rest.now (Some name.now)) result directory.new }
+    ensures { (word : Word) → words.now ≡ word ∷ rest.now → IsMade (reading.named_made reader.old text.now tokens.now word rest.now (Some name.now)) result reader.new }
 {
     if name == b"put".as_slice() {
-        put_command(alloc, directory, text, tokens, words)
+        put_command(alloc, reader, text, tokens, words)
     } else if name == b"attr".as_slice() {
-        attr_command(alloc, directory, text, tokens, rest)
+        attr_command(alloc, reader, text, tokens, rest)
     } else if name == b"title".as_slice() {
-        title_command(alloc, directory, text, tokens, rest)
+        title_command(alloc, reader, text, tokens, rest)
     } else if name == b"units".as_slice() {
         units_command(text, tokens, rest)
     } else {
@@ -169,7 +167,7 @@ fn named_command(
 /// The command of these words.
 fn words_command(
     alloc: Global,
-    directory: &mut Directory,
+    reader: &mut Reader,
     text: &[u8],
     tokens: &[Token],
     words: &[Word],
@@ -178,26 +176,26 @@ fn words_command(
     requires tokens { AreTokensIn (length text.now) tokens.now }
     requires words { All (IsWordOf tokens.now) words.now }
     requires few { length words.now ≤ 2 ^ 31 }
-    ensures { IsMade (reading.words_made directory.old text.now tokens.now words.now) result directory.new }
+    ensures { IsMade (reading.words_made reader.old text.now tokens.now words.now) result reader.new }
 {
     match words {
         [] => Ok(()),
         [first, rest @ ..] => match atom_text(text, tokens, *first) {
-            Some(name) => named_command(alloc, directory, text, tokens, words, rest, name),
+            Some(name) => named_command(alloc, reader, text, tokens, words, rest, name),
             None => Err(CommandFault::Faulty(AscKind::NoType)),
         },
     }
 }
 
 /// The command of this text, which is not passed over.
-fn read_command(alloc: Global, directory: &mut Directory, text: &[u8]) -> Result<(), CommandFault>
+fn read_command(alloc: Global, reader: &mut Reader, text: &[u8]) -> Result<(), CommandFault>
     requires { length text.now < 2 ^ 31 }
-    ensures { IsMade (reading.read_made directory.old text.now (words_of text.now)) result directory.new }
+    ensures { IsMade (reading.read_made reader.old text.now (words_of text.now)) result reader.new }
 {
     match read_words(alloc, text) {
         Ok(read) => {
             let words = top_words(alloc, read.tokens())?;
-            words_command(alloc, directory, text, read.tokens(), &words)
+            words_command(alloc, reader, text, read.tokens(), &words)
         }
         Err(WordFault::Memory) => Err(CommandFault::Memory),
         Err(_) => Err(CommandFault::Faulty(AscKind::Words)),
@@ -205,27 +203,27 @@ fn read_command(alloc: Global, directory: &mut Directory, text: &[u8]) -> Result
 }
 
 /// Makes of a directory what the command of this text makes of it.
-fn apply_command(alloc: Global, directory: &mut Directory, text: &[u8]) -> Result<(), CommandFault>
+fn apply_command(alloc: Global, reader: &mut Reader, text: &[u8]) -> Result<(), CommandFault>
     requires { length text.now < 2 ^ 31 }
-    ensures { IsMade (reading.made_by directory.old text.now) result directory.new }
+    ensures { IsMade (reading.made_by reader.old text.now) result reader.new }
 {
     if is_passed(text) {
         return Ok(());
     }
-    read_command(alloc, directory, text)
+    read_command(alloc, reader, text)
 }
 
 /// Makes of a directory what the command that begins on this line makes of it.
 pub(crate) fn apply_at(
     alloc: Global,
-    directory: &mut Directory,
+    reader: &mut Reader,
     line: u32,
     text: &[u8],
 ) -> Result<(), AscFault>
     requires { length text.now < 2 ^ 31 }
-    ensures { IsMadeAt (reading.made_by directory.old text.now) line result directory.new }
+    ensures { IsMadeAt (reading.made_by reader.old text.now) line result reader.new }
 {
-    match apply_command(alloc, directory, text) {
+    match apply_command(alloc, reader, text) {
         Ok(()) => Ok(()),
         Err(fault) => Err(at_line(line, fault)),
     }

@@ -6,6 +6,8 @@ mod cut;
 mod fault;
 mod keep;
 mod kinds;
+mod reader;
+mod settle;
 mod whole;
 mod writing;
 

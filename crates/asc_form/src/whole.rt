@@ -5,6 +5,7 @@ ghost use Rattle.asc_form.specs.Reading.{IsAsc};
 use crate::command::apply_at;
 use crate::cut::{end_of, line_feeds};
 use crate::fault::AscFault;
+use crate::reader::Reader;
 use directory::Directory;
 use std::alloc::Global;
 
@@ -21,15 +22,15 @@ pub fn read_asc(alloc: Global, text: &[u8]) -> Result<Directory, AscFault>
     requires { length text.now < 2 ^ 31 }
     ensures { IsAsc result text.now }
 {
-    let mut directory = Directory::new(alloc);
+    let mut reader = Reader::new(alloc);
     let mut rest = text;
     let mut line = 1;
     while let Some(end) = end_of(rest) {
         let command = &rest[..end];
-        apply_at(alloc, &mut directory, line, command)?;
+        apply_at(alloc, &mut reader, line, command)?;
         line += 1 + line_feeds(command);
         rest = text_from(rest, end + 1);
     }
-    apply_at(alloc, &mut directory, line, rest)?;
-    Ok(directory)
+    apply_at(alloc, &mut reader, line, rest)?;
+    Ok(reader.finish(alloc)?)
 }

@@ -13,4 +13,4 @@ pub returns-in-Err : goal.returns-in-Err
 returns-in-Err c = λ pairs h.
     let word : Option (List ℕ) = option_copied c.args.word in
     let read : IsKeptRead (Err c.in-Err.fault) pairs = subst (λ (r : Result (List KeptAttr) PutFault). IsKeptRead r pairs) c.in-Err.is h in
-    subst (λ (f : CommandFault). IsMade (keep_with c.args.directory.now word pairs) (Err f) c.args.directory.now) (sym c.unkept.ensures) (unkept_is c.args.directory.now word c.in-Err.fault pairs read)
+    subst (λ (f : CommandFault). IsMade (keep_with c.args.reader.now word pairs) (Err f) c.args.reader.now) (sym c.unkept.ensures) (unkept_is c.args.reader.now word c.in-Err.fault pairs read)

@@ -7,7 +7,7 @@ abbrev pub invariant-loop-end : goal.invariant-loop-end
 invariant-loop-end l = record {
   short : length l.rest ≤ length l.text;
   lines : l.line + length l.rest ≤ length l.text + 1;
-  made : (most : ℕ) × (length l.rest < most) × (made_of (pieces_within most l.line l.rest) l.directory ≡ directory_of l.text);
+  made : (most : ℕ) × (length l.rest < most) × (made_of (pieces_within most l.line l.rest) l.reader ≡ directory_of l.text);
 }
 
 abbrev pub decreases-loop-end : goal.decreases-loop-end

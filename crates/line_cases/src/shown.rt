@@ -217,7 +217,10 @@ pub(crate) fn shown(alloc: Global, command: &Command) -> Result<String, CaseFaul
             out.push_str("tree")?;
             put_names(&mut out, names.items())?;
         }
-        Command::Query(Query::Save { .. }) => return Err(CaseFault::Kind),
+        Command::Query(Query::Save { file }) => {
+            out.push_str("save")?;
+            put_name(&mut out, file)?;
+        }
     }
     Ok(out)
 }

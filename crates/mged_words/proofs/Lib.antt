@@ -10,3 +10,5 @@ pub mod MemberLaws
 pub mod PutLaws
 pub mod PlainLaws
 pub mod WrittenLaws
+pub mod OrderLaws
+pub mod OneLineLaws

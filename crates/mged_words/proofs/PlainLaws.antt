@@ -17,7 +17,7 @@ use Rattle.transcript.specs.Lines.{Lacks}
 use Rattle.transcript.proofs.LineLaws.{lacks_append}
 use Rattle.transcript.proofs.TranscriptLaws.{computed}
 use Rattle.word_values.specs.Atoms.{all_numbers, atoms_in, solid_number, value_of, view_number}
-use Rattle.mged_words.specs.Commands.{unless_refused, name_fault, names_fault, members_fault, number_fault, matrix_fault, setting_fault, make_command, solid_command, kind_command, in_command, direction_of, world_fault, is_from_world, is_in_world, ray_of, shot_command, nirt_command, entry_of, entries_of, region_command, r_command, g_command, rm_command, kill_command, mvall_command, ls_command, placement_or, placement_given, placed_command, sixteen_command, matrix_command, matrix_words, place_with, place_command, set_command, set_with, cattr_command, with_atoms, atom_command, named_command, worded_command, refusal_of_put, put_made, put_command, title_command, keep_fault, pairs_or_none, kept_command, keep_command, is_set, attr_command, l_command, tree_command, command_of_words, command_read, command_of}
+use Rattle.mged_words.specs.Commands.{unless_refused, name_fault, names_fault, members_fault, number_fault, matrix_fault, setting_fault, make_command, solid_command, kind_command, in_command, direction_of, world_fault, is_from_world, is_in_world, ray_of, shot_command, nirt_command, entry_of, entries_of, region_command, r_command, g_command, rm_command, kill_command, mvall_command, save_command, ls_command, placement_or, placement_given, placed_command, sixteen_command, matrix_command, matrix_words, place_with, place_command, set_command, set_with, cattr_command, with_atoms, atom_command, named_command, worded_command, refusal_of_put, put_made, put_command, title_command, keep_fault, pairs_or_none, kept_command, keep_command, is_set, attr_command, l_command, tree_command, command_of_words, command_read, command_of}
 use Rattle.word_values.specs.Matrices.{placement_read}
 use Rattle.mged_words.specs.Readable.{ArePlain, ArePlainPairs, IsPlain, IsPlainRefusal, IsReadable}
 use Rattle.plane_geom.specs.declared.fault.ShapeFault.{ShapeFault}
@@ -41,7 +41,7 @@ use Rattle.comb_tree.specs.Changes.{names_of}
 use Rattle.region_attr.specs.Keys.{key_of}
 use Rattle.region_attr.specs.Attrs.{is_setting}
 use Rattle.lattice_core.specs.declared.placement.Placement.{Placement}
-use Rattle.command_set.specs.declared.command.Query.TheVariants.{List as Lines, Tree, Shot}
+use Rattle.command_set.specs.declared.command.Query.TheVariants.{List as Lines, Tree, Save, Shot}
 use Rattle.object_set.specs.declared.kept.KeptAttr.{KeptAttr}
 use Rattle.put_form.specs.Keeps.{is_text, kept_of}
 use Rattle.put_form.specs.Pairs.{pairs_of}
@@ -147,7 +147,7 @@ solid_plain name kind numbers =
     (λ all. make_plain name (solid_made kind numbers) (name_read 2 name all.0))
 
 in_range : (c : ℤ) → is_in_world c ≡ true → IsAtMost WORLD c
-in_range c h = let small : unsigned_abs c ≤ 524288 = leb-true (unsigned_abs c) 524288 h in (omega (arith, ints, small), omega (arith, ints, small))
+in_range c h = let small : unsigned_abs c ≤ unsigned_abs WORLD = leb-true (unsigned_abs c) (unsigned_abs WORLD) h in (omega (arith, ints, small), omega (arith, ints, small))
 
 world_read : (origin : V3) → world_fault origin ≡ None → IsWithin WORLD origin
 world_read origin h =
@@ -237,6 +237,11 @@ mvall_plain (old ∷ new ∷ []) =
     unless_plain (names_fault 2 1 (old ∷ new ∷ []) ∷ []) (Edit (RenameAll old new)) (may_names 2 1 (old ∷ new ∷ []), tt)
     (λ all. let fine = names_plain 2 1 (old ∷ new ∷ []) all.0 in (fine.0, fine.1.0))
 mvall_plain (a ∷ b ∷ c ∷ rest) = plain_syntax
+
+save_plain : (atoms : List (List ℕ)) → IsPlain (save_command atoms)
+save_plain [] = plain_syntax
+save_plain (file ∷ []) = unless_plain (name_fault 2 file ∷ []) (Query (Save file)) (may_if (is_ok (read_name file)) (Name 2) (plain_name 2), tt) (λ all. name_read 2 file all.0)
+save_plain (a ∷ b ∷ rest) = plain_syntax
 
 ls_plain : (atoms : List (List ℕ)) → IsPlain (ls_command atoms)
 ls_plain [] = tt
@@ -369,7 +374,8 @@ atom_plain word atoms =
     (either_plain (bytes_eq word (codes "mvall")) (mvall_command atoms) _ (mvall_plain atoms)
     (either_plain (bytes_eq word (codes "ls")) (ls_command atoms) _ (ls_plain atoms)
     (either_plain (bytes_eq word (codes "l")) (l_command atoms) _ (l_plain atoms)
-    (either_plain (bytes_eq word (codes "tree")) (tree_command atoms) (Bad Syntax) (tree_plain atoms) plain_syntax)))))))))
+    (either_plain (bytes_eq word (codes "tree")) (tree_command atoms) _ (tree_plain atoms)
+    (either_plain (bytes_eq word (codes "save")) (save_command atoms) (Bad Syntax) (save_plain atoms) plain_syntax))))))))))
 
 atoms_plain : (word : List ℕ) (atoms : Option (List (List ℕ))) → IsPlain (with_atoms (atom_command word) atoms)
 atoms_plain word None = plain_syntax

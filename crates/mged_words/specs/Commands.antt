@@ -3,6 +3,7 @@
 use Rattle.std.specs.Prelude.{ℕ, ℤ, Bool, false, ◌&&◌, ◌==◌, ◌+◌, List, [], ◌∷◌, Option, Some, None, Result, Ok, Err, is_ok, is_some, is_none, map, length, codes, bytes_eq, nat_le, if◌then◌else◌}
 use Rattle.std.specs.Option.{option_map}
 use Rattle.std.specs.Int.RustNames.{unsigned_abs}
+use Rattle.lattice_core.specs.declared.limit.TheConstants.{WORLD}
 use Rattle.lattice_core.specs.declared.ray.Dir.{Dir}
 use Rattle.lattice_core.specs.declared.ray.Dir.TheVariants.{PlusX, MinusX, PlusY, MinusY, PlusZ, MinusZ}
 use Rattle.lattice_core.specs.declared.ray.Ray.{Ray}
@@ -27,7 +28,7 @@ use Rattle.object_set.specs.Objects.{Parts}
 use Rattle.command_set.specs.declared.command.Command.{Command}
 use Rattle.command_set.specs.declared.command.Command.TheVariants.{Bad, Edit, Query}
 use Rattle.command_set.specs.declared.command.Edit.TheVariants.{Make, Region, Group, Remove, Kill, RenameAll, Place, Title, Keep, Set}
-use Rattle.command_set.specs.declared.command.Query.TheVariants.{List as Lines, Names, Tree, Shot}
+use Rattle.command_set.specs.declared.command.Query.TheVariants.{List as Lines, Names, Tree, Save, Shot}
 use Rattle.command_set.specs.declared.refusal.Refusal.{Refusal}
 use Rattle.command_set.specs.declared.refusal.Refusal.TheVariants.{Syntax, Name, Number, View, Shape}
 use Rattle.command_set.specs.declared.refusal.ViewFault.TheVariants.{World}
@@ -98,7 +99,7 @@ direction_of word =
     else (if bytes_eq word (codes "-z") then Some MinusZ else None)))))
 
 abbrev pub is_in_world : ℤ → Bool
-is_in_world c = nat_le (unsigned_abs c) 524288
+is_in_world c = nat_le (unsigned_abs c) (unsigned_abs WORLD)
 
 abbrev pub is_from_world : V3 → Bool
 is_from_world origin = is_in_world origin.x && is_in_world origin.y && is_in_world origin.z
@@ -179,6 +180,11 @@ kill_command (name ∷ rest) = unless_refused (names_fault 2 1 (name ∷ rest) �
 abbrev pub mvall_command : List (List ℕ) → Command
 mvall_command (old ∷ new ∷ []) = unless_refused (names_fault 2 1 (old ∷ new ∷ []) ∷ []) (Edit (RenameAll old new))
 mvall_command _ = Bad Syntax
+
+-- `save FILE`
+abbrev pub save_command : List (List ℕ) → Command
+save_command (file ∷ []) = unless_refused (name_fault 2 file ∷ []) (Query (Save file))
+save_command _ = Bad Syntax
 
 -- `ls`
 abbrev pub ls_command : List (List ℕ) → Command
@@ -327,7 +333,8 @@ atom_command word atoms =
     else (if bytes_eq word (codes "mvall") then mvall_command atoms
     else (if bytes_eq word (codes "ls") then ls_command atoms
     else (if bytes_eq word (codes "l") then l_command atoms
-    else (if bytes_eq word (codes "tree") then tree_command atoms else Bad Syntax)))))))))
+    else (if bytes_eq word (codes "tree") then tree_command atoms
+    else (if bytes_eq word (codes "save") then save_command atoms else Bad Syntax))))))))))
 
 -- a command by its own word and the words that follow it
 abbrev pub named_command : List ℕ → List Token → Word → List Word → List ℕ → Command

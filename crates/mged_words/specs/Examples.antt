@@ -7,12 +7,14 @@ use Rattle.solid_set.specs.declared.solid.Solid.TheVariants as solids
 use Rattle.transcript.specs.Merge.{entry}
 use Rattle.command_set.specs.declared.command.Command.TheVariants.{Bad, Edit, Query}
 use Rattle.command_set.specs.declared.command.Edit.TheVariants.{Make, Region, Group, Remove, Kill, RenameAll, Place, Title, Keep, Set}
-use Rattle.command_set.specs.declared.command.Query.TheVariants.{List as Lines, Names, Shot}
+use Rattle.command_set.specs.declared.command.Query.TheVariants.{List as Lines, Names, Save, Shot}
 use Rattle.command_set.specs.declared.refusal.Refusal.TheVariants.{Syntax, Name, Number, View, Shape}
 use Rattle.command_set.specs.declared.refusal.ViewFault.TheVariants.{World}
 use Rattle.mged_words.specs.declared.script.ScriptFlaw.TheVariants as flaws
 use Rattle.mged_words.specs.Commands.{command_of, entry_of, ray_of, solid_object}
 use Rattle.word_values.specs.Matrices.{identity}
+use Rattle.mged_words.specs.OneLine.{line_of, member_words}
+use Rattle.mged_words.specs.Order.{names_of_line}
 use Rattle.mged_words.specs.Scripts.{script_of, line_numbers}
 use Rattle.solid_set.specs.Rpps.{vector}
 
@@ -401,3 +403,34 @@ trees = refl
 
 pub tree_of_nothing : command_of (codes "tree") ≡ Bad Syntax
 tree_of_nothing = refl
+
+-- a whole model as a file, whose name is one word
+pub a_save : command_of (codes "save {a.asc}") ≡ Query (Save (codes "a.asc"))
+a_save = refl
+
+pub save_of_two : command_of (codes "save a.asc # x") ≡ Bad Syntax
+save_of_two = refl
+
+pub save_in_a_folder : command_of (codes "save a/b") ≡ Bad (Name 2)
+save_in_a_folder = refl
+
+-- the words that are to be names, whether they are or not
+pub names_of_a_region : names_of_line (codes "r a u b/ - c") ≡ (2, codes "a") ∷ (4, codes "b/") ∷ (6, codes "c") ∷ []
+names_of_a_region = refl
+
+pub names_of_a_shot : names_of_line (codes "nirt x 0 0 +x s {t}") ≡ (6, codes "s") ∷ (7, codes "t") ∷ []
+names_of_a_shot = refl
+
+-- those of a tree all have the number of its word
+pub names_of_a_combination : names_of_line (codes "put c comb id x tree {u {l a} {l b/}}") ≡ (2, codes "c") ∷ (7, codes "a") ∷ (7, codes "b/") ∷ []
+names_of_a_combination = refl
+
+pub names_of_kept_attributes : names_of_line (codes "attr set c/ k v") ≡ (3, codes "c/") ∷ (4, codes "k") ∷ []
+names_of_kept_attributes = refl
+
+-- the line of a command
+pub a_line : line_of (codes "kill") (codes "a" ∷ codes "b" ∷ []) ≡ codes "kill a b"
+a_line = refl
+
+pub line_of_a_region : line_of (codes "r") (codes "a" ∷ member_words ((U, codes "b") ∷ (Minus, codes "c") ∷ [])) ≡ codes "r a u b - c"
+line_of_a_region = refl

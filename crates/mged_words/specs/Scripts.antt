@@ -6,17 +6,8 @@ use Rattle.transcript.specs.Merge.{Entry, entry}
 use Rattle.mged_words.specs.Commands.{command_of}
 use Rattle.command_set.specs.declared.command.Command.{Command}
 use Rattle.mged_words.specs.declared.script.ScriptFlaw.{ScriptFlaw}
+use Rattle.mged_words.specs.declared.script.TheConstants.{LINE_COUNT, LINE_SIZE, SCRIPT_SIZE}
 use Rattle.mged_words.specs.declared.script.ScriptFlaw.TheVariants.{Size, Lines, LongLine, Session}
-
--- the most bytes of a script, the most lines, and the most bytes of a line
-abbrev pub most_bytes : ℕ
-most_bytes = 4194304
-
-abbrev pub most_lines : ℕ
-most_lines = 65536
-
-abbrev pub most_line_bytes : ℕ
-most_line_bytes = 65536
 
 -- `1` to `8`
 abbrev pub is_session_digit : ℕ → Bool
@@ -62,8 +53,8 @@ numbers_in number (line ∷ lines) = numbers_with (session_and_rest line) number
 -- what is wrong with a line of this number: it is one too many, or too long, or begins with `@` and names no session
 abbrev pub line_flaw : ℕ → List ℕ → Option ScriptFlaw
 line_flaw number line =
-    if nat_lt most_lines number then Some (Lines number)
-    else (if nat_lt most_line_bytes (length line) then Some (LongLine number)
+    if nat_lt LINE_COUNT number then Some (Lines number)
+    else (if nat_lt LINE_SIZE (length line) then Some (LongLine number)
     else (if is_none (session_and_rest line) then Some (Session number) else None))
 
 abbrev pub or_later : Option ScriptFlaw → Option ScriptFlaw → Option ScriptFlaw
@@ -77,7 +68,7 @@ lines_flaw number (line ∷ lines) = or_later (line_flaw number line) (lines_fla
 
 -- the first fault of a script: its size, and then the first faulty line
 abbrev pub script_flaw : List ℕ → Option ScriptFlaw
-script_flaw text = if nat_lt most_bytes (length text) then Some Size else lines_flaw 1 (lines_in text)
+script_flaw text = if nat_lt SCRIPT_SIZE (length text) then Some Size else lines_flaw 1 (lines_in text)
 
 abbrev pub script_read : Option ScriptFlaw → List (Entry Command) → Result (List (Entry Command)) ScriptFlaw
 script_read None commands = Ok commands

@@ -81,3 +81,16 @@ pub(crate) fn tree_command(alloc: Global, atoms: &[&[u8]]) -> Result<Command, Li
     let names = NameList::of_vec(read_names(alloc, atoms, 2)?);
     Ok(Command::Query(Query::Tree { names }))
 }
+
+/// Reads what follows `save`: `FILE`.
+pub(crate) fn save_command(atoms: &[&[u8]]) -> Result<Command, LineFault>
+    ensures { IsRead result (commands.save_command (map (λ a. a.now) atoms.now)) }
+{
+    match atoms {
+        [file] => {
+            let file = read_name(file, 2)?;
+            Ok(Command::Query(Query::Save { file }))
+        }
+        _ => Err(LineFault::Refused(Refusal::Syntax)),
+    }
+}

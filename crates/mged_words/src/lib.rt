@@ -6,6 +6,7 @@ mod command;
 mod edit;
 mod fault;
 mod keep;
+mod laws;
 mod line;
 mod list;
 mod make;
@@ -19,5 +20,6 @@ mod shot;
 mod title;
 
 pub use command::ScriptCommand;
+pub use laws::{each_has_a_line, limit_laws, order_laws};
 pub use line::read_line;
-pub use script::{SCRIPT_SIZE, ScriptFault, ScriptFlaw, read_script};
+pub use script::{LINE_COUNT, LINE_SIZE, SCRIPT_SIZE, ScriptFault, ScriptFlaw, read_script};

@@ -12,7 +12,9 @@ ghost use Rattle.mged_words.specs.Readings.{IsRead};
 ghost use Rattle.mged_words.specs.Scripts as scripts;
 
 use crate::command::ScriptCommand;
-use crate::edit::{kill_command, l_command, ls_command, mvall_command, rm_command, tree_command};
+use crate::edit::{
+    kill_command, l_command, ls_command, mvall_command, rm_command, save_command, tree_command,
+};
 use crate::fault::LineFault;
 use crate::keep::attr_command;
 use crate::list::{g_command, r_command};
@@ -55,6 +57,8 @@ fn atom_command(alloc: Global, word: &[u8], atoms: &[&[u8]]) -> Result<Command, 
         l_command(alloc, atoms)
     } else if word == b"tree".as_slice() {
         tree_command(alloc, atoms)
+    } else if word == b"save".as_slice() {
+        save_command(atoms)
     } else {
         Err(LineFault::Refused(Refusal::Syntax))
     }

@@ -17,10 +17,10 @@ use std::alloc::Global;
 pub const SCRIPT_SIZE: usize = 4_194_304;
 
 /// The most lines that a script may have.
-const LINE_COUNT: u32 = 65_536;
+pub const LINE_COUNT: u32 = 65_536;
 
 /// The most bytes that a line may have.
-const LINE_SIZE: usize = 65_536;
+pub const LINE_SIZE: usize = 65_536;
 
 /// Why a script is refused. The first that holds is answered.
 #[derive(Clone, Copy, Debug, PartialEq, Eq)]

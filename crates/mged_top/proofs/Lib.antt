@@ -1,6 +1,6 @@
-pub mod ShotLaws
 pub mod WriteLaws
-pub mod ObjectLaws
-pub mod EditLaws
-pub mod ListingLaws
+pub mod LoadLaws
+pub mod ReadLaws
+pub mod PutLaws
 pub mod RunLaws
+pub mod CallLaws

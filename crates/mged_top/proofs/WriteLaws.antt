@@ -3,8 +3,9 @@ use Rattle.std.proofs.Common.{map, ◌≡◌, ℕ, zero, suc, ◌<◌, ◌+◌, 
 use Rattle.std.proofs.lemmas.List.Concat.{flat_map-append}
 use Rattle.transcript.specs.Lines.{ended, text_of}
 use Rattle.transcript.specs.Transcript.{session_lines, sessions}
-use Rattle.mged_top.specs.Answers.{answers_at, core_answer, core_answers, all_session_lines}
-use Rattle.mged_top.specs.declared.answer.Answer.{Answer}
+use Rattle.session_run.specs.Answers.{core_answer}
+use Rattle.mged_top.specs.Answers.{answers_at, core_answers, all_session_lines}
+use Rattle.session_run.specs.declared.answer.Answer.{Answer}
 
 nth : (i : ℕ) → i < 8 → take (i + 1) sessions ≡ take i sessions ++ (i + 1) ∷ []
 nth zero lt = refl

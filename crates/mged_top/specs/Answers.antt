@@ -1,23 +1,16 @@
--- What the code keeps of a run, as the plain data of its definition.
-use Rattle.std.specs.Prelude.{ℕ, zero, suc, false, List, [], get_or, map, flat_map, take, Bool, is_err}
+-- The lists of a run's code as the plain data of its definition.
+use Rattle.std.specs.Prelude.{ℕ, zero, suc, List, [], get_or, map, flat_map, take, Bool, is_err}
 use Rattle.outside_core.specs.declared.traits.File.{File}
 use Rattle.transcript.specs.Merge.{Entry}
 use Rattle.transcript.specs.Run as run
 use Rattle.transcript.specs.Transcript.{session_lines, sessions}
 use Rattle.command_set.specs.declared.command.Command.{Command}
 use Rattle.directory.specs.Listing.{Listing}
-use Rattle.mged_top.specs.Replies.{shown}
-use Rattle.mged_top.specs.declared.answer.Answer.{Answer}
-use Rattle.mged_top.specs.declared.answer.Book.{Book}
-
-abbrev pub core_book : Book → run.Book Listing
-core_book book = record { directory = book.directory; version = book.version }
-
-abbrev pub core_answer : Answer → run.Answer File
-core_answer answer = record { version = answer.version; reply = shown answer.outcome }
-
-abbrev pub unmarked : Command → run.Marked Command
-unmarked command = record { command = command; memory = false }
+use Rattle.session_run.specs.Answers.{core_answer, core_book, unmarked}
+use Rattle.session_run.specs.Replies.{nothing_used}
+use Rattle.session_run.specs.declared.answer.Answer.{Answer}
+use Rattle.session_run.specs.declared.answer.Book.{Book}
+use Rattle.session_run.specs.declared.answer.Own.{Own}
 
 -- a command with its session, and without the mark that it was answered `memory`
 abbrev pub marked_entry : Entry Command → Entry (run.Marked Command)
@@ -31,14 +24,14 @@ answers_at lists (suc n) = get_or lists n []
 abbrev pub core_answers : List (List Answer) → ℕ → List (run.Answer File)
 core_answers lists session = map core_answer (answers_at lists session)
 
--- the bytes that each session has used, where the first number is that of session 1
-abbrev pub used_at : List ℕ → ℕ → ℕ
-used_at used zero = 0
-used_at used (suc n) = get_or used n 0
+-- what each session has of its own, where the first is session 1
+abbrev pub own_at : List Own → ℕ → Own
+own_at owns zero = nothing_used
+own_at owns (suc n) = get_or owns n nothing_used
 
 -- the state of the core
-abbrev pub core_state : Book → List ℕ → run.State Listing ℕ
-core_state book used = record { book = core_book book; own = used_at used }
+abbrev pub core_state : Book → List Own → run.State Listing Own
+core_state book owns = record { book = core_book book; own = own_at owns }
 
 abbrev pub is_refused : Answer → Bool
 is_refused answer = is_err answer.outcome

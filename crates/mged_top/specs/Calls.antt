@@ -1,110 +1,136 @@
--- What a call of the program has read and written, by its status. Content is told or kept to itself; None is
--- content that is not told, of which nothing is said.
-use Rattle.std.specs.Prelude.{◌≡◌, ◌++◌, ℕ, Bool, true, false, List, Option, Some, IfSome, Ok, Err}
-use Rattle.std.specs.Io.KnownBytes.{Appends, Consumes, IsAtEnd, Keeps}
+-- What each status says of a call, and which status comes.
+use Rattle.std.specs.Prelude.{◌≡◌, ◌⊎◌, ℕ, Bool, true, false, List, Some, is_some}
+use Rattle.std.specs.Option.{option_and_then}
+use Rattle.std.specs.Io.KnownBytes.{Appends}
 use Rattle.outside_core.specs.Faults.{Rose}
 use Rattle.outside_core.specs.Told.{Stays}
 use Rattle.outside_core.specs.Transfers.{IsCutShort}
 use Rattle.outside_core.specs.declared.traits.File.{File}
-use Rattle.transcript.specs.Merge.{Entry}
-use Rattle.command_set.specs.declared.command.Command.{Command}
-use Rattle.mged_words.specs.Scripts.{script_of}
-use Rattle.mged_words.specs.declared.script.ScriptFlaw.{ScriptFlaw}
-use Rattle.mged_words.specs.declared.script.ScriptFlaw.TheVariants.{Size, Lines, LongLine, Session}
-use Rattle.mged_top.specs.Outcomes.{IsLineOutcome}
-use Rattle.mged_top.specs.Replies.{no_objects}
+use Rattle.option_words.specs.Grammar.{asked_of}
+use Rattle.mged_top.specs.Courses.{Course, Stops, Runs, course_of}
+use Rattle.mged_top.specs.Outcomes.{AreTold, Ran, IsWritten}
+use Rattle.mged_top.specs.Outside.{Outside, IsQuiet, IsFaultless, IsUnwritten, AreCutShort}
 use Rattle.mged_top.specs.declared.status.Status.{Status}
-use Rattle.mged_top.specs.declared.status.Status.TheVariants.{Done, SomeRefused, Usage, ScriptRefused, ReadFault, WriteFault, Memory}
+use Rattle.mged_top.specs.declared.status.Status.TheVariants.{Done, SomeRefused, Usage, LoadRefused, ScriptRefused, ReadFault, WriteFault, Memory}
 
--- the source gave these bytes as the script, and has nothing left
-pub record WasRead (script : List ℕ) (left left' : Option (List ℕ)) : Type 0 where
-  pub given : Consumes left left' script
-  pub whole : IfSome left (λ all. script ≡ all)
-  pub end : IsAtEnd left'
-
--- the puts have grown by these files
-abbrev pub Added : Option (List File) → Option (List File) → List File → Type 0
-Added puts puts' files = IfSome puts (λ known. puts' ≡ Some (known ++ files))
-
--- The script was read, run and written: with the bytes by which the sink has grown and the files by which the
--- puts have grown, these are those of the plain evaluator on the script, merged by the order that the bytes'
--- first line prints.
-pub record IsTranscribed (some_refused : Bool) (left left' held held' : Option (List ℕ)) (puts puts' : Option (List File)) : Type 0 where
-  pub script : List ℕ
-  pub read : WasRead script left left'
-  pub commands : List (Entry Command)
-  pub grammar : script_of script ≡ Ok commands
-  pub bytes : List ℕ
-  pub written : Appends held held' bytes
+-- the words, the load file or the script is refused with this status; nothing is written
+pub record IsRefused (words : List (List ℕ)) (before after : Outside) (status : Status) : Type 0 where
   pub files : List File
-  pub added : Added puts puts' files
-  pub outcome : IsLineOutcome no_objects commands bytes files some_refused
-
--- The script was read and run, and the sink has grown by a proper prefix of a transcript as above. No file is
--- put.
-pub record IsCutTranscript (left left' held held' : Option (List ℕ)) (puts puts' : Option (List File)) : Type 0 where
   pub script : List ℕ
-  pub read : WasRead script left left'
-  pub commands : List (Entry Command)
-  pub grammar : script_of script ≡ Ok commands
+  pub told : AreTold before files script
+  pub course : course_of words files script ≡ Stops status
+  pub unwritten : IsUnwritten before after
+  pub quiet : IsQuiet before after
+
+-- the words are in the grammar
+abbrev pub AreUnderstood : List (List ℕ) → Type 0
+AreUnderstood words = is_some (asked_of words) ≡ true
+
+-- the words ask for a load file
+abbrev pub AskForFile : List (List ℕ) → Type 0
+AskForFile words = is_some (option_and_then (λ asked. asked.load) (asked_of words)) ≡ true
+
+-- a read of the source failed
+pub record IsSourceFault (words : List (List ℕ)) (before after : Outside) : Type 0 where
+  pub understood : AreUnderstood words
+  pub rose : Rose before.reads after.reads
+  pub calls : after.calls ≡ before.calls
+
+-- the read of a load file failed
+pub record IsLoadingFault (words : List (List ℕ)) (before after : Outside) : Type 0 where
+  pub asked : AskForFile words
+  pub rose : Rose before.calls after.calls
+  pub reads : after.reads ≡ before.reads
+
+-- a read failed; nothing is written
+pub record IsReadFault (words : List (List ℕ)) (before after : Outside) : Type 0 where
+  pub cause : IsSourceFault words before after ⊎ IsLoadingFault words before after
+  pub writes : after.writes ≡ before.writes
+  pub unwritten : IsUnwritten before after
+
+-- a write to the sink failed: it has grown by first bytes of the run's, not by all, and no file is put
+pub record IsTextCut (words : List (List ℕ)) (before after : Outside) : Type 0 where
   pub bytes : List ℕ
-  pub cut_short : IsCutShort held held' bytes
-  pub nothing_put : Stays puts puts'
   pub files : List File
   pub some_refused : Bool
-  pub outcome : IsLineOutcome no_objects commands bytes files some_refused
+  pub ran : Ran words before after bytes files some_refused
+  pub cut_short : IsCutShort before.held after.held bytes
+  pub files_stay : Stays before.files after.files
+  pub puts_stay : Stays before.puts after.puts
+  pub rose : Rose before.writes after.writes
+  pub reads : after.reads ≡ before.reads
+  pub calls : after.calls ≡ before.calls
 
--- the script's first fault is its size, or a line; for a line it was read whole
-abbrev pub HasFlaw : ScriptFlaw → Option (List ℕ) → Option (List ℕ) → Type 0
-HasFlaw Size left left' = IfSome left (λ script. script_of script ≡ Err Size)
-HasFlaw (Lines line) left left' = (script : List ℕ) × WasRead script left left' × (script_of script ≡ Err (Lines line))
-HasFlaw (LongLine line) left left' = (script : List ℕ) × WasRead script left left' × (script_of script ≡ Err (LongLine line))
-HasFlaw (Session line) left left' = (script : List ℕ) × WasRead script left left' × (script_of script ≡ Err (Session line))
+-- the sink has grown by the run's bytes, and the puts by first files of the run, not by all
+pub record AreFilesCut (words : List (List ℕ)) (before after : Outside) : Type 0 where
+  pub bytes : List ℕ
+  pub files : List File
+  pub some_refused : Bool
+  pub ran : Ran words before after bytes files some_refused
+  pub written : Appends before.held after.held bytes
+  pub cut_short : AreCutShort before.puts after.puts files
+  pub reads : after.reads ≡ before.reads
+  pub writes : after.writes ≡ before.writes
 
--- the clause on each status
-abbrev pub IsRun : Status → Option (List ℕ) → Option (List ℕ) → Option (List ℕ) → Option (List ℕ) → Option (List File) → Option (List File) → Type 0
-IsRun Done left left' held held' puts puts' = IsTranscribed false left left' held held' puts puts'
-IsRun SomeRefused left left' held held' puts puts' = IsTranscribed true left left' held held' puts puts'
-IsRun Usage left left' held held' puts puts' = Unit {0}
-IsRun (ScriptRefused flaw) left left' held held' puts puts' = Unit {0}
-IsRun ReadFault left left' held held' puts puts' = Unit {0}
-IsRun WriteFault left left' held held' puts puts' = Unit {0}
-IsRun Memory left left' held held' puts puts' = Unit {0}
+-- a write failed: one to the sink, or the put of a file
+abbrev pub IsWriteFault : List (List ℕ) → Outside → Outside → Type 0
+IsWriteFault words before after = IsTextCut words before after ⊎ (AreFilesCut words before after × Rose before.calls after.calls)
 
-abbrev pub IsFlawed : Status → Option (List ℕ) → Option (List ℕ) → Type 0
-IsFlawed (ScriptRefused flaw) left left' = HasFlaw flaw left left'
-IsFlawed Done left left' = Unit {0}
-IsFlawed SomeRefused left left' = Unit {0}
-IsFlawed Usage left left' = Unit {0}
-IsFlawed ReadFault left left' = Unit {0}
-IsFlawed WriteFault left left' = Unit {0}
-IsFlawed Memory left left' = Unit {0}
+-- there was no memory: before anything was written, or for the put of a file
+abbrev pub IsWantOfMemory : List (List ℕ) → Outside → Outside → Type 0
+IsWantOfMemory words before after = IsQuiet before after × (IsUnwritten before after ⊎ AreFilesCut words before after)
 
-abbrev pub WritesNothing : Status → Option (List ℕ) → Option (List ℕ) → Option (List File) → Option (List File) → Type 0
-WritesNothing Done held held' puts puts' = Unit {0}
-WritesNothing SomeRefused held held' puts puts' = Unit {0}
-WritesNothing Usage held held' puts puts' = Keeps held held' × Stays puts puts'
-WritesNothing (ScriptRefused flaw) held held' puts puts' = Keeps held held' × Stays puts puts'
-WritesNothing ReadFault held held' puts puts' = Keeps held held' × Stays puts puts'
-WritesNothing WriteFault held held' puts puts' = Unit {0}
-WritesNothing Memory held held' puts puts' = Keeps held held' × Stays puts puts'
+-- what each status says
+abbrev pub Explains : Status → List (List ℕ) → Outside → Outside → Type 0
+Explains Done words before after = IsWritten words before after false
+Explains SomeRefused words before after = IsWritten words before after true
+Explains Usage words before after = IsRefused words before after Usage
+Explains (LoadRefused fault) words before after = IsRefused words before after (LoadRefused fault)
+Explains (ScriptRefused flaw) words before after = IsRefused words before after (ScriptRefused flaw)
+Explains ReadFault words before after = IsReadFault words before after
+Explains WriteFault words before after = IsWriteFault words before after
+Explains Memory words before after = IsWantOfMemory words before after
 
--- no word is given, the script is told and is within its grammar, and no count of faults has risen
-pub record IsSound (words : ℕ) (left : Option (List ℕ)) (read read' wrote wrote' : ℕ) : Type 0 where
-  pub no_words : words ≡ 0
-  pub script : List ℕ
-  pub told : left ≡ Some script
-  pub commands : List (Entry Command)
-  pub grammar : script_of script ≡ Ok commands
-  pub reads : ¬ Rose read read'
-  pub writes : ¬ Rose wrote wrote'
+-- the statuses of a run that is read and written whole
+abbrev pub IsRunStatus : Status → Type 0
+IsRunStatus Done = Unit {0}
+IsRunStatus SomeRefused = Unit {0}
+IsRunStatus Usage = ⊥
+IsRunStatus (LoadRefused fault) = ⊥
+IsRunStatus (ScriptRefused flaw) = ⊥
+IsRunStatus ReadFault = ⊥
+IsRunStatus WriteFault = ⊥
+IsRunStatus Memory = ⊥
 
--- the transcript is written, or there was no memory
-abbrev pub IsAnswered : Status → Type 0
-IsAnswered Done = Unit {0}
-IsAnswered SomeRefused = Unit {0}
-IsAnswered Usage = ⊥
-IsAnswered (ScriptRefused flaw) = ⊥
-IsAnswered ReadFault = ⊥
-IsAnswered WriteFault = ⊥
-IsAnswered Memory = Unit {0}
+-- the status that a course comes to, where all is read and written
+abbrev pub ComesTo : Course → Status → Type 0
+ComesTo (Stops due) status = status ≡ due
+ComesTo (Runs start commands) status = IsRunStatus status
+
+-- where the files and the script are told and no call failed, the status is that of their course, or there was no memory
+abbrev pub IsComplete : Status → List (List ℕ) → Outside → Outside → Type 0
+IsComplete status words before after =
+    (files : List File) (script : List ℕ) → before.files ≡ Some files → before.left ≡ Some script → IsFaultless before after
+    → (status ≡ Memory) ⊎ ComesTo (course_of words files script) status
+
+-- the call ends before the script is asked for
+abbrev pub IsBeforeScript : Status → Type 0
+IsBeforeScript Done = ⊥
+IsBeforeScript SomeRefused = ⊥
+IsBeforeScript Usage = Unit {0}
+IsBeforeScript (LoadRefused fault) = Unit {0}
+IsBeforeScript (ScriptRefused flaw) = ⊥
+IsBeforeScript ReadFault = ⊥
+IsBeforeScript WriteFault = ⊥
+IsBeforeScript Memory = ⊥
+
+-- the call ends before commands are run
+abbrev pub IsBeforeRun : Status → Type 0
+IsBeforeRun Done = ⊥
+IsBeforeRun SomeRefused = ⊥
+IsBeforeRun Usage = Unit {0}
+IsBeforeRun (LoadRefused fault) = Unit {0}
+IsBeforeRun (ScriptRefused flaw) = Unit {0}
+IsBeforeRun ReadFault = Unit {0}
+IsBeforeRun WriteFault = ⊥
+IsBeforeRun Memory = ⊥

@@ -1,18 +1,52 @@
--- What the bytes and the files are, until sessions run at once: commands are run in the order of the lines.
-use Rattle.std.specs.Prelude.{◌≡◌, ℕ, Bool, false, List, map}
+-- What a call read, and what its run wrote.
+use Rattle.std.specs.Prelude.{◌≡◌, ℕ, Bool, false, List, map, IfSome}
 use Rattle.std.specs.List.{list_any}
+use Rattle.std.specs.Io.KnownBytes.{Appends, Consumes, IsAtEnd}
 use Rattle.outside_core.specs.declared.traits.File.{File}
 use Rattle.transcript.specs.Merge.{Entry, lane}
-use Rattle.transcript.specs.Reading.{order_in, marks_in}
 use Rattle.transcript.specs.Outcome.{IsOutcome}
+use Rattle.transcript.specs.Reading.{order_in, marks_in}
 use Rattle.command_set.specs.declared.command.Command.{Command}
 use Rattle.directory.specs.Listing.{Listing}
 use Rattle.mged_words.specs.Entries.{session_of}
-use Rattle.mged_top.specs.Replies.{core_rules, start_from}
+use Rattle.session_run.specs.Replies.{core_rules, start_from}
+use Rattle.mged_top.specs.Courses.{Runs, course_of}
+use Rattle.mged_top.specs.Outside.{Outside, IsQuiet, Added}
 
--- The bytes and files are those of the plain evaluator on the script, merged by the order that the first line
--- prints; this order is that of the lines, and no command is answered `memory`.
-pub record IsLineOutcome (start : Listing) (script : List (Entry Command)) (bytes : List ℕ) (files : List File) (some_refused : Bool) : Type 0 where
-  pub outcome : IsOutcome core_rules (start_from start) (lane script) bytes files some_refused
-  pub in_line_order : order_in bytes ≡ map session_of script
+-- the files are those of the shelf and the script is what the source had left, where they are told
+pub record AreTold (before : Outside) (files : List File) (script : List ℕ) : Type 0 where
+  pub files_told : IfSome before.files (λ told. files ≡ told)
+  pub script_told : IfSome before.left (λ told. script ≡ told)
+
+-- The words, the files and the script, which was read to its end, come to this directory at the start and to these
+-- commands.
+pub record AreInputs (words : List (List ℕ)) (before after : Outside) (start : Listing) (commands : List (Entry Command)) : Type 0 where
+  pub files : List File
+  pub script : List ℕ
+  pub told : AreTold before files script
+  pub course : course_of words files script ≡ Runs start commands
+  pub read : Consumes before.left after.left script
+  pub end : IsAtEnd after.left
+
+-- the order that the bytes print is that of the lines, and no command is answered `memory`
+pub record IsInLineOrder (commands : List (Entry Command)) (bytes : List ℕ) : Type 0 where
+  pub order : order_in bytes ≡ map session_of commands
   pub unmarked : (session : ℕ) → list_any (λ m. m) (marks_in bytes session) ≡ false
+
+-- The bytes and files are those of the plain evaluator on the inputs, merged by the order that the first line prints.
+-- Until sessions run at once, this is the order of the lines.
+pub record Ran (words : List (List ℕ)) (before after : Outside) (bytes : List ℕ) (files : List File) (some_refused : Bool) : Type 0 where
+  pub start : Listing
+  pub commands : List (Entry Command)
+  pub inputs : AreInputs words before after start commands
+  pub outcome : IsOutcome core_rules (start_from start) (lane commands) bytes files some_refused
+  pub in_line_order : IsInLineOrder commands bytes
+
+-- the run is written whole: the sink has grown by its bytes, and the puts by its files
+pub record IsWritten (words : List (List ℕ)) (before after : Outside) (some_refused : Bool) : Type 0 where
+  pub bytes : List ℕ
+  pub files : List File
+  pub ran : Ran words before after bytes files some_refused
+  pub written : Appends before.held after.held bytes
+  pub added : Added before.puts after.puts files
+  pub quiet : IsQuiet before after

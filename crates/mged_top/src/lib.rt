@@ -1,11 +1,13 @@
-//! The top call: reads a script, runs its commands, and writes the transcript.
+//! The top call: reads the words, a model and a script, runs its commands, and writes the transcript and the files.
 #![tactic(auto)]
 
-mod answer;
+mod load;
 mod main_call;
+mod put;
+mod read;
 mod run;
 mod status;
 
-pub use answer::{Answer, Book, MOST_USED};
+pub use load::{LOAD_SIZE, limit_laws};
 pub use main_call::mged_main;
-pub use status::{Status, StatusText};
+pub use status::{LoadFault, Status, StatusText};

@@ -1,19 +1,51 @@
 //! The call that is the program.
-ghost use Rattle.std.specs.Prelude.{◌≡◌, ◌≢◌, ◌<◌, ◌↔◌, vec_len};
-ghost use Rattle.outside_core.specs.Faults.{Rose};
-ghost use Rattle.outside_core.specs.Told.{Advances};
-ghost use Rattle.mged_top.specs.Calls.{IsRun, IsFlawed, IsCutTranscript, IsSound, IsAnswered, WritesNothing};
+ghost use Rattle.std.specs.Prelude.{◌≡◌, ◌≤◌, All, None, map, string_bytes, vec_len};
+ghost use Rattle.mged_top.specs.Calls.{Explains, IsComplete, IsBeforeScript, IsBeforeRun};
+ghost use Rattle.mged_top.specs.Outside.{outside};
+ghost use Rattle.mged_top.specs.Stages.{Writes, run_status, files_among};
 
-use crate::run::run_script;
+use crate::load::load;
+use crate::put::put_files;
+use crate::read::read_commands;
+use crate::run::{Run, run_script};
 use crate::status::Status;
-use item_list::Items;
-use mged_words::{SCRIPT_SIZE, ScriptCommand, ScriptFault, ScriptFlaw, read_script};
-use outside_core::{Gate, ReadStop, Shelf, Sink, Source, read_all, write_all};
+use option_words::{OptionsFault, read_options};
+use outside_core::{Gate, Shelf, ShelfFault, Sink, Source, write_all};
 use std::alloc::Global;
 
-/// Reads a script from the source, runs its commands in the order of its lines, and writes the transcript to
-/// the sink. `words` are the words after the program's name, of which none is understood yet. Shelf and gate
-/// are left alone.
+/// The status of a run that is written whole.
+fn run_status(some_refused: bool) -> Status
+    ensures { result ≡ run_status some_refused }
+{
+    if some_refused {
+        Status::SomeRefused
+    } else {
+        Status::Done
+    }
+}
+
+/// Writes the transcript of a run to the sink, and then puts its files. It takes no memory of its own, and stops at the first
+/// fault.
+fn write_run<K: Sink, F: Shelf>(sink: &mut K, shelf: &mut F, run: &Run) -> Status
+    requires sessions { All (λ d. (1 ≤ d) × (d ≤ 8)) run.now.order.items }
+    requires eight { vec_len run.now.answers ≡ 8 }
+    ensures { Writes result run.now.text.items (files_among run.now.order.items run.now.answers.items) run.now.some_refused
+        (outside None (K.held sink.old) (F.files shelf.old) (F.puts shelf.old) 0 (K.faults sink.old) (F.faults shelf.old))
+        (outside None (K.held sink.new) (F.files shelf.new) (F.puts shelf.new) 0 (K.faults sink.new) (F.faults shelf.new)) }
+{
+    if write_all(sink, &run.text).is_err() {
+        return Status::WriteFault;
+    }
+    match put_files(shelf, &run.order, &run.answers) {
+        Ok(()) => run_status(run.some_refused),
+        Err(ShelfFault::Failed) => Status::WriteFault,
+        Err(ShelfFault::Memory) => Status::Memory,
+    }
+}
+
+/// Reads the words, the model that they ask for and the script, runs its commands in the order of its lines, and writes the
+/// transcript to the sink and the files to the shelf. `words` are those after the program's name: `--load NAME` or none.
+/// The first of the words, the load file and the script that is refused ends the call with its status.
 pub fn mged_main<R: AllocGlobal, S: Source, K: Sink, F: Shelf, G: Gate + Sync>(
     rt: &R,
     words: &Vec<String>,
@@ -22,44 +54,32 @@ pub fn mged_main<R: AllocGlobal, S: Source, K: Sink, F: Shelf, G: Gate + Sync>(
     shelf: &mut F,
     gate: &G,
 ) -> Status
-    ensures transcript { IsRun result (S.left source.old) (S.left source.new) (K.held sink.old) (K.held sink.new) (F.puts shelf.old) (F.puts shelf.new) }
-    ensures usage { (result ≡ Status.Usage) ↔ (0 < vec_len words.now) }
-    ensures script_refused { IsFlawed result (S.left source.old) (S.left source.new) }
-    ensures read_fault { result ≡ Status.ReadFault → Rose (S.faults source.old) (S.faults source.new) }
-    ensures write_fault { result ≡ Status.WriteFault → Rose (K.faults sink.old) (K.faults sink.new) }
-    ensures cut_short { result ≡ Status.WriteFault → IsCutTranscript (S.left source.old) (S.left source.new) (K.held sink.old) (K.held sink.new) (F.puts shelf.old) (F.puts shelf.new) }
-    ensures nothing_written { WritesNothing result (K.held sink.old) (K.held sink.new) (F.puts shelf.old) (F.puts shelf.new) }
-    ensures advances { Advances (S.left source.old) (S.left source.new) }
-    ensures unread { result ≡ Status.Usage → source.new ≡ source.old }
-    ensures source_steady { result ≢ Status.ReadFault → S.faults source.new ≡ S.faults source.old }
-    ensures sink_steady { result ≢ Status.WriteFault → K.faults sink.new ≡ K.faults sink.old }
-    ensures complete { IsSound (vec_len words.now) (S.left source.old) (S.faults source.old) (S.faults source.new) (K.faults sink.old) (K.faults sink.new) → IsAnswered result }
-    ensures shelf_steady { shelf.new ≡ shelf.old }
+    ensures explained { Explains result (map string_bytes words.now.items)
+        (outside (S.left source.old) (K.held sink.old) (F.files shelf.old) (F.puts shelf.old) (S.faults source.old) (K.faults sink.old) (F.faults shelf.old))
+        (outside (S.left source.new) (K.held sink.new) (F.files shelf.new) (F.puts shelf.new) (S.faults source.new) (K.faults sink.new) (F.faults shelf.new)) }
+    ensures complete { IsComplete result (map string_bytes words.now.items)
+        (outside (S.left source.old) (K.held sink.old) (F.files shelf.old) (F.puts shelf.old) (S.faults source.old) (K.faults sink.old) (F.faults shelf.old))
+        (outside (S.left source.new) (K.held sink.new) (F.files shelf.new) (F.puts shelf.new) (S.faults source.new) (K.faults sink.new) (F.faults shelf.new)) }
+    ensures unread { IsBeforeScript result → source.new ≡ source.old }
+    ensures unasked { result ≡ Status.Usage → shelf.new ≡ shelf.old }
+    ensures unwritten { IsBeforeRun result → sink.new ≡ sink.old }
 {
     let alloc = rt.alloc();
-    if !words.is_empty() {
-        return Status::Usage;
-    }
-    let script = match read_all(alloc, source, SCRIPT_SIZE) {
-        Ok(script) => script,
-        Err(ReadStop::TooLong) => return Status::ScriptRefused(ScriptFlaw::Size),
-        Err(ReadStop::Failed) => return Status::ReadFault,
-        Err(ReadStop::Memory) => return Status::Memory,
+    let options = match read_options(alloc, words) {
+        Ok(options) => options,
+        Err(OptionsFault::Usage) => return Status::Usage,
+        Err(OptionsFault::Memory) => return Status::Memory,
     };
-    let commands = match read_script(alloc, &script) {
+    let directory = match load(alloc, shelf, options.load) {
+        Ok(directory) => directory,
+        Err(stop) => return stop.status(),
+    };
+    let commands = match read_commands(alloc, source) {
         Ok(commands) => commands,
-        Err(ScriptFault::At(flaw)) => return Status::ScriptRefused(flaw),
-        Err(ScriptFault::Memory) => return Status::Memory,
+        Err(stop) => return stop.status(),
     };
-    let Ok(outcome) = run_script(alloc, commands.items()) else {
+    let Ok(run) = run_script(alloc, directory, commands.items()) else {
         return Status::Memory;
     };
-    if write_all(sink, &outcome.text).is_err() {
-        return Status::WriteFault;
-    }
-    if outcome.some_refused {
-        Status::SomeRefused
-    } else {
-        Status::Done
-    }
+    write_run(sink, shelf, &run)
 }

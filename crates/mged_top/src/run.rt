@@ -7,26 +7,29 @@ ghost use Rattle.transcript.specs.Run.{run_of, stepped, answered};
 ghost use Rattle.transcript.specs.Transcript.{answer_lines, session_lines, transcript};
 ghost use Rattle.mged_words.specs.Entries.{HasSession, command_entry, session_of};
 ghost use Rattle.mged_words.specs.Readable.{IsReadable};
-ghost use Rattle.mged_top.specs.Answers.{core_answer, core_answers, core_state, marked_entry, is_refused, all_session_lines};
-ghost use Rattle.mged_top.specs.Outcomes.{IsLineOutcome};
-ghost use Rattle.mged_top.specs.Replies.{core_rules, most_used, no_objects, used_after};
+ghost use Rattle.mged_top.specs.Answers.{core_answers, core_state, marked_entry, is_refused, all_session_lines};
+ghost use Rattle.mged_top.specs.Stages.{IsRun};
+ghost use Rattle.session_run.specs.Answers.{core_answer};
+ghost use Rattle.session_run.specs.Replies.{core_rules, most_used};
 
-use crate::answer::{Answer, Book, answer_command};
-use command_set::{Refusal, RefusalText};
-use directory::Directory;
+use command_set::RefusalText;
+use directory::{Directory, recall_entries};
 use item_list::Items;
 use memory_core::Memory;
 use mged_words::ScriptCommand;
-use report_text::Body;
+use session_run::{Answer, Book, Own, answer_command};
 use std::alloc::Global;
 use std::vec::Vec;
 use transcript::{push_accepted, push_order, push_refused};
 
-/// What a run leaves: its transcript, and whether a command is refused.
+/// What a run leaves: its transcript, the sessions in the order of its commands, the answers of each session, and whether a
+/// command is refused.
 #[derive(Drop)]
-pub struct Outcome {
-    pub text: Vec<u8>,
-    pub some_refused: bool,
+pub(crate) struct Run {
+    pub(crate) text: Vec<u8>,
+    pub(crate) order: Vec<u8>,
+    pub(crate) answers: Vec<Items<Answer>>,
+    pub(crate) some_refused: bool,
 }
 
 /// Puts an answer at the end of a session's list.
@@ -40,40 +43,28 @@ fn keep_answer(answers: &mut Vec<Items<Answer>>, session: u8, answer: Answer) ->
     Ok(())
 }
 
-/// The bytes that a session has used after an answer.
-fn used_with(used: u64, outcome: &Result<Body, Refusal>) -> u64
-    requires { used_after used outcome.now ≤ most_used }
-    ensures { result ≡ used_after used outcome.now }
-{
-    match outcome {
-        Ok(body) => used + body.text().len() as u64,
-        Err(_) => used,
-    }
-}
-
-/// Answers the next command. `used` has the bytes that each session has used.
+/// Answers the next command. `owns` has what each session has of its own.
 fn run_command(
     alloc: Global,
     book: &mut Book,
-    used: &mut [u64],
+    owns: &mut [Own],
     answers: &mut Vec<Items<Answer>>,
     next: &ScriptCommand,
 ) -> Result<(), Memory>
     requires session { HasSession (command_entry next.now) }
-    requires numbers { length used.old ≡ 8 }
-    requires quota { All (λ n. n ≤ most_used) used.old }
+    requires numbers { length owns.old ≡ 8 }
+    requires quota { All (λ own. own.used ≤ most_used) owns.old }
     requires eight { vec_len answers.old ≡ 8 }
     requires small { book.old.version + 1 < 2 ^ 32 }
-    ensures numbers { length used.new ≡ 8 }
-    ensures quota { All (λ n. n ≤ most_used) used.new }
+    ensures numbers { length owns.new ≡ 8 }
+    ensures quota { All (λ own. own.used ≤ most_used) owns.new }
     ensures eight { vec_len answers.new ≡ 8 }
     ensures small { book.new.version ≤ book.old.version + 1 }
-    ensures state { OnOk result (core_state book.new used.new ≡ stepped core_rules (core_state book.old used.old) (marked_entry (command_entry next.now))) }
-    ensures kept { OnOk result ((k : ℕ) → core_answers answers.new.items k ≡ core_answers answers.old.items k ++ lane (answered core_rules (core_state book.old used.old) (marked_entry (command_entry next.now)) ∷ []) k) }
+    ensures state { OnOk result (core_state book.new owns.new ≡ stepped core_rules (core_state book.old owns.old) (marked_entry (command_entry next.now))) }
+    ensures kept { OnOk result ((k : ℕ) → core_answers answers.new.items k ≡ core_answers answers.old.items k ++ lane (answered core_rules (core_state book.old owns.old) (marked_entry (command_entry next.now)) ∷ []) k) }
 {
     let place = usize::from(next.session - 1);
-    let answer = answer_command(alloc, book, used[place], &next.command)?;
-    used[place] = used_with(used[place], &answer.outcome);
+    let answer = answer_command(alloc, book, &mut owns[place], &next.command)?;
     keep_answer(answers, next.session, answer)
 }
 
@@ -81,21 +72,21 @@ fn run_command(
 fn run_commands(
     alloc: Global,
     book: &mut Book,
-    used: &mut [u64],
+    owns: &mut [Own],
     answers: &mut Vec<Items<Answer>>,
     script: &[ScriptCommand],
 ) -> Result<(), Memory>
     requires sessions { All HasSession (map command_entry script.now) }
     requires few { length script.now + 1 < 2 ^ 32 }
-    requires numbers { length used.old ≡ 8 }
-    requires quota { All (λ n. n ≤ most_used) used.old }
+    requires numbers { length owns.old ≡ 8 }
+    requires quota { All (λ own. own.used ≤ most_used) owns.old }
     requires eight { vec_len answers.old ≡ 8 }
     requires fresh { book.old.version ≡ 0 }
     ensures eight { vec_len answers.new ≡ 8 }
-    ensures answered { OnOk result ((k : ℕ) → core_answers answers.new.items k ≡ core_answers answers.old.items k ++ lane (run_of core_rules (core_state book.old used.old) (map marked_entry (map command_entry script.now))) k) }
+    ensures answered { OnOk result ((k : ℕ) → core_answers answers.new.items k ≡ core_answers answers.old.items k ++ lane (run_of core_rules (core_state book.old owns.old) (map marked_entry (map command_entry script.now))) k) }
 {
     for next in script {
-        run_command(alloc, book, used, answers, next)?;
+        run_command(alloc, book, owns, answers, next)?;
     }
     Ok(())
 }
@@ -139,7 +130,7 @@ fn push_answer(text: &mut Vec<u8>, session: u8, number: u32, answer: &Answer) ->
     ensures { OnOk result (text.new.items ≡ text.old.items ++ text_of (answer_lines session number (core_answer answer.now))) }
 {
     match &answer.outcome {
-        Ok(body) => push_accepted(text, session, number, answer.version, body),
+        Ok(found) => push_accepted(text, session, number, answer.version, &found.body),
         Err(refusal) => {
             let mut words = RefusalText::new();
             refusal.write_text(&mut words);
@@ -187,22 +178,33 @@ fn write_transcript(alloc: Global, order: &[u8], lists: &[Items<Answer>]) -> Res
     Ok(text)
 }
 
-/// Runs a script, in the order of its lines, from the empty directory.
-pub fn run_script(alloc: Global, script: &[ScriptCommand]) -> Result<Outcome, Memory>
+/// Runs a script, in the order of its lines, from a directory.
+pub(crate) fn run_script(
+    alloc: Global,
+    directory: Directory,
+    script: &[ScriptCommand],
+) -> Result<Run, Memory>
     requires sessions { All HasSession (map command_entry script.now) }
     requires readable { All IsReadable (map command_entry script.now) }
     requires few { length script.now + 1 < 2 ^ 32 }
-    ensures { IfOk result (λ o. IsLineOutcome no_objects (map command_entry script.now) o.text.items [] o.some_refused) }
+    ensures run { IfOk result (λ r. IsRun directory (map command_entry script.now) r.text.items r.order.items r.answers.items r.some_refused) }
+    ensures eight { IfOk result (λ r. vec_len r.answers ≡ 8) }
 {
+    recall_entries(&directory);
     let mut book = Book {
-        directory: Directory::new(alloc),
+        directory,
         version: 0,
     };
-    let mut used = [0; 8];
+    let mut owns = [Own { used: 0 }; 8];
     let mut answers = no_answers(alloc)?;
-    run_commands(alloc, &mut book, &mut used, &mut answers, script)?;
+    run_commands(alloc, &mut book, &mut owns, &mut answers, script)?;
     let order = line_order(alloc, script)?;
     let text = write_transcript(alloc, &order, &answers)?;
     let some_refused = is_refused_among(&answers);
-    Ok(Outcome { text, some_refused })
+    Ok(Run {
+        text,
+        order,
+        answers,
+        some_refused,
+    })
 }

@@ -1,8 +1,22 @@
+//! How a call of the program ends: its number and its line.
 ghost use Rattle.std.specs.Prelude.{◌≡◌, ◌≤◌, ◌+◌, ◌++◌, codes, decimal, length};
-ghost use Rattle.mged_top.specs.Statuses.{exit_number, flaw_text, status_line};
+ghost use Rattle.mged_top.specs.Statuses.{exit_number, flaw_text, kind_text, load_text, status_line};
 
+use asc_form::AscKind;
 use fixed_text::FixedText;
 use mged_words::ScriptFlaw;
+use name_core::Name;
+
+/// Why a model is not loaded.
+#[derive(Clone, Copy, Debug, PartialEq, Eq)]
+pub enum LoadFault {
+    /// There is no file of this name.
+    NoFile(Name),
+    /// The file has over 16,777,216 bytes.
+    Size,
+    /// The first faulty command of the file begins on this line, counted from 1.
+    At { line: u32, kind: AscKind },
+}
 
 /// How a call of the program ended.
 #[derive(Clone, Copy, Debug, PartialEq, Eq)]
@@ -13,13 +27,16 @@ pub enum Status {
     SomeRefused,
     /// The words of the command line are not understood. Nothing is read or written.
     Usage,
+    /// The load file is refused. The script is not read, and nothing is written.
+    LoadRefused(LoadFault),
     /// The script is refused. Nothing is written.
     ScriptRefused(ScriptFlaw),
     /// A read failed. Nothing is written.
     ReadFault,
-    /// A write failed. The sink holds first bytes of the transcript, not all.
+    /// A write failed. Where it was one to the sink, this holds first bytes of the transcript, not all, and no file is put;
+    /// where it was the put of a file, the transcript is held whole, and first files are put, not all.
     WriteFault,
-    /// There was no memory. Nothing is written.
+    /// There was no memory. Nothing is written, or the transcript is held whole and first files are put, not all.
     Memory,
 }
 
@@ -49,6 +66,40 @@ fn push_flaw(flaw: &ScriptFlaw, out: &mut StatusText)
     }
 }
 
+/// The kind of a fault in lower case.
+fn kind_text(kind: AscKind) -> &'static [u8]
+    ensures { result.now ≡ kind_text kind }
+{
+    match kind {
+        AscKind::Words => b" words",
+        AscKind::NoType => b" type",
+        AscKind::Attr => b" attr",
+        AscKind::Tree => b" tree",
+        AscKind::Name => b" name",
+        AscKind::Number => b" number",
+        AscKind::Shape => b" shape",
+        AscKind::Exists => b" exists",
+        AscKind::Full => b" full",
+        AscKind::Cycle => b" cycle",
+        AscKind::Deep => b" deep",
+    }
+}
+
+/// Puts why a model is not loaded at the end.
+fn push_load(fault: &LoadFault, out: &mut StatusText)
+    requires { length out.old ≤ 24 }
+    ensures { out.new ≡ out.old ++ load_text fault.now }
+{
+    match fault {
+        LoadFault::NoFile(name) => {
+            out.push(b"missing ");
+            out.push(name.bytes());
+        }
+        LoadFault::Size => out.push(b"size"),
+        LoadFault::At { line, kind } => push_line(*line, kind_text(*kind), out),
+    }
+}
+
 impl Status {
     /// The number with which the program ends.
     pub fn number(&self) -> u8
@@ -58,6 +109,7 @@ impl Status {
             Status::Done => 0,
             Status::SomeRefused => 1,
             Status::Usage => 2,
+            Status::LoadRefused(_) => 3,
             Status::ScriptRefused(_) => 4,
             Status::ReadFault => 5,
             Status::WriteFault => 6,
@@ -74,6 +126,10 @@ impl Status {
         match self {
             Status::Done | Status::SomeRefused => {}
             Status::Usage => out.push(b"mgedrt: usage"),
+            Status::LoadRefused(fault) => {
+                out.push(b"mgedrt: load ");
+                push_load(fault, out);
+            }
             Status::ScriptRefused(flaw) => {
                 out.push(b"mgedrt: script ");
                 push_flaw(flaw, out);

@@ -1,7 +1,7 @@
 use Rattle.std.proofs.Common.{◌≡◌, ◌++◌, ◌+◌, drop, map}
 use Rattle.transcript.specs.Lines.{text_of}
 use Rattle.transcript.specs.Transcript.{session_lines}
-use Rattle.mged_top.specs.Answers.{core_answer}
+use Rattle.session_run.specs.Answers.{core_answer}
 use Rattle.mged_top.proofs.run.push_session.Given as goal
 
 abbrev pub invariant-loop-answer : goal.invariant-loop-answer

@@ -2,7 +2,8 @@ use Rattle.std.proofs.Common.{◌≡◌, ◌<◌, ◌++◌, ◌+◌, ◌∙◌, 
 use Rattle.std.proofs.lemmas.List.{get_or_read}
 use Rattle.transcript.specs.Lines.{text_of}
 use Rattle.transcript.specs.Transcript.{session_lines}
-use Rattle.mged_top.specs.Answers.{core_answer, all_session_lines}
+use Rattle.session_run.specs.Answers.{core_answer}
+use Rattle.mged_top.specs.Answers.{all_session_lines}
 use Rattle.mged_top.proofs.WriteLaws.{sessions_more}
 use Rattle.mged_top.proofs.run.push_sessions.Goals as goal
 

@@ -6,8 +6,9 @@ use Rattle.command_set.specs.declared.command.Command.{Command}
 use Rattle.directory.specs.Listing.{Listing}
 use Rattle.mged_words.specs.Entries.{HasSession, command_entry}
 use Rattle.mged_words.specs.declared.command.ScriptCommand.{ScriptCommand}
+use Rattle.session_run.specs.declared.answer.Own.{Own}
 use Rattle.mged_top.specs.Answers.{core_answers, core_state, marked_entry}
-use Rattle.mged_top.specs.Replies.{core_rules}
+use Rattle.session_run.specs.Replies.{core_rules}
 use Rattle.mged_top.proofs.RunLaws.{rest_more}
 use Rattle.mged_top.proofs.run.run_commands.Goals as goal
 
@@ -26,7 +27,7 @@ loop-next-preserved c =
     let i : ℕ = c.loop-next.next-index in
     let next : ScriptCommand = c.next-item.result in
     let lt : i < length script = omega arith in
-    let s : State Listing ℕ = core_state c.loop-next.book c.loop-next.used in
+    let s : State Listing Own = core_state c.loop-next.book c.loop-next.owns in
     let rest : List (Entry (Marked Command)) = map marked_entry (map command_entry (drop (i + 1) script)) in
     let cut : map marked_entry (map command_entry (drop i script)) ≡ marked_entry (command_entry next) ∷ rest =
     ap (λ (xs : List ScriptCommand). map marked_entry (map command_entry xs)) (drop_more script i next lt) ∙ ap (λ (x : ScriptCommand). marked_entry (command_entry x) ∷ rest) (sym c.next-item.is) in
@@ -36,7 +37,7 @@ loop-next-preserved c =
       eight = c.in_ok-run_command.ensures.eight;
       version = omega (arith, c.in_ok-run_command.ensures.small, c.loop-next.invariant.version);
       rest = λ k.
-          rest_more s (core_state c.run_command.new.book c.run_command.new.used) (marked_entry (command_entry next)) rest (core_answers c.loop-next.answers.items k) (core_answers c.run_command.new.answers.items k) k
+          rest_more s (core_state c.run_command.new.book c.run_command.new.owns) (marked_entry (command_entry next)) rest (core_answers c.loop-next.answers.items k) (core_answers c.run_command.new.answers.items k) k
           c.in_ok-run_command.ensures.state (c.in_ok-run_command.ensures.kept k)
           ∙ ap (λ (es : List (Entry (Marked Command))). core_answers c.loop-next.answers.items k ++ lane (run_of core_rules s es) k) (sym cut)
           ∙ c.loop-next.invariant.rest k;

@@ -2,16 +2,17 @@ use Rattle.std.proofs.Common.{◌≡◌, ◌≤◌, ◌++◌, ℕ, All, drop, le
 use Rattle.transcript.specs.Merge.{lane}
 use Rattle.transcript.specs.Run.{run_of}
 use Rattle.mged_words.specs.Entries.{command_entry}
+use Rattle.session_run.specs.declared.answer.Own.{Own}
 use Rattle.mged_top.specs.Answers.{core_answers, core_state, marked_entry}
-use Rattle.mged_top.specs.Replies.{core_rules, most_used}
+use Rattle.session_run.specs.Replies.{core_rules, most_used}
 use Rattle.mged_top.proofs.run.run_commands.Given as goal
 
 abbrev pub invariant-loop-next : goal.invariant-loop-next
 invariant-loop-next l = record {
-  numbers : length l.used ≡ 8;
-  quota : All (λ n. n ≤ most_used) l.used;
+  numbers : length l.owns ≡ 8;
+  quota : All (λ (own : Own). own.used ≤ most_used) l.owns;
   eight : vec_len l.answers ≡ 8;
   version : l.book.version ≤ l.next-index;
-  rest : (k : ℕ) → core_answers l.answers.items k ++ lane (run_of core_rules (core_state l.book l.used) (map marked_entry (map command_entry (drop l.next-index l.script)))) k
-      ≡ core_answers l.initial.answers.items k ++ lane (run_of core_rules (core_state l.initial.book l.initial.used) (map marked_entry (map command_entry l.script))) k;
+  rest : (k : ℕ) → core_answers l.answers.items k ++ lane (run_of core_rules (core_state l.book l.owns) (map marked_entry (map command_entry (drop l.next-index l.script)))) k
+      ≡ core_answers l.initial.answers.items k ++ lane (run_of core_rules (core_state l.initial.book l.initial.owns) (map marked_entry (map command_entry l.script))) k;
 }

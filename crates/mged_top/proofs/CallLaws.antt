@@ -1,0 +1,303 @@
+-- What a call says, put together from what its stages give.
+use Rattle.std.proofs.Common.{◌≡◌, ◌≢◌, ◌∙◌, ◌⊎◌, inl, inr, ℕ, Bool, true, false, List, [], ◌++◌, Option, Some, None, IfSome, Result, Ok, Err, is_some, take, refl, ap, ap₂, sym, subst}
+use Rattle.std.specs.Option.{option_and_then}
+use Rattle.std.specs.Io.KnownBytes.{Keeps}
+use Rattle.name_core.specs.declared.name.Name.{Name}
+use Rattle.outside_core.specs.Faults.{Rose}
+use Rattle.outside_core.specs.Told.{Advances, Stays}
+use Rattle.outside_core.specs.declared.traits.File.{File}
+use Rattle.transcript.specs.Merge.{Entry}
+use Rattle.command_set.specs.declared.command.Command.{Command}
+use Rattle.directory.specs.Listing.{Listing}
+use Rattle.option_words.specs.Grammar.{Asked, asked_of}
+use Rattle.mged_words.specs.declared.script.ScriptFlaw.{ScriptFlaw}
+use Rattle.mged_top.specs.Calls.{IsRefused, IsSourceFault, IsLoadingFault, IsReadFault, AreFilesCut, IsWriteFault, IsWantOfMemory, Explains, ComesTo, IsRunStatus, IsComplete, AreUnderstood}
+use Rattle.mged_top.specs.Courses.{Course, Stops, Runs, course_of, course_asked, course_with, course_from, loaded}
+use Rattle.mged_top.specs.Outcomes.{AreTold, Ran, IsWritten}
+use Rattle.mged_top.specs.Outside.{Outside, outside, IsQuiet, IsFaultless, IsUnwritten, Added}
+use Rattle.mged_top.specs.Stages.{CanLoad, CanRead, WasRead, IsLoad, IsRead, load_status, script_status, IsRun, IsWhole, IsTextShort, AreFilesShort, Writes, files_among}
+use Rattle.mged_top.specs.declared.load.LoadStop.{LoadStop}
+use Rattle.mged_top.specs.declared.load.LoadStop.TheVariants as load
+use Rattle.mged_top.specs.declared.read.ScriptStop.{ScriptStop}
+use Rattle.mged_top.specs.declared.read.ScriptStop.TheVariants as script
+use Rattle.mged_top.specs.declared.status.LoadFault.{LoadFault}
+use Rattle.mged_words.specs.declared.command.ScriptCommand.{ScriptCommand}
+use Rattle.mged_top.specs.declared.status.Status.{Status}
+use Rattle.mged_top.specs.declared.status.Status.TheVariants.{Done, SomeRefused, Usage, LoadRefused, ScriptRefused, ReadFault, WriteFault, Memory}
+use Rattle.session_run.specs.declared.answer.Answer.{Answer}
+
+-- what is told, or anything where nothing is
+abbrev known : {T : Type 0} → T → Option T → T
+known other None = other
+known other (Some told) = told
+
+known_told : {T : Type 0} (other : T) (told : Option T) → IfSome told (λ t. known other told ≡ t)
+known_told other None = tt
+known_told other (Some told) = refl
+
+-- the words are no options
+pub usage_refused : (words : List (List ℕ)) (before after : Outside) → asked_of words ≡ None → IsUnwritten before after → IsQuiet before after → IsRefused words before after Usage
+usage_refused words before after none unwritten quiet = record {
+  files = known [] before.files;
+  script = known [] before.left;
+  told = record { files_told = known_told [] before.files; script_told = known_told [] before.left };
+  course = ap (λ (asked : Option Asked). course_asked asked (known [] before.files) (known [] before.left)) none;
+  unwritten = unwritten;
+  quiet = quiet;
+}
+
+-- the course where the words ask for this file
+course_by : (words : List (List ℕ)) (load : Option Name) (files : List File) (script : List ℕ) (start : Result Listing LoadFault)
+    → asked_of words ≡ Some (record { load = load }) → loaded load files ≡ start → course_of words files script ≡ course_with start script
+course_by words load files script start asked is = ap (λ (a : Option Asked). course_asked a files script) asked ∙ ap (λ (s : Result Listing LoadFault). course_with s script) is
+
+pub load_refused : (words : List (List ℕ)) (before after : Outside) (load : Option Name) (fault : LoadFault) → asked_of words ≡ Some (record { load = load })
+    → CanLoad before.files load (Err fault) → IsUnwritten before after → IsQuiet before after → IsRefused words before after (LoadRefused fault)
+load_refused words before after load fault asked can unwritten quiet = record {
+  files = can.files;
+  script = known [] before.left;
+  told = record { files_told = can.as_told; script_told = known_told [] before.left };
+  course = course_by words load can.files (known [] before.left) (Err fault) asked can.gives;
+  unwritten = unwritten;
+  quiet = quiet;
+}
+
+pub script_refused : (words : List (List ℕ)) (before after : Outside) (load : Option Name) (start : Listing) (flaw : ScriptFlaw) → asked_of words ≡ Some (record { load = load })
+    → CanLoad before.files load (Ok start) → CanRead before.left (Err flaw) → IsUnwritten before after → IsQuiet before after → IsRefused words before after (ScriptRefused flaw)
+script_refused words before after load start flaw asked can read unwritten quiet = record {
+  files = can.files;
+  script = read.script;
+  told = record { files_told = can.as_told; script_told = read.as_told };
+  course = course_by words load can.files read.script (Ok start) asked can.gives ∙ ap (course_from start) read.gives;
+  unwritten = unwritten;
+  quiet = quiet;
+}
+
+understood : (words : List (List ℕ)) (asked : Asked) → asked_of words ≡ Some asked → AreUnderstood words
+understood words asked is = ap is_some is
+
+pub source_failed : (words : List (List ℕ)) (before after : Outside) (asked : Asked) → asked_of words ≡ Some asked → Rose before.reads after.reads → after.calls ≡ before.calls → after.writes ≡ before.writes
+    → IsUnwritten before after → IsReadFault words before after
+source_failed words before after asked is rose calls writes unwritten =
+    record { cause = inl (record { understood = understood words asked is; rose = rose; calls = calls }); writes = writes; unwritten = unwritten }
+
+pub loading_failed : (words : List (List ℕ)) (before after : Outside) (load : Option Name) → asked_of words ≡ Some (record { load = load }) → is_some load ≡ true → Rose before.calls after.calls
+    → after.reads ≡ before.reads → after.writes ≡ before.writes → IsUnwritten before after → IsReadFault words before after
+loading_failed words before after load is some rose reads writes unwritten =
+    record {
+      cause = inr (record { asked = ap (λ (a : Option Asked). is_some (option_and_then (λ (asked : Asked). asked.load) a)) is ∙ some; rose = rose; reads = reads });
+      writes = writes;
+      unwritten = unwritten;
+    }
+
+-- nothing was done
+advances_none : (left : Option (List ℕ)) → Advances left left
+advances_none None = ([], tt)
+advances_none (Some told) = ([], refl)
+
+keeps_none : (held : Option (List ℕ)) → Keeps held held
+keeps_none None = tt
+keeps_none (Some told) = refl
+
+stays_none : {T : Type 0} (told : Option T) → Stays told told
+stays_none None = tt
+stays_none (Some told) = refl
+
+pub no_options : (words : List (List ℕ)) (left held : Option (List ℕ)) (files puts : Option (List File)) (reads writes calls : ℕ) → asked_of words ≡ None
+    → IsRefused words (outside left held files puts reads writes calls) (outside left held files puts reads writes calls) Usage
+no_options words left held files puts reads writes calls none =
+    usage_refused words _ _ none (record { left = advances_none left; held = keeps_none held; files = stays_none files; puts = stays_none puts }) (record { reads = refl; writes = refl; calls = refl })
+
+-- a call that ends at its load file
+pub load_stopped : (stop : LoadStop) (words : List (List ℕ)) (left held : Option (List ℕ)) (files files' puts puts' : Option (List File)) (reads writes calls calls' : ℕ) (name : Option Name)
+    → asked_of words ≡ Some (record { load = name }) → IsLoad (Err stop) name files → Stays files files' → Stays puts puts'
+    → (◌≢◌ {A = Result Listing LoadStop} (Err stop) (Err load.Failed) → calls' ≡ calls) → (◌≡◌ {A = Result Listing LoadStop} (Err stop) (Err load.Failed) → Rose calls calls')
+    → Explains (load_status stop) words (outside left held files puts reads writes calls) (outside left held files' puts' reads writes calls')
+load_stopped (load.Refused fault) words left held files files' puts puts' reads writes calls calls' name asked is f p steady rose =
+    load_refused words _ _ name fault asked is (record { left = advances_none left; held = keeps_none held; files = f; puts = p }) (record { reads = refl; writes = refl; calls = steady (λ e. absurd cc) })
+load_stopped load.Failed words left held files files' puts puts' reads writes calls calls' name asked is f p steady rose =
+    loading_failed words _ _ name asked is (rose refl) refl refl (record { left = advances_none left; held = keeps_none held; files = f; puts = p })
+load_stopped LoadStop.Memory words left held files files' puts puts' reads writes calls calls' name asked is f p steady rose =
+    (record { reads = refl; writes = refl; calls = steady (λ e. absurd cc) }, inl (record { left = advances_none left; held = keeps_none held; files = f; puts = p }))
+
+-- a call that ends at its script
+pub script_stopped : (stop : ScriptStop) (words : List (List ℕ)) (left left' held : Option (List ℕ)) (files files' puts puts' : Option (List File)) (reads reads' writes calls calls' : ℕ) (load : Option Name) (start : Listing)
+    → asked_of words ≡ Some (record { load = load }) → CanLoad files load (Ok start) → IsRead (Err stop) left left' → Advances left left' → Stays files files' → Stays puts puts' → calls' ≡ calls
+    → (◌≢◌ {A = Result (List ScriptCommand) ScriptStop} (Err stop) (Err script.Failed) → reads' ≡ reads) → (◌≡◌ {A = Result (List ScriptCommand) ScriptStop} (Err stop) (Err script.Failed) → Rose reads reads')
+    → Explains (script_status stop) words (outside left held files puts reads writes calls) (outside left' held files' puts' reads' writes calls')
+script_stopped (script.Refused flaw) words left left' held files files' puts puts' reads reads' writes calls calls' name start asked can is advances f p same steady rose =
+    script_refused words _ _ name start flaw asked can is (record { left = advances; held = keeps_none held; files = f; puts = p }) (record { reads = steady (λ e. absurd cc); writes = refl; calls = same })
+script_stopped script.Failed words left left' held files files' puts puts' reads reads' writes calls calls' name start asked can is advances f p same steady rose =
+    source_failed words _ _ (record { load = name }) asked (rose refl) same refl (record { left = advances; held = keeps_none held; files = f; puts = p })
+script_stopped ScriptStop.Memory words left left' held files files' puts puts' reads reads' writes calls calls' name start asked can is advances f p same steady rose =
+    (record { reads = steady (λ e. absurd cc); writes = refl; calls = same }, inl (record { left = advances; held = keeps_none held; files = f; puts = p }))
+
+-- a call that ends before its run for want of memory
+pub no_memory : (words : List (List ℕ)) (left left' held : Option (List ℕ)) (files files' puts puts' : Option (List File)) (reads reads' writes calls calls' : ℕ)
+    → Advances left left' → Stays files files' → Stays puts puts' → reads' ≡ reads → calls' ≡ calls
+    → IsWantOfMemory words (outside left held files puts reads writes calls) (outside left' held files' puts' reads' writes calls')
+no_memory words left left' held files files' puts puts' reads reads' writes calls calls' advances f p r c =
+    (record { reads = r; writes = refl; calls = c }, inl (record { left = advances; held = keeps_none held; files = f; puts = p }))
+
+-- a run, and the inputs that it had
+pub ran : (words : List (List ℕ)) (before after : Outside) (load : Option Name) (start : Listing) (commands : List (Entry Command)) (bytes order : List ℕ) (lists : List (List Answer)) (some_refused : Bool)
+    → asked_of words ≡ Some (record { load = load }) → CanLoad before.files load (Ok start) → WasRead before.left after.left commands → IsRun start commands bytes order lists some_refused
+    → Ran words before after bytes (files_among order lists) some_refused
+ran words before after load start commands bytes order lists some_refused asked can read run = record {
+  start = start;
+  commands = commands;
+  inputs = record {
+    files = can.files;
+    script = read.script;
+    told = record { files_told = can.as_told; script_told = read.as_told };
+    course = course_by words load can.files read.script (Ok start) asked can.gives ∙ ap (course_from start) read.gives;
+    read = read.taken;
+    end = read.end;
+  };
+  outcome = run.outcome;
+  in_line_order = run.in_line_order;
+}
+
+-- what writing did, from the shelf as it was before a file was loaded from it
+stays_both : {T : Type 0} (a b c : Option T) → Stays a b → Stays b c → Stays a c
+stays_both None b c h k = tt
+stays_both (Some told) b c h k = subst (λ m. Stays m c → c ≡ Some told) (sym h) (λ e. e) k
+
+added_from : (a b c : Option (List File)) (files : List File) → Stays a b → Added b c files → Added a c files
+added_from None b c files h k = tt
+added_from (Some told) b c files h k = subst (λ (m : Option (List File)). Added m c files → c ≡ Some (told ++ files)) (sym h) (λ e. e) k
+
+module _ (held held' : Option (List ℕ)) (shelf loaded shelf' puts puts' puts'' : Option (List File)) (writes writes' calls calls' calls'' : ℕ) (bytes : List ℕ) (files : List File)
+    (stay : Stays shelf loaded) (puts_stay : Stays puts puts') (same : calls' ≡ calls) where
+  abbrev loaded_before : Outside
+  loaded_before = outside None held loaded puts' 0 writes calls'
+
+  abbrev first_before : Outside
+  first_before = outside None held shelf puts 0 writes calls
+
+  abbrev last_after : Outside
+  last_after = outside None held' shelf' puts'' 0 writes' calls''
+
+  whole_from : IsWhole bytes files loaded_before last_after → IsWhole bytes files first_before last_after
+  whole_from w = record { written = w.written; added = added_from puts puts' puts'' files puts_stay w.added; writes = w.writes; calls = w.calls ∙ same }
+
+  short_from : AreFilesShort bytes files loaded_before last_after → AreFilesShort bytes files first_before last_after
+  short_from w = record {
+    written = w.written;
+    cut_short = record { count = w.cut_short.count; short = w.cut_short.short; front = added_from puts puts' puts'' (take w.cut_short.count files) puts_stay w.cut_short.front };
+    writes = w.writes;
+  }
+
+  failed_from : IsTextShort bytes loaded_before last_after ⊎ (AreFilesShort bytes files loaded_before last_after × Rose calls' calls'')
+      → IsTextShort bytes first_before last_after ⊎ (AreFilesShort bytes files first_before last_after × Rose calls calls'')
+  failed_from (inl w) = inl (record {
+    cut_short = w.cut_short;
+    files_stay = stays_both shelf loaded shelf' stay w.files_stay;
+    puts_stay = stays_both puts puts' puts'' puts_stay w.puts_stay;
+    rose = w.rose;
+    calls = w.calls ∙ same;
+  })
+  failed_from (inr w) = inr (short_from w.0, subst (λ n. Rose n calls'') same w.1)
+
+  pub writes_from : (status : Status) (some_refused : Bool) → Writes status bytes files some_refused loaded_before last_after → Writes status bytes files some_refused first_before last_after
+  writes_from Done some_refused w = (whole_from w.0, w.1)
+  writes_from SomeRefused some_refused w = (whole_from w.0, w.1)
+  writes_from Usage some_refused w = w
+  writes_from (LoadRefused fault) some_refused w = w
+  writes_from (ScriptRefused flaw) some_refused w = w
+  writes_from ReadFault some_refused w = w
+  writes_from WriteFault some_refused w = failed_from w
+  writes_from Memory some_refused w = (short_from w.0, w.1 ∙ same)
+
+-- what writing it did, said of all of the objects
+module _ (words : List (List ℕ)) (left left' held held' : Option (List ℕ)) (shelf shelf' puts puts' : Option (List File)) (reads reads' writes writes' calls calls' : ℕ)
+    (bytes : List ℕ) (files : List File) where
+  abbrev all_before : Outside
+  all_before = outside left held shelf puts reads writes calls
+
+  abbrev all_after : Outside
+  all_after = outside left' held' shelf' puts' reads' writes' calls'
+
+  abbrev sink_before : Outside
+  sink_before = outside None held shelf puts 0 writes calls
+
+  abbrev sink_after : Outside
+  sink_after = outside None held' shelf' puts' 0 writes' calls'
+
+  written : (some_refused said : Bool) → Ran words all_before all_after bytes files some_refused → reads' ≡ reads → IsWhole bytes files sink_before sink_after → some_refused ≡ said → IsWritten words all_before all_after said
+  written some_refused said r same w is = record {
+    bytes = bytes;
+    files = files;
+    ran = subst (λ (t : Bool). Ran words all_before all_after bytes files t) is r;
+    written = w.written;
+    added = w.added;
+    quiet = record { reads = same; writes = w.writes; calls = w.calls };
+  }
+
+  files_cut : (some_refused : Bool) → Ran words all_before all_after bytes files some_refused → reads' ≡ reads → AreFilesShort bytes files sink_before sink_after → AreFilesCut words all_before all_after
+  files_cut some_refused r same w = record { bytes = bytes; files = files; some_refused = some_refused; ran = r; written = w.written; cut_short = w.cut_short; reads = same; writes = w.writes }
+
+  failed : (some_refused : Bool) → Ran words all_before all_after bytes files some_refused → reads' ≡ reads
+      → IsTextShort bytes sink_before sink_after ⊎ (AreFilesShort bytes files sink_before sink_after × Rose calls calls') → IsWriteFault words all_before all_after
+  failed some_refused r same (inl w) = inl (record {
+    bytes = bytes;
+    files = files;
+    some_refused = some_refused;
+    ran = r;
+    cut_short = w.cut_short;
+    files_stay = w.files_stay;
+    puts_stay = w.puts_stay;
+    rose = w.rose;
+    reads = same;
+    calls = w.calls;
+  })
+  failed some_refused r same (inr w) = inr (files_cut some_refused r same w.0, w.1)
+
+  pub explained : (status : Status) (some_refused : Bool) → Ran words all_before all_after bytes files some_refused → reads' ≡ reads → Writes status bytes files some_refused sink_before sink_after → Explains status words all_before all_after
+  explained Done some_refused r same w = written some_refused false r same w.0 w.1
+  explained SomeRefused some_refused r same w = written some_refused true r same w.0 w.1
+  explained Usage some_refused r same w = absurd w
+  explained (LoadRefused fault) some_refused r same w = absurd w
+  explained (ScriptRefused flaw) some_refused r same w = absurd w
+  explained ReadFault some_refused r same w = absurd w
+  explained WriteFault some_refused r same w = failed some_refused r same w
+  explained Memory some_refused r same w = (record { reads = same; writes = w.0.writes; calls = w.1 }, inr (files_cut some_refused r same w.0))
+
+-- which status comes
+same_if_told : {T : Type 0} (told : Option T) (one other : T) → IfSome told (λ t. one ≡ t) → told ≡ Some other → one ≡ other
+same_if_told told one other h is = subst (λ t. IfSome t (λ u. one ≡ u)) is h
+
+course_told : (words : List (List ℕ)) (before : Outside) (files files' : List File) (script script' : List ℕ) (course : Course) → AreTold before files' script' → course_of words files' script' ≡ course
+    → before.files ≡ Some files → before.left ≡ Some script → course_of words files script ≡ course
+course_told words before files files' script script' course told is f s =
+    ap₂ (course_of words) (sym (same_if_told before.files files' files told.files_told f)) (sym (same_if_told before.left script' script told.script_told s)) ∙ is
+
+comes : (status : Status) (one other : Course) → one ≡ other → ComesTo other status → ComesTo one status
+comes status one other is h = subst (λ c. ComesTo c status) (sym is) h
+
+refused_comes : (status : Status) (words : List (List ℕ)) (before after : Outside) → IsRefused words before after status → IsComplete status words before after
+refused_comes status words before after e files script f s quiet =
+    inr (comes status (course_of words files script) (Stops status) (course_told words before files e.files script e.script (Stops status) e.told e.course f s) refl)
+
+ran_comes : (status : Status) (words : List (List ℕ)) (before after : Outside) (bytes : List ℕ) (put : List File) (some_refused : Bool) → Ran words before after bytes put some_refused → IsRunStatus status
+    → IsComplete status words before after
+ran_comes status words before after bytes put some_refused r h files script f s quiet =
+    inr (comes status (course_of words files script) (Runs r.start r.commands) (course_told words before files r.inputs.files script r.inputs.script (Runs r.start r.commands) r.inputs.told r.inputs.course f s) h)
+
+no_read_fault : (words : List (List ℕ)) (before after : Outside) → IsSourceFault words before after ⊎ IsLoadingFault words before after → IsFaultless before after → ⊥
+no_read_fault words before after (inl h) quiet = quiet.reads h.rose
+no_read_fault words before after (inr h) quiet = quiet.calls h.rose
+
+no_write_fault : (words : List (List ℕ)) (before after : Outside) → IsWriteFault words before after → IsFaultless before after → ⊥
+no_write_fault words before after (inl h) quiet = quiet.writes h.rose
+no_write_fault words before after (inr h) quiet = quiet.calls h.1
+
+pub completed : (status : Status) (words : List (List ℕ)) (before after : Outside) → Explains status words before after → IsComplete status words before after
+completed Done words before after e = ran_comes Done words before after e.bytes e.files false e.ran tt
+completed SomeRefused words before after e = ran_comes SomeRefused words before after e.bytes e.files true e.ran tt
+completed Usage words before after e = refused_comes Usage words before after e
+completed (LoadRefused fault) words before after e = refused_comes (LoadRefused fault) words before after e
+completed (ScriptRefused flaw) words before after e = refused_comes (ScriptRefused flaw) words before after e
+completed ReadFault words before after e = λ files script f s quiet. absurd (no_read_fault words before after e.cause quiet)
+completed WriteFault words before after e = λ files script f s quiet. absurd (no_write_fault words before after e quiet)
+completed Memory words before after e = λ files script f s quiet. inl refl

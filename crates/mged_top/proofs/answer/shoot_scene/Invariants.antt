@@ -1,4 +1,0 @@
-use Rattle.mged_top.proofs.answer.shoot_scene.Given as goal
-
-abbrev pub ghosts-shoot_uncounted : goal.ghosts-shoot_uncounted
-ghosts-shoot_uncounted a = record { name = a.blank.name; parts = a.blank.parts }

@@ -1,0 +1,148 @@
+-- What each stage of a call gives to the next one, in the words of the code.
+use Rattle.std.specs.Prelude.{◌≡◌, ◌≤◌, ◌<◌, ◌⊎◌, ℕ, Bool, true, false, zero, suc, List, [], ◌++◌, Option, IfSome, is_some, Result, Ok, Err, All, drop, get_or, length, map}
+use Rattle.std.specs.Io.KnownBytes.{Appends, Consumes, IsAtEnd}
+use Rattle.name_core.specs.declared.name.Name.{Name}
+use Rattle.outside_core.specs.Faults.{Rose}
+use Rattle.outside_core.specs.Told.{Stays}
+use Rattle.outside_core.specs.Transfers.{IsCutShort}
+use Rattle.outside_core.specs.declared.traits.File.{File}
+use Rattle.outside_core.specs.declared.traits.ShelfFault.{ShelfFault}
+use Rattle.transcript.specs.Merge.{Entry, lane, merged}
+use Rattle.transcript.specs.Outcome.{IsOutcome}
+use Rattle.transcript.specs.Run.{files_of}
+use Rattle.command_set.specs.declared.command.Command.{Command}
+use Rattle.directory.specs.Listing.{Listing}
+use Rattle.mged_words.specs.Scripts.{script_of}
+use Rattle.mged_words.specs.Entries.{command_entry}
+use Rattle.mged_words.specs.declared.command.ScriptCommand.{ScriptCommand}
+use Rattle.session_run.specs.Replies.{core_rules, start_from}
+use Rattle.session_run.specs.Answers.{core_answer}
+use Rattle.session_run.specs.declared.answer.Answer.{Answer}
+use Rattle.mged_top.specs.Answers.{core_answers}
+use Rattle.mged_top.specs.Courses.{loaded, model_in}
+use Rattle.mged_top.specs.Outcomes.{IsInLineOrder}
+use Rattle.mged_top.specs.Outside.{Outside, Added, AreCutShort}
+use Rattle.mged_top.specs.declared.load.LoadStop.{LoadStop}
+use Rattle.mged_top.specs.declared.load.LoadStop.TheVariants as load
+use Rattle.mged_top.specs.declared.read.ScriptStop.{ScriptStop}
+use Rattle.mged_top.specs.declared.read.ScriptStop.TheVariants as script
+use Rattle.mged_top.specs.declared.status.LoadFault.{LoadFault}
+use Rattle.mged_top.specs.declared.status.Status.{Status}
+use Rattle.mged_top.specs.declared.status.Status.TheVariants.{Done, SomeRefused, Usage, LoadRefused, ScriptRefused, ReadFault, WriteFault, Memory}
+use Rattle.mged_words.specs.declared.script.ScriptFlaw.{ScriptFlaw}
+
+-- the statuses of stages that ended the call
+abbrev pub load_status : LoadStop → Status
+load_status (load.Refused fault) = LoadRefused fault
+load_status load.Failed = ReadFault
+load_status LoadStop.Memory = Memory
+
+abbrev pub script_status : ScriptStop → Status
+script_status (script.Refused flaw) = ScriptRefused flaw
+script_status script.Failed = ReadFault
+script_status ScriptStop.Memory = Memory
+
+abbrev pub run_status : Bool → Status
+run_status false = Done
+run_status true = SomeRefused
+
+-- what a text is as a load file
+abbrev pub IsModel : Result Listing LoadStop → List ℕ → Type 0
+IsModel (Ok d) text = model_in text ≡ Ok d
+IsModel (Err (load.Refused fault)) text = model_in text ≡ Err fault
+IsModel (Err load.Failed) text = ⊥
+IsModel (Err LoadStop.Memory) text = Unit {0}
+
+-- files that are those of the shelf, where it tells them, from which the start comes to this
+pub record CanLoad (told : Option (List File)) (name : Option Name) (start : Result Listing LoadFault) : Type 0 where
+  pub files : List File
+  pub as_told : IfSome told (λ known. files ≡ known)
+  pub gives : loaded name files ≡ start
+
+abbrev pub IsLoad : Result Listing LoadStop → Option Name → Option (List File) → Type 0
+IsLoad (Ok d) name told = CanLoad told name (Ok d)
+IsLoad (Err (load.Refused fault)) name told = CanLoad told name (Err fault)
+IsLoad (Err load.Failed) name told = is_some name ≡ true
+IsLoad (Err LoadStop.Memory) name told = Unit {0}
+
+-- a script that is what the source had left, where it tells it, and reads as this
+pub record CanRead (told : Option (List ℕ)) (read : Result (List (Entry Command)) ScriptFlaw) : Type 0 where
+  pub script : List ℕ
+  pub as_told : IfSome told (λ known. script ≡ known)
+  pub gives : script_of script ≡ read
+
+-- a script that was read whole, and reads as these commands
+pub record WasRead (left left' : Option (List ℕ)) (commands : List (Entry Command)) : Type 0 where
+  pub script : List ℕ
+  pub as_told : IfSome left (λ known. script ≡ known)
+  pub gives : script_of script ≡ Ok commands
+  pub taken : Consumes left left' script
+  pub end : IsAtEnd left'
+
+abbrev pub IsRead : Result (List ScriptCommand) ScriptStop → Option (List ℕ) → Option (List ℕ) → Type 0
+IsRead (Ok commands) left left' = WasRead left left' (map command_entry commands)
+IsRead (Err (script.Refused flaw)) left left' = CanRead left (Err flaw)
+IsRead (Err script.Failed) left left' = Unit {0}
+IsRead (Err ScriptStop.Memory) left left' = Unit {0}
+
+-- the files of sessions' answers, in an order of sessions
+abbrev pub files_among : List ℕ → List (List Answer) → List File
+files_among order lists = files_of (merged order (core_answers lists))
+
+-- the answers that are left, where so many of each session's are taken
+abbrev pub left_at : List ℕ → List (List Answer) → ℕ → List Answer
+left_at taken lists zero = []
+left_at taken lists (suc n) = drop (get_or taken n 0) (get_or lists n [])
+
+-- the files of what is left of the order, where so many of each session's answers are taken
+abbrev pub files_left : List ℕ → List ℕ → List (List Answer) → List File
+files_left order taken lists = files_of (merged order (λ session. map core_answer (left_at taken lists session)))
+
+-- files of which some are put, and these are left
+pub record ArePut (puts puts' : Option (List File)) (all rest : List File) : Type 0 where
+  pub done : List File
+  pub added : Added puts puts' done
+  pub whole : all ≡ done ++ rest
+
+-- the same, unless the put of the first of them failed
+abbrev pub ArePutBy : Result (Unit {0}) ShelfFault → Option (List File) → Option (List File) → List File → List File → Type 0
+ArePutBy (Ok done) puts puts' all rest = ArePut puts puts' all rest
+ArePutBy (Err fault) puts puts' all rest = Stays puts puts' × (0 < length all)
+
+-- a run of these commands from this directory: its bytes, its files in an order of the sessions, and whether one is refused
+pub record IsRun (start : Listing) (commands : List (Entry Command)) (bytes order : List ℕ) (lists : List (List Answer)) (some_refused : Bool) : Type 0 where
+  pub outcome : IsOutcome core_rules (start_from start) (lane commands) bytes (files_among order lists) some_refused
+  pub in_line_order : IsInLineOrder commands bytes
+  pub sessions : All (λ d. (1 ≤ d) × (d ≤ 8)) order
+
+-- the bytes are written, and the files are put
+pub record IsWhole (bytes : List ℕ) (files : List File) (before after : Outside) : Type 0 where
+  pub written : Appends before.held after.held bytes
+  pub added : Added before.puts after.puts files
+  pub writes : after.writes ≡ before.writes
+  pub calls : after.calls ≡ before.calls
+
+-- a write to the sink failed
+pub record IsTextShort (bytes : List ℕ) (before after : Outside) : Type 0 where
+  pub cut_short : IsCutShort before.held after.held bytes
+  pub files_stay : Stays before.files after.files
+  pub puts_stay : Stays before.puts after.puts
+  pub rose : Rose before.writes after.writes
+  pub calls : after.calls ≡ before.calls
+
+-- the bytes are written, and not all files are put
+pub record AreFilesShort (bytes : List ℕ) (files : List File) (before after : Outside) : Type 0 where
+  pub written : Appends before.held after.held bytes
+  pub cut_short : AreCutShort before.puts after.puts files
+  pub writes : after.writes ≡ before.writes
+
+-- what writing a run with these bytes and files did
+abbrev pub Writes : Status → List ℕ → List File → Bool → Outside → Outside → Type 0
+Writes Done bytes files some_refused before after = IsWhole bytes files before after × (some_refused ≡ false)
+Writes SomeRefused bytes files some_refused before after = IsWhole bytes files before after × (some_refused ≡ true)
+Writes Usage bytes files some_refused before after = ⊥
+Writes (LoadRefused fault) bytes files some_refused before after = ⊥
+Writes (ScriptRefused flaw) bytes files some_refused before after = ⊥
+Writes ReadFault bytes files some_refused before after = ⊥
+Writes WriteFault bytes files some_refused before after = IsTextShort bytes before after ⊎ (AreFilesShort bytes files before after × Rose before.calls after.calls)
+Writes Memory bytes files some_refused before after = AreFilesShort bytes files before after × (after.calls ≡ before.calls)

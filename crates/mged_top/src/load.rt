@@ -1,0 +1,95 @@
+//! The directory at the start: that of a load file, or the empty one.
+ghost use Rattle.std.specs.Prelude.{◌≡◌, ◌≢◌, Some, Err};
+ghost use Rattle.outside_core.specs.Faults.{Rose};
+ghost use Rattle.outside_core.specs.Told.{Stays};
+ghost use Rattle.mged_top.specs.Courses.{most_loaded};
+ghost use Rattle.mged_top.specs.Stages.{IsLoad, IsModel, load_status};
+ghost use Rattle.mged_top.specs.declared.load.TheConstants.{LOAD_SIZE};
+
+use crate::status::{LoadFault, Status};
+use asc_form::{AscFault, read_asc};
+use directory::Directory;
+use name_core::Name;
+use outside_core::{Shelf, ShelfFault};
+use std::alloc::Global;
+
+/// The most bytes of a load file.
+pub const LOAD_SIZE: usize = 16_777_216;
+
+/// The limit is this number. This law is what refuses another constant.
+pub fn limit_laws()
+    ensures load { LOAD_SIZE ≡ 16777216 }
+    ensures defined { most_loaded ≡ 16777216 }
+{}
+
+/// Why there is no directory at the start.
+#[derive(Clone, Copy, Debug)]
+pub(crate) enum LoadStop {
+    /// The load file is refused.
+    Refused(LoadFault),
+    /// Its read failed.
+    Failed,
+    /// There was no memory.
+    Memory,
+}
+
+impl LoadStop {
+    /// The status with which the call ends.
+    pub(crate) fn status(&self) -> Status
+        ensures { result ≡ load_status self.now }
+    {
+        match self {
+            LoadStop::Refused(fault) => Status::LoadRefused(*fault),
+            LoadStop::Failed => Status::ReadFault,
+            LoadStop::Memory => Status::Memory,
+        }
+    }
+}
+
+/// The directory of the first bytes of a file, of which one more was asked for than a load file may have.
+fn read_model(alloc: Global, text: &[u8]) -> Result<Directory, LoadStop>
+    ensures { IsModel result text.now }
+{
+    if text.len() > LOAD_SIZE {
+        return Err(LoadStop::Refused(LoadFault::Size));
+    }
+    match read_asc(alloc, text) {
+        Ok(directory) => Ok(directory),
+        Err(AscFault::At { line, kind }) => Err(LoadStop::Refused(LoadFault::At { line, kind })),
+        Err(AscFault::Memory) => Err(LoadStop::Memory),
+    }
+}
+
+/// The directory of a file of the shelf.
+fn load_file<F: Shelf>(alloc: Global, shelf: &mut F, name: &Name) -> Result<Directory, LoadStop>
+    ensures load { IsLoad result (Some name.now) (F.files shelf.old) }
+    ensures files_stay { Stays (F.files shelf.old) (F.files shelf.new) }
+    ensures puts_stay { Stays (F.puts shelf.old) (F.puts shelf.new) }
+    ensures steady { result ≢ Err LoadStop.Failed → F.faults shelf.new ≡ F.faults shelf.old }
+    ensures rose { result ≡ Err LoadStop.Failed → Rose (F.faults shelf.old) (F.faults shelf.new) }
+{
+    match shelf.get(alloc, name, LOAD_SIZE + 1) {
+        Ok(Some(text)) => read_model(alloc, &text),
+        Ok(None) => Err(LoadStop::Refused(LoadFault::NoFile(*name))),
+        Err(ShelfFault::Failed) => Err(LoadStop::Failed),
+        Err(ShelfFault::Memory) => Err(LoadStop::Memory),
+    }
+}
+
+/// The directory at the start.
+pub(crate) fn load<F: Shelf>(
+    alloc: Global,
+    shelf: &mut F,
+    name: Option<Name>,
+) -> Result<Directory, LoadStop>
+    ensures load { IsLoad result name (F.files shelf.old) }
+    ensures files_stay { Stays (F.files shelf.old) (F.files shelf.new) }
+    ensures puts_stay { Stays (F.puts shelf.old) (F.puts shelf.new) }
+    ensures steady { result ≢ Err LoadStop.Failed → F.faults shelf.new ≡ F.faults shelf.old }
+    ensures rose { result ≡ Err LoadStop.Failed → Rose (F.faults shelf.old) (F.faults shelf.new) }
+{
+    match name {
+        Some(name) => load_file(alloc, shelf, &name),
+        None => Ok(Directory::new(alloc)),
+    }
+}

@@ -1,0 +1,18 @@
+-- What the code keeps of a session's run, as the plain data of its definition.
+use Rattle.std.specs.Prelude.{false}
+use Rattle.outside_core.specs.declared.traits.File.{File}
+use Rattle.transcript.specs.Run as run
+use Rattle.command_set.specs.declared.command.Command.{Command}
+use Rattle.directory.specs.Listing.{Listing}
+use Rattle.session_run.specs.Replies.{shown}
+use Rattle.session_run.specs.declared.answer.Answer.{Answer}
+use Rattle.session_run.specs.declared.answer.Book.{Book}
+
+abbrev pub core_book : Book → run.Book Listing
+core_book book = record { directory = book.directory; version = book.version }
+
+abbrev pub core_answer : Answer → run.Answer File
+core_answer answer = record { version = answer.version; reply = shown answer.outcome }
+
+abbrev pub unmarked : Command → run.Marked Command
+unmarked command = record { command = command; memory = false }

@@ -1,0 +1,102 @@
+-- Small directories, and what the definitions make of commands.
+use Rattle.std.specs.Prelude.{◌≡◌, refl, pos, [], ◌∷◌, None, Some, Ok, Err, codes}
+use Rattle.lattice_core.specs.declared.ray.Dir.TheVariants.{PlusX}
+use Rattle.lattice_core.specs.declared.ray.Ray.{Ray}
+use Rattle.surd_order.specs.PlaceOrder.{place_cmp}
+use Rattle.std.specs.Fmt.{digits}
+use Rattle.region_attr.specs.Attrs.{group_attr, region_attr}
+use Rattle.solid_set.specs.declared.solid.Solid.TheVariants as solids
+use Rattle.object_set.specs.Objects.{Parts}
+use Rattle.object_set.specs.declared.object.Body.TheVariants.{Solid, Comb}
+use Rattle.command_set.specs.declared.command.Command.TheVariants.{Bad, Edit as IsEdit, Query as IsQuery}
+use Rattle.command_set.specs.declared.command.Edit.TheVariants.{Make, Kill}
+use Rattle.command_set.specs.declared.command.Query.TheVariants as queries
+use Rattle.command_set.specs.declared.refusal.Refusal.TheVariants.{Syntax, Exists, Missing, Quota}
+use Rattle.directory.specs.Listing.{Listing}
+use Rattle.scene_prep.specs.Regions.{regions_of_name}
+use Rattle.scene_prep.specs.Sizes.{size_of_name}
+use Rattle.session_run.specs.Replies.{no_objects, lines_alone, outcome_of, directory_made, used_after}
+
+-- the half-space of the points with x at most 5
+abbrev half : Parts
+half = record { body = Solid (solids.Half (record { normal = record { x = pos 1; y = pos 0; z = pos 0 }; distance = pos 5 })); kept = [] }
+
+abbrev along_x : Ray
+along_x = record { origin = record { x = pos 0; y = pos 0; z = pos 0 }; dir = PlusX }
+
+-- a half-space, a region and another combination without members
+abbrev three : Listing
+three = record { title = []; objects = (codes "h", half) ∷ (codes "r", record { body = Comb region_attr None; kept = [] }) ∷ (codes "g", record { body = Comb group_attr None; kept = [] }) ∷ [] }
+
+names_of_three : outcome_of three 0 (IsQuery queries.Names) ≡ Ok (lines_alone (codes "h" ∷ codes "r/R" ∷ codes "g/" ∷ []))
+names_of_three = refl
+
+-- these lines have nine bytes with their line feeds
+nine_bytes : used_after 7 (outcome_of three 7 (IsQuery queries.Names)) ≡ 16
+nine_bytes = refl
+
+nine_bytes_left : outcome_of three 67108855 (IsQuery queries.Names) ≡ Ok (lines_alone (codes "h" ∷ codes "r/R" ∷ codes "g/" ∷ []))
+nine_bytes_left = refl
+
+eight_bytes_left : outcome_of three 67108856 (IsQuery queries.Names) ≡ Err Quota
+eight_bytes_left = refl
+
+-- a refused command uses nothing
+nothing_used : used_after 67108856 (outcome_of three 67108856 (IsQuery queries.Names)) ≡ 67108856
+nothing_used = refl
+
+a_shot : outcome_of three 0 (IsQuery (queries.Shot along_x (codes "h" ∷ []))) ≡ Ok (lines_alone (codes "1 /h 0 5" ∷ []))
+unfolding place_cmp digits regions_of_name size_of_name
+a_shot = refl
+
+-- a combination without members has no region, and takes no place
+a_shot_of_several_names : outcome_of three 0 (IsQuery (queries.Shot along_x (codes "g" ∷ codes "r" ∷ codes "h" ∷ []))) ≡ Ok (lines_alone (codes "1 /h 0 5" ∷ []))
+unfolding place_cmp digits regions_of_name size_of_name
+a_shot_of_several_names = refl
+
+-- a name that is given twice has two regions, and the first of them has the ray
+a_shot_of_one_name_twice : outcome_of three 0 (IsQuery (queries.Shot along_x (codes "h" ∷ codes "h" ∷ []))) ≡ Ok (lines_alone (codes "1 /h 0 5" ∷ []))
+unfolding place_cmp digits regions_of_name size_of_name
+a_shot_of_one_name_twice = refl
+
+-- the first name that is not there is told, before the bytes used
+missing_before_quota : outcome_of three 67108864 (IsQuery (queries.Shot along_x (codes "h" ∷ codes "x" ∷ codes "y" ∷ []))) ≡ Err (Missing (codes "x"))
+unfolding size_of_name
+missing_before_quota = refl
+
+no_bytes_left : outcome_of three 67108864 (IsQuery (queries.Shot along_x (codes "h" ∷ []))) ≡ Err Quota
+unfolding place_cmp digits regions_of_name size_of_name
+no_bytes_left = refl
+
+-- an edit takes no bytes, and gives the new directory
+an_edit : directory_made no_objects (IsEdit (Make (codes "h") half)) ≡ Some (record { title = []; objects = (codes "h", half) ∷ [] })
+an_edit = refl
+
+its_answer : outcome_of no_objects 67108864 (IsEdit (Make (codes "h") half)) ≡ Ok (lines_alone [])
+its_answer = refl
+
+a_refused_edit : directory_made three (IsEdit (Make (codes "h") half)) ≡ None
+a_refused_edit = refl
+
+its_refusal : outcome_of three 0 (IsEdit (Make (codes "h") half)) ≡ Err (Exists (codes "h"))
+its_refusal = refl
+
+-- the first name that is not there is told
+missing_names : outcome_of three 0 (IsEdit (Kill (codes "h" ∷ codes "x" ∷ codes "y" ∷ []))) ≡ Err (Missing (codes "x"))
+missing_names = refl
+
+a_bad_line : outcome_of three 0 (Bad Syntax) ≡ Err Syntax
+a_bad_line = refl
+
+-- the whole text is put as a file, and its bytes are used as well as those of the body
+no_text : outcome_of no_objects 0 (IsQuery (queries.Save (codes "a"))) ≡ Ok (record { body = codes "saved a" ∷ []; file = Some (record { name = codes "a"; bytes = codes "title {}\nunits mm\n" }) })
+no_text = refl
+
+its_bytes : used_after 5 (outcome_of no_objects 5 (IsQuery (queries.Save (codes "a")))) ≡ 31
+its_bytes = refl
+
+room_for_the_file : outcome_of no_objects 67108838 (IsQuery (queries.Save (codes "a"))) ≡ outcome_of no_objects 0 (IsQuery (queries.Save (codes "a")))
+room_for_the_file = refl
+
+no_room_for_the_file : outcome_of no_objects 67108839 (IsQuery (queries.Save (codes "a"))) ≡ Err Quota
+no_room_for_the_file = refl

@@ -1,0 +1,143 @@
+-- What a command is answered, the directory after it, and the bytes that its session has used.
+use Rattle.std.specs.Prelude.{ℕ, ◌+◌, ◌++◌, ◌∷◌, nat_le, cond, find, is_none, List, [], Option, Some, None, Result, Ok, Err, length, codes}
+use Rattle.std.specs.Result.{result_ok}
+use Rattle.name_core.specs.declared.name.Name.{Name}
+use Rattle.lattice_core.specs.declared.ray.Ray.{Ray}
+use Rattle.outside_core.specs.declared.traits.File.{File}
+use Rattle.transcript.specs.Lines.{text_of}
+use Rattle.transcript.specs.Run.{Reply, Accepted, Refused, Rules, State}
+use Rattle.command_set.specs.Refusals.{refusal_text}
+use Rattle.command_set.specs.declared.command.Command.{Command}
+use Rattle.command_set.specs.declared.command.Command.TheVariants.{Bad, Edit as IsEdit, Query as IsQuery}
+use Rattle.command_set.specs.declared.command.Query.{Query}
+use Rattle.command_set.specs.declared.command.Query.TheVariants as queries
+use Rattle.command_set.specs.declared.refusal.Refusal.{Refusal}
+use Rattle.command_set.specs.declared.refusal.Refusal.TheVariants.{Missing, Instances, Quota, Memory}
+use Rattle.asc_form.specs.Written.{written}
+use Rattle.directory.specs.Listing.{Listing}
+use Rattle.directory.specs.Walks.{Entries, object_of}
+use Rattle.edit_core.specs.Refused.{edited}
+use Rattle.report_text.specs.Listings.{listings, written_lines}
+use Rattle.report_text.specs.Names.{names_lines}
+use Rattle.report_text.specs.Shots.{shot_lines}
+use Rattle.shot_core.specs.Regions.{Region}
+use Rattle.shot_core.specs.Shots.{lit_of}
+use Rattle.scene_prep.specs.declared.fault.PrepFault.{PrepFault}
+use Rattle.scene_prep.specs.declared.fault.PrepFault.TheVariants as prep
+use Rattle.scene_prep.specs.Scenes.{scene_of}
+use Rattle.scene_prep.specs.Outcomes.{prep_fault}
+use Rattle.session_run.specs.declared.answer.Found.{Found}
+use Rattle.session_run.specs.declared.answer.Own.{Own}
+
+-- what a command is answered: the lines of its body, with a file where it puts one, or why it is refused
+abbrev pub Outcome : Type 0
+Outcome = Result Found Refusal
+
+-- the lines of a body, and no file
+abbrev pub lines_alone : List (List ℕ) → Found
+lines_alone lines = record { body = lines; file = None }
+
+abbrev pub bytes_of : Option File → ℕ
+bytes_of None = 0
+bytes_of (Some file) = length file.bytes
+
+-- the bytes of a body, with their line feeds, and of a file
+abbrev pub size_of : Found → ℕ
+size_of found = length (text_of found.body) + bytes_of found.file
+
+-- the most bytes that the bodies and files of one session may have
+abbrev pub most_used : ℕ
+most_used = 67108864
+
+-- a body and a file, where the bytes used with them are no more than that
+abbrev pub within_quota : ℕ → Outcome → Outcome
+within_quota used (Ok found) = cond (nat_le (used + size_of found) most_used) (Ok found) (Err Quota)
+within_quota used (Err refusal) = Err refusal
+
+-- why names are not shot at
+abbrev pub refusal_of_prep : PrepFault → Refusal
+refusal_of_prep (prep.Missing name) = Missing name
+refusal_of_prep (prep.TooMany size) = Instances size
+refusal_of_prep prep.Memory = Memory
+
+abbrev pub lines_unless : Option PrepFault → List (List ℕ) → Outcome
+lines_unless None lines = Ok (lines_alone lines)
+lines_unless (Some fault) lines = Err (refusal_of_prep fault)
+
+-- a line for each partition of a ray and a scene
+abbrev pub lines_of_scene : List Region → Ray → List (List ℕ)
+lines_of_scene scene ray = shot_lines scene (lit_of scene ray)
+
+-- the partitions of a ray and the regions of the names, or why these make no scene
+abbrev pub shot_of : Entries → Ray → List Name → Outcome
+shot_of directory ray names = lines_unless (prep_fault directory names) (lines_of_scene (scene_of directory names) ray)
+
+-- the first of the names that is not there
+abbrev pub first_missing : Entries → List Name → Option Name
+first_missing directory names = find (λ name. is_none (object_of directory name)) names
+
+abbrev pub lines_unless_missing : Option Name → List (List ℕ) → Outcome
+lines_unless_missing None lines = Ok (lines_alone lines)
+lines_unless_missing (Some name) lines = Err (Missing name)
+
+-- the written text of the directory as a file, and a line with the file's name
+abbrev pub saved : Listing → Name → Found
+saved d file = record { body = (codes "saved " ++ file) ∷ []; file = Some (record { name = file; bytes = written d }) }
+
+-- what a query finds
+abbrev pub found : Listing → Query → Outcome
+found d (queries.List names) = lines_unless_missing (first_missing d.objects names) (written_lines d.objects names)
+found d queries.Names = Ok (lines_alone (names_lines d.objects))
+found d (queries.Tree names) = lines_unless_missing (first_missing d.objects names) (listings d.objects names)
+found d (queries.Save file) = Ok (saved d file)
+found d (queries.Shot ray names) = shot_of d.objects ray names
+
+abbrev pub edit_outcome : Result Listing Refusal → Outcome
+edit_outcome (Ok made) = Ok (lines_alone [])
+edit_outcome (Err refusal) = Err refusal
+
+-- what a command is answered, where its session has used so many bytes; the body of an edit is empty
+abbrev pub outcome_of : Listing → ℕ → Command → Outcome
+outcome_of d used (Bad refusal) = Err refusal
+outcome_of d used (IsEdit edit) = edit_outcome (edited d edit)
+outcome_of d used (IsQuery query) = within_quota used (found d query)
+
+-- the new directory, exactly where the command is an edit that is accepted
+abbrev pub directory_made : Listing → Command → Option Listing
+directory_made d (Bad refusal) = None
+directory_made d (IsEdit edit) = result_ok (edited d edit)
+directory_made d (IsQuery query) = None
+
+-- the bytes used after an answer: an accepted one adds those of its body and of its file
+abbrev pub used_after : ℕ → Outcome → ℕ
+used_after used (Ok found) = used + size_of found
+used_after used (Err refusal) = used
+
+-- what the session has of its own after an answer
+abbrev pub own_with : Own → Outcome → Own
+own_with own outcome = record { used = used_after own.used outcome }
+
+abbrev pub shown : Outcome → Reply File
+shown (Ok found) = Accepted found.body found.file
+shown (Err refusal) = Refused (refusal_text refusal)
+
+-- The rules of the core. What a session has of its own is the number of bytes that it has used.
+abbrev pub core_rules : Rules Listing Own Command File
+core_rules = record {
+  edited = directory_made;
+  reply = λ d own command. shown (outcome_of d own.used command);
+  kept = λ d own command. own_with own (outcome_of d own.used command);
+  forgotten = λ own command. own;
+}
+
+-- a session that has used nothing
+abbrev pub nothing_used : Own
+nothing_used = record { used = 0 }
+
+-- the empty directory
+abbrev pub no_objects : Listing
+no_objects = record { title = []; objects = [] }
+
+-- the state from which a run begins: the directory, version 0, and nothing used by any session
+abbrev pub start_from : Listing → State Listing Own
+start_from d = record { book = record { directory = d; version = 0 }; own = λ session. nothing_used }

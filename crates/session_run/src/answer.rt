@@ -1,0 +1,353 @@
+//! What one command of one session is answered, on one thread.
+ghost use Rattle.std.specs.Prelude.{◌≡◌, ◌≤◌, ◌<◌, ◌+◌, ◌-◌, ◌^◌, ◌++◌, ◌∷◌, [], ℕ, List, Ok, Err, IfOk, OnOk, OnErr, All, length, codes};
+ghost use Rattle.std.specs.Result.{result_ok};
+ghost use Rattle.transcript.specs.Run.{answer_of, book_after, committed, own_after};
+ghost use Rattle.lattice_core.specs.declared.limit.TheConstants.{WORLD};
+ghost use Rattle.lattice_core.specs.Limits.{IsWithin};
+ghost use Rattle.lattice_core.specs.declared.ray.Ray.{Ray};
+ghost use Rattle.name_core.specs.declared.name.Name.{Name};
+ghost use Rattle.directory.specs.Walks.{Entries};
+ghost use Rattle.shot_core.specs.Shots.{lit_of};
+ghost use Rattle.scene_prep.specs.Outcomes.{IsSceneOf};
+ghost use Rattle.edit_core.specs.Refused.{edited};
+ghost use Rattle.report_text.specs.Listings.{listings, written_lines};
+ghost use Rattle.report_text.specs.Names.{names_lines};
+ghost use Rattle.report_text.specs.Texts.{IsText};
+ghost use Rattle.session_run.specs.Answers.{core_book, core_answer, unmarked};
+ghost use Rattle.session_run.specs.Replies.{core_rules, most_used, lines_alone, size_of, within_quota, lines_of_scene, shot_of, first_missing, lines_unless_missing, saved, found, edit_outcome, outcome_of, directory_made, used_after};
+
+use crate::limit::MOST_USED;
+use asc_form::write_asc;
+use command_set::{Command, Edit, Query, Refusal, WorldRay};
+use directory::Directory;
+use edit_core::apply;
+use item_list::Items;
+use lattice_core::Ray;
+use memory_core::Memory;
+use name_core::Name;
+use outside_core::File;
+use report_text::{Body, TextFault, list_text, names_text, shot_text, tree_text};
+use scene_prep::{PrepFault, prepare};
+use shot_core::{Lit, Scene, shoot};
+use std::alloc::Global;
+use std::marker::Brand;
+use std::sync::ledger::{Blank, Ledger};
+use step_counter::Steps;
+
+/// What an accepted command gives: the lines of its body, and a file where it puts one.
+#[derive(Debug, Drop)]
+pub struct Found {
+    pub body: Body,
+    pub file: Option<File>,
+}
+
+/// What a command is answered, or why it is refused, and the version after it.
+#[derive(Debug, Drop)]
+pub struct Answer {
+    pub version: u32,
+    pub outcome: Result<Found, Refusal>,
+}
+
+/// What a session has of its own: how many bytes the bodies and files of its accepted commands have.
+#[derive(Clone, Copy, Debug, PartialEq, Eq)]
+pub struct Own {
+    pub used: u64,
+}
+
+/// The directory, and how many edits of it were accepted.
+#[derive(Drop)]
+pub struct Book {
+    pub directory: Directory,
+    pub version: u32,
+}
+
+fn lines_alone(body: Body) -> Found
+    ensures { result ≡ lines_alone body }
+{
+    Found { body, file: None }
+}
+
+/// A body, or the refusal of one for which there was no room.
+fn found_or_quota(text: Result<Body, TextFault>) -> Result<Result<Found, Refusal>, Memory>
+    ensures { IfOk result (λ outcome. (lines : List (List ℕ)) (used : ℕ) → used ≤ most_used → IsText text lines (most_used - used) → outcome ≡ within_quota used (Ok (lines_alone lines))) }
+{
+    match text {
+        Ok(body) => Ok(Ok(lines_alone(body))),
+        Err(TextFault::Room) => Ok(Err(Refusal::Quota)),
+        Err(TextFault::Memory) => Err(Memory),
+    }
+}
+
+/// The names of all objects, where there is room for them.
+fn look_at_names(
+    alloc: Global,
+    directory: &Directory,
+    used: u64,
+) -> Result<Result<Found, Refusal>, Memory>
+    requires { used ≤ most_used }
+    ensures { IfOk result (λ outcome. outcome ≡ within_quota used (Ok (lines_alone (names_lines directory.now.objects)))) }
+{
+    found_or_quota(names_text(alloc, directory, MOST_USED - used))
+}
+
+/// The first of the names that is not there.
+fn first_missing(directory: &Directory, names: &[Name]) -> Option<Name>
+    ensures { result ≡ first_missing directory.now.objects names.now }
+{
+    names
+        .iter()
+        .copied()
+        .find(|name| directory.get(name).is_none())
+}
+
+/// The written lines of names, where there is room for them, or the refusal of the first name that is not there.
+fn look_at_objects(
+    alloc: Global,
+    directory: &Directory,
+    used: u64,
+    names: &[Name],
+) -> Result<Result<Found, Refusal>, Memory>
+    requires { used ≤ most_used }
+    ensures { IfOk result (λ outcome. outcome ≡ within_quota used (lines_unless_missing (first_missing directory.now.objects names.now) (written_lines directory.now.objects names.now))) }
+{
+    match first_missing(directory, names) {
+        Some(name) => Ok(Err(Refusal::Missing(name))),
+        None => found_or_quota(list_text(alloc, directory, names, MOST_USED - used)),
+    }
+}
+
+/// The listings of names, where there is room for them, or the refusal of the first name that is not there.
+fn look_at_trees(
+    alloc: Global,
+    directory: &Directory,
+    used: u64,
+    names: &[Name],
+) -> Result<Result<Found, Refusal>, Memory>
+    requires { used ≤ most_used }
+    ensures { IfOk result (λ outcome. outcome ≡ within_quota used (lines_unless_missing (first_missing directory.now.objects names.now) (listings directory.now.objects names.now))) }
+{
+    match first_missing(directory, names) {
+        Some(name) => Ok(Err(Refusal::Missing(name))),
+        None => found_or_quota(tree_text(alloc, directory, names, MOST_USED - used)),
+    }
+}
+
+/// The line with the name of a file that is put.
+fn saved_line(alloc: Global, file: &Name) -> Result<Body, Memory>
+    ensures { IfOk result (λ body. body ≡ (codes "saved " ++ file.now) ∷ []) }
+{
+    let mut line = Vec::new(alloc);
+    line.extend_from_slice(b"saved ")?;
+    line.extend_from_slice(file.bytes())?;
+    let mut body = Body::new(alloc);
+    body.push_line(&line)?;
+    Ok(body)
+}
+
+/// The written text of the directory, where there is room for it behind a body.
+fn save_behind(
+    alloc: Global,
+    directory: &Directory,
+    used: u64,
+    file: &Name,
+    body: Body,
+) -> Result<Result<Found, Refusal>, Memory>
+    requires used { used ≤ most_used }
+    requires body { body ≡ (codes "saved " ++ file.now) ∷ [] }
+    ensures { IfOk result (λ outcome. outcome ≡ within_quota used (Ok (saved directory.now file.now))) }
+{
+    let room = MOST_USED - used;
+    let lines = body.text().len() as u64;
+    if lines > room {
+        return Ok(Err(Refusal::Quota));
+    }
+    match write_asc(alloc, directory, room - lines)? {
+        Some(text) => {
+            let bytes = Items::of_vec(text);
+            let file = Some(File { name: *file, bytes });
+            Ok(Ok(Found { body, file }))
+        }
+        None => Ok(Err(Refusal::Quota)),
+    }
+}
+
+/// The whole directory as a file, where there is room for it.
+fn save(
+    alloc: Global,
+    directory: &Directory,
+    used: u64,
+    file: &Name,
+) -> Result<Result<Found, Refusal>, Memory>
+    requires { used ≤ most_used }
+    ensures { IfOk result (λ outcome. outcome ≡ within_quota used (Ok (saved directory.now file.now))) }
+{
+    let body = saved_line(alloc, file)?;
+    save_behind(alloc, directory, used, file, body)
+}
+
+/// What a ray meets of a scene. Its steps are counted for nobody.
+fn shoot_uncounted<L: Ledger>(
+    blank: Blank,
+    alloc: Global,
+    scene: &Scene,
+    ray: &Ray,
+) -> Result<Vec<Lit>, Memory>
+    requires name { blank.name ≡ L.name }
+    requires parts { blank.parts ≡ L.parts }
+    requires some { 0 < blank.parts }
+    requires origin { IsWithin WORLD ray.now.origin }
+    ensures lit { IfOk result (λ v. v.items ≡ lit_of scene.now ray.now) }
+    ensures regions { IfOk result (λ v. All (λ l. l.region < length scene.now) v.items) }
+{
+    let mut steps: Steps<L> = Steps::new(blank);
+    shoot(alloc, scene, ray, &mut steps)
+}
+
+/// The partitions of a ray and a scene, where there is room for them.
+fn shoot_scene(
+    alloc: Global,
+    scene: &Scene,
+    used: u64,
+    ray: &WorldRay,
+) -> Result<Result<Found, Refusal>, Memory>
+    requires { used ≤ most_used }
+    ensures { IfOk result (λ outcome. outcome ≡ within_quota used (Ok (lines_alone (lines_of_scene scene.now ray.now)))) }
+{
+    let lit = shoot_uncounted::<Brand>(Blank::new(1), alloc, scene, &ray.ray())?;
+    found_or_quota(shot_text(alloc, scene, &lit, MOST_USED - used))
+}
+
+/// The refusal of names that make no scene.
+fn refused(fault: PrepFault) -> Result<Result<Found, Refusal>, Memory>
+    ensures { IfOk result (λ outcome. (directory : Entries) (names : List Name) → IsSceneOf (Err fault) directory names → (used : ℕ) (ray : Ray) → outcome ≡ within_quota used (shot_of directory ray names)) }
+{
+    match fault {
+        PrepFault::Missing(name) => Ok(Err(Refusal::Missing(name))),
+        PrepFault::TooMany(size) => Ok(Err(Refusal::Instances(size))),
+        PrepFault::Memory => Err(Memory),
+    }
+}
+
+/// The partitions of a ray and the regions of names.
+fn look_along(
+    alloc: Global,
+    directory: &Directory,
+    used: u64,
+    ray: &WorldRay,
+    names: &[Name],
+) -> Result<Result<Found, Refusal>, Memory>
+    requires { used ≤ most_used }
+    ensures { IfOk result (λ outcome. outcome ≡ within_quota used (shot_of directory.now.objects ray.now names.now)) }
+{
+    match prepare(alloc, directory, names) {
+        Ok(scene) => shoot_scene(alloc, &scene, used, ray),
+        Err(fault) => refused(fault),
+    }
+}
+
+/// What a query is answered.
+fn look(
+    alloc: Global,
+    directory: &Directory,
+    used: u64,
+    query: &Query,
+) -> Result<Result<Found, Refusal>, Memory>
+    requires { used ≤ most_used }
+    ensures { IfOk result (λ outcome. outcome ≡ within_quota used (found directory.now query.now)) }
+{
+    match query {
+        Query::List { names } => look_at_objects(alloc, directory, used, names.items()),
+        Query::Names => look_at_names(alloc, directory, used),
+        Query::Tree { names } => look_at_trees(alloc, directory, used, names.items()),
+        Query::Save { file } => save(alloc, directory, used, file),
+        Query::Shot { ray, names } => look_along(alloc, directory, used, ray, names.items()),
+    }
+}
+
+/// Applies an edit, and counts it where it is accepted.
+fn edit_book(alloc: Global, book: &mut Book, edit: &Edit) -> Result<Result<Found, Refusal>, Memory>
+    requires version { book.old.version + 1 < 2 ^ 32 }
+    ensures outcome { IfOk result (λ outcome. outcome ≡ edit_outcome (edited book.old.directory edit.now)) }
+    ensures book { OnOk result (core_book book.new ≡ committed (core_book book.old) (result_ok (edited book.old.directory edit.now))) }
+    ensures stays { OnErr result (book.new ≡ book.old) }
+    ensures version { book.new.version ≤ book.old.version + 1 }
+{
+    match apply(alloc, &mut book.directory, edit) {
+        Ok(()) => {
+            book.version += 1;
+            Ok(Ok(lines_alone(Body::new(alloc))))
+        }
+        Err(Refusal::Memory) => Err(Memory),
+        Err(refusal) => Ok(Err(refusal)),
+    }
+}
+
+/// Does what a command asks for.
+fn obey(
+    alloc: Global,
+    book: &mut Book,
+    used: u64,
+    command: &Command,
+) -> Result<Result<Found, Refusal>, Memory>
+    requires version { book.old.version + 1 < 2 ^ 32 }
+    requires quota { used ≤ most_used }
+    ensures outcome { IfOk result (λ outcome. outcome ≡ outcome_of book.old.directory used command.now) }
+    ensures book { OnOk result (core_book book.new ≡ committed (core_book book.old) (directory_made book.old.directory command.now)) }
+    ensures stays { OnErr result (book.new ≡ book.old) }
+    ensures version { book.new.version ≤ book.old.version + 1 }
+{
+    match command {
+        Command::Bad(refusal) => Ok(Err(*refusal)),
+        Command::Edit(edit) => edit_book(alloc, book, edit),
+        Command::Query(query) => look(alloc, &book.directory, used, query),
+    }
+}
+
+/// The bytes of a body, with their line feeds, and of a file.
+fn size(found: &Found) -> u64
+    requires { size_of found.now < 2 ^ 64 }
+    ensures { result ≡ size_of found.now }
+{
+    let lines = found.body.text().len() as u64;
+    match &found.file {
+        Some(file) => lines + file.bytes.items().len() as u64,
+        None => lines,
+    }
+}
+
+/// The bytes that a session has used after an answer.
+fn used_with(used: u64, outcome: &Result<Found, Refusal>) -> u64
+    requires { used_after used outcome.now ≤ most_used }
+    ensures { result ≡ used_after used outcome.now }
+{
+    match outcome {
+        Ok(found) => used + size(found),
+        Err(_) => used,
+    }
+}
+
+/// The core step on one thread: what a command of a session is answered, with the book and what the session has of its own
+/// after it. Want of memory leaves both as they were.
+pub fn answer_command(
+    alloc: Global,
+    book: &mut Book,
+    own: &mut Own,
+    command: &Command,
+) -> Result<Answer, Memory>
+    requires version { book.old.version + 1 < 2 ^ 32 }
+    requires quota { own.old.used ≤ most_used }
+    ensures answer { IfOk result (λ answer. core_answer answer ≡ answer_of core_rules (core_book book.old) own.old (unmarked command.now)) }
+    ensures book { OnOk result (core_book book.new ≡ book_after core_rules (core_book book.old) (unmarked command.now)) }
+    ensures own { OnOk result (own.new ≡ own_after core_rules (core_book book.old) own.old (unmarked command.now)) }
+    ensures quota { own.new.used ≤ most_used }
+    ensures version { book.new.version ≤ book.old.version + 1 }
+    ensures book_stays { OnErr result (book.new ≡ book.old) }
+    ensures own_stays { OnErr result (own.new ≡ own.old) }
+{
+    let outcome = obey(alloc, book, own.used, command)?;
+    own.used = used_with(own.used, &outcome);
+    Ok(Answer {
+        version: book.version,
+        outcome,
+    })
+}

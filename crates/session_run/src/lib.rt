@@ -1,0 +1,10 @@
+//! One session: what its commands are answered, on one thread.
+#![tactic(auto)]
+
+mod answer;
+mod laws;
+mod limit;
+
+pub use answer::{Answer, Book, Found, Own, answer_command};
+pub use laws::run_laws;
+pub use limit::{MOST_USED, limit_laws};

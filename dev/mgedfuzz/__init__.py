@@ -5,7 +5,8 @@ commands  random commands that are mostly well formed, with small numbers, so th
 scripts   random scripts of several kinds, made of them
 mutating  scripts and models with random faults put in
 models    random texts of models
-reducing  a text made smaller while something stays true of it
-outcomes  scripts, compared with the program
+calls     random scripts with the words of a command line and the files of a folder
+reducing  a text, and a call, made smaller while something stays true of it
+outcomes  calls, compared with the program
 tables    models, compared with a program that runs rows
 """

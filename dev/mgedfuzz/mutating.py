@@ -10,7 +10,7 @@ NAMES = ("n" * 64, "n" * 65, ".s", "-s", "s/1", "S", "s.", "s-", "s\u00e9", "zz"
 WORDS = ("{}", "{ }", "u", "-", "+", "^", "n", "l", "in", "sph", "comb", "arb8", "V", "r", "{V}", "region", "tree", "rgb", "set", "yes", "#", "@1", "-x", "s", "{l s}", "{0 0 0}")
 COMMANDS = (
     "frob", "l s", "l", "l s {t}", "l {s t}", "tree c", "tree", "tree s/", "put a comb region yes", "put a comb", "put a", "put {a b} comb id 0",
-    "attr set c a b", "attr set c", "attr get c a", "attr set {c d} a b", "title {Cup}", "title", "units mm", "save a.asc", "rt p.ppm +x 0 0 0 1 1 1 s",
+    "attr set c a b", "attr set c", "attr get c a", "attr set {c d} a b", "title {Cup}", "title", "units mm", "save a.asc", "save", "save a b", "save {a b}", "SAVE a", "rt p.ppm +x 0 0 0 1 1 1 s",
     "rtcheck +x 0 0 0 1 1 1 s", "ls s", "LS", "in", "nirt", "{ls}", " @1 ls", "{# x", "@2 # x", "@3", "@1 @2 ls", "@8  ls", "@8 \t{",
 )  # fmt: skip
 BLANK_LINES = ("", " ", "\t \r", "# ls", "  # \x07 \\ {", "\r", "#")

@@ -1,4 +1,4 @@
-"""A text made smaller while something stays true of it."""
+"""A text, and a call, made smaller while something stays true of it."""
 
 import re
 import time
@@ -20,6 +20,20 @@ def smaller(text, holds):
                 lines[at] = with_fewer_words(with_smaller_groups(lines[at], stays_with), stays_with)
         text = b"\n".join(lines)
     return text
+
+
+def smaller_call(call, holds):
+    """The call without the words and files that can be left out, and with smaller texts."""
+    call = call._replace(words=fewer(call.words, lambda words: holds(call._replace(words=words))))
+    for file in call.files:
+        others = {name: text for name, text in call.files.items() if name != file}
+        without = call._replace(files=others)
+        if holds(without):
+            call = without
+        else:
+            text = smaller(call.files[file], lambda text: holds(call._replace(files={**others, file: text})))
+            call = call._replace(files={**others, file: text})
+    return call._replace(script=smaller(call.script, lambda script: holds(call._replace(script=script))))
 
 
 def with_smaller_groups(line, stays):

@@ -1,13 +1,19 @@
 """Random scripts of several kinds."""
 
-from .commands import COMBS, Maker
+from .commands import COMBS
 from .texts import dressed, great_tree
 
 
-def script(rng):
-    """The lines of a script. In some lines blanks and spellings are others, and some scripts have several sessions."""
-    kinds = rays_at_solids, rays_at_regions, rays_at_regions, turned, turned, edits, edits, texts, texts, chain, crowd, great
-    lines = rng.choice(kinds)(Maker(rng))
+ODD_FILES = ("{a}", "{ a }", "{a b}", "a b", "", "{}", "a/b", "./a", "-a", ".a", "n" * 64, "n" * 65, "a;", "a\u00e9")
+
+
+def script(maker, files):
+    """The lines of a script, which may save to these files. In some lines blanks and spellings are others, and some scripts
+    have several sessions."""
+    rng, kinds = maker.rng, (rays_at_solids, rays_at_regions, rays_at_regions, turned, turned, edits, edits, texts, texts, chain, crowd, great)
+    lines = rng.choice(kinds)(maker)
+    for _ in range(rng.choice((0, 0, 1, 2, 3, 6))):
+        lines.insert(rng.randint(0, len(lines)), f"save {rng.choice(ODD_FILES if rng.random() < 0.15 else files)}")
     share = rng.choice((0, 0, 0.1, 0.5))
     lines = [dressed(rng, line) if rng.random() < share and len(line) < 2_000 else line for line in lines]
     return in_sessions(rng, lines) if rng.random() < 0.3 else lines

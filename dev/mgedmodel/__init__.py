@@ -13,9 +13,10 @@ listings    the listings of trees
 shots       the regions of names, and the partitions of a ray
 texts       objects, kept attributes and titles as words
 models      a whole model, read of a text
-rows        rows of models, with what is wanted of each
 lines       which command a line is, or why it is none
 script      the run of a script, its transcript and its status
+calls       a whole call of the program: its words, the model that is loaded, and the script
+rows        rows of models and of words, with what is wanted of each
 
 Each module stands on those above it only. A new command is a reader in `lines` that answers an edit of `directory` or
 a query; a new solid is a class in `solids` and a row in `lines` and in `texts`.

@@ -29,11 +29,11 @@ SOLIDS = {
 }
 
 
-def read_line(line, with_files=False):
-    """The command of a line. `save` is one only where there are files."""
+def read_line(line):
+    """The command of a line."""
     words, end = read_words(line)
     head = atom(words[0])
-    syntax_unless(head in READERS and (with_files or head != b"save"))
+    syntax_unless(head in READERS)
     return READERS[head](line, words, end)
 
 

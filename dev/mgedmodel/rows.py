@@ -1,7 +1,10 @@
-"""Rows of models, as `load TEXT => saved WRITTEN` and `load TEXT => line L KIND`, with texts as docs/CASES.md escapes them."""
+"""Rows of models, as `load TEXT => saved WRITTEN` and `load TEXT => line L KIND`, and of words, as `options WORD .. => load
+NAME`, with texts as docs/CASES.md escapes them."""
 
+import os
 import re
 
+from .calls import file_of
 from .models import read_model
 from .refused import Refused
 from .written import text_of
@@ -22,17 +25,34 @@ def answer_of(text):
         return str(refusal).encode()
 
 
+def asked_of(words):
+    """What the words of the command line ask for."""
+    try:
+        file = file_of([os.fsdecode(word) for word in words])
+    except Refused:
+        return b"usage"
+    return f"load {file}".encode() if file else b"nothing"
+
+
+# What is answered of that which stands behind the first word of a row.
+KINDS = {
+    b"load": lambda given: answer_of(unescaped(given)),
+    b"options": lambda given: asked_of([unescaped(word) for word in given.split()]),
+}
+
+
 def differing(file):
     """The number of the rows of a file, and of each that differs its text, what is wanted and what came."""
     rows = [line for line in file.split(b"\n") if line and not line.startswith(b"#")]
     found = []
     for row in rows:
-        given, arrow, wanted = row.removeprefix(b"load ").partition(b" => ")
-        if not row.startswith(b"load ") or not arrow:
+        asked, arrow, wanted = row.partition(b" => ")
+        kind, _, given = asked.partition(b" ")
+        if kind not in KINDS or not arrow:
             raise ValueError(f"no row: {row.decode('latin-1')}")
-        came = answer_of(unescaped(given))
+        came = KINDS[kind](given)
         if came != unescaped(wanted):
-            found.append((row[: -len(arrow + wanted)], wanted, escaped(came)))
+            found.append((asked, wanted, escaped(came)))
     return len(rows), found
 
 

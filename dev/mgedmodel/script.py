@@ -16,8 +16,8 @@ BLANKS = b" \t\r"
 SESSION = re.compile(rb"@([1-8])(?: (.*))?", re.DOTALL)
 
 # What a call comes to: the status's number, its line on standard error, which may be empty, the bytes written, and the
-# files that are put, each a name and its bytes.
-Outcome = namedtuple("Outcome", "number line written files", defaults=[()])
+# files that are put then, each a name and its bytes.
+Outcome = namedtuple("Outcome", "number line written files", defaults=[b"", ()])
 
 
 class Fault(Exception):
@@ -64,19 +64,19 @@ def session_of(place, line):
     return int(form[1]), form[2] or b""
 
 
-def run(script, directory=None, with_files=False):
-    """What a call of the program with this script comes to. At first there is this directory, else an empty one."""
+def run(script, directory=None):
+    """What a script comes to. At first there is this directory, else an empty one."""
     try:
         commands = commands_of(script)
     except Fault as fault:
-        return Outcome(4, f"mgedrt: {fault}", b"")
+        return Outcome(4, f"mgedrt: {fault}")
     directory, version, any_refused = directory or Directory(), 0, False
     sessions, files = {}, []
     for number, line in commands:
         session = sessions.setdefault(number, Session())
         label = f"{number}.{session.count + 1}"
         try:
-            command = read_line(line, with_files)
+            command = read_line(line)
             body = command.act(directory)
             put = [(command.file, text_of(directory))] if command.file else []
             size = sum(len(text) + 1 for text in body) + sum(len(text) for _, text in put)

@@ -1,11 +1,11 @@
 -- Boxes with points, their hull and their meet.
-use Rattle.std.proofs.Common.{ℤ, pos, ◌*ℤ◌, ◌<ℤ◌, arith, inl, inr, subst, sym}
+use Rattle.std.proofs.Common.{◌↔◌, ℤ, pos, ◌*ℤ◌, ◌<ℤ◌, arith, inl, inr, subst, sym}
 use Rattle.std.proofs.lemmas.Int.{ints}
 use Rattle.lattice_core.specs.declared.vector.V3.{V3}
 use Rattle.lattice_core.specs.declared.boxes.Side.{Side}
 use Rattle.lattice_core.specs.declared.boxes.Box3.{Box3}
 use Rattle.lattice_core.specs.declared.boxes.Box3.TheVariants.{Empty, Span}
-use Rattle.lattice_core.specs.Boxes.{IsBetween, HasPoint, HasSome, IsTidy, IsInside, IsHull, IsMeet}
+use Rattle.lattice_core.specs.Boxes.{IsBetween, HasPoint, HasSome, IsTidy, IsInside, IsHull, IsMeet, Meets}
 use Rattle.lattice_core.specs.Extents.{IsOrdered, hull_low, hull_high}
 use Rattle.lattice_core.specs.Spans.{IsNonEmpty, IsTidyOf, hull_span, meet_span}
 use Rattle.lattice_core.proofs.Extending.{ordered, seen, seen_between, from_hull_first, from_hull_second, up_to_hull_first, up_to_hull_second, from_meet, up_to_meet, least_from, least_up_to}
@@ -156,3 +156,13 @@ meet_tidy a b result tidy =
       | inl t ↦ subst (λ (r : Box3). IsMeet r a b) (sym t.1) (meet_is a b)
       | inr t ↦ subst (λ (r : Box3). IsMeet r a b) (sym t.1) (meet_none a b t.0)
     ]
+
+-- boxes meet where what they share has points
+pub meets_is : (a b : Box3) → IsNonEmpty (meet_span a b) ↔ Meets a b
+meets_is a b = (
+  λ h.
+      let some = nonempty_some (meet_span a b) h in
+      let both = (meet_is a b some.v some.w some.positive).0 some.inside in
+      record { v = some.v; w = some.w; positive = some.positive; in_first = both.0; in_second = both.1 },
+  λ m. point_ordered (meet_span a b) m.v m.w m.positive ((meet_is a b m.v m.w m.positive).1 (m.in_first, m.in_second)),
+)

@@ -4,3 +4,7 @@ pub mod Placing
 pub mod Extending
 pub mod Boxing
 pub mod Meeting
+pub mod Reaching
+pub mod Viewing
+pub mod Tiling
+pub mod TileBoxes

@@ -57,3 +57,21 @@ pub record MeetsRay (b : Box3) (ray : Ray) : Type 0 where
   pub q : ℤ
   pub on_ray : IsOnRay p q
   pub inside : HasPoint b (scaled_point ray p q) q
+
+-- some point lies in both
+pub record Meets (a b : Box3) : Type 0 where
+  pub v : V3
+  pub w : ℤ
+  pub positive : pos 0 <ℤ w
+  pub in_first : HasPoint a v w
+  pub in_second : HasPoint b v w
+
+-- the point v / w lies on the ray
+pub record IsRayPoint (ray : Ray) (v : V3) (w : ℤ) : Type 0 where
+  pub p : ℤ
+  pub on_ray : IsOnRay p w
+  pub is : v ≡ scaled_point ray p w
+
+-- the points of the box are those of the ray
+abbrev pub IsRayBox : Box3 → Ray → Type 0
+IsRayBox b ray = (v : V3) (w : ℤ) → pos 0 <ℤ w → HasPoint b v w ↔ IsRayPoint ray v w

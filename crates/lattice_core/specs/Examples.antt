@@ -1,10 +1,17 @@
 -- Examples, proved by computation.
-use Rattle.std.specs.Prelude.{◌≡◌, ℕ, Bool, true, false, not, cond, ◌&&◌, ◌==◌, ℤ, pos, negsuc, List, [], ◌∷◌, refl, zero, suc}
+use Rattle.std.specs.Prelude.{◌≡◌, Some, None, ℕ, Bool, true, false, not, cond, ◌&&◌, ◌==◌, ℤ, pos, negsuc, List, [], ◌∷◌, refl, zero, suc}
 use Rattle.std.specs.List.{list_all}
 use Rattle.std.specs.Ordering.{int_eq}
 use Rattle.lattice_core.specs.declared.vector.V3.{V3}
 use Rattle.lattice_core.specs.Vectors.{vector}
 use Rattle.lattice_core.specs.Turns.{entry_of, row_of, turned}
+use Rattle.lattice_core.specs.declared.ray.Dir.{Dir}
+use Rattle.lattice_core.specs.declared.ray.Dir.TheVariants.{PlusX, MinusZ}
+use Rattle.lattice_core.specs.declared.view.View.{View}
+use Rattle.lattice_core.specs.declared.view.ViewFault.TheVariants.{Pixels, Side, Cell, World}
+use Rattle.lattice_core.specs.declared.tile.TileSpan.{TileSpan}
+use Rattle.lattice_core.specs.Views.{pixel_ray, view_fault}
+use Rattle.lattice_core.specs.Tiles.{tiles_of, span_of}
 
 -- turn 0 is the identity; turn 13 takes (x, y, z) to (-x, z, -y)
 turn_0 : turned 0 (vector (pos 1) (pos 20) (pos 300)) ≡ vector (pos 1) (pos 20) (pos 300)
@@ -54,3 +61,78 @@ all_signed_permutations = refl
 all_distinct : list_all (λ t. list_all (λ u. not (same_turn t u)) (below t)) (below 48) ≡ true
 unfolding below same_turn same_vector
 all_distinct = refl
+
+abbrev view_of : V3 → Dir → ℤ → ℕ → ℕ → View
+view_of corner dir cell w h = record { corner = corner; dir = dir; cell = cell; w = w; h = h }
+
+abbrev span : ℕ → ℕ → ℕ → ℕ → TileSpan
+span column row w h = record { column = column; row = row; w = w; h = h }
+
+-- seen downwards, columns go to greater x and rows to smaller y
+abbrev downwards : View
+downwards = view_of (vector (pos 0) (pos 15) (pos 100)) MinusZ (pos 2) 40 20
+
+downwards_first : (pixel_ray downwards 0 0).origin ≡ vector (pos 0) (pos 15) (pos 100)
+downwards_first = refl
+
+downwards_last : (pixel_ray downwards 39 19).origin ≡ vector (pos 78) (negsuc 22) (pos 100)
+downwards_last = refl
+
+-- seen along x, columns go to smaller y and rows to smaller z
+abbrev forwards : View
+forwards = view_of (vector (negsuc 49) (pos 30) (pos 20)) PlusX (pos 3) 11 6
+
+forwards_first : (pixel_ray forwards 0 0).origin ≡ vector (negsuc 49) (pos 30) (pos 20)
+forwards_first = refl
+
+forwards_upper_right : (pixel_ray forwards 10 0).origin ≡ vector (negsuc 49) (pos 0) (pos 20)
+forwards_upper_right = refl
+
+forwards_lower_left : (pixel_ray forwards 0 5).origin ≡ vector (negsuc 49) (pos 30) (pos 5)
+forwards_lower_left = refl
+
+-- 40 by 20 pixels have three tiles in each of two rows
+downwards_tiles : tiles_of downwards ≡ 6
+downwards_tiles = refl
+
+tile_inside : span_of downwards 1 ≡ span 16 0 16 16
+tile_inside = refl
+
+tile_at_the_right_edge : span_of downwards 2 ≡ span 32 0 8 16
+tile_at_the_right_edge = refl
+
+tile_at_the_lower_edge : span_of downwards 3 ≡ span 0 16 16 4
+tile_at_the_lower_edge = refl
+
+tile_at_both_edges : span_of downwards 5 ≡ span 32 16 8 4
+tile_at_both_edges = refl
+
+no_fault : view_fault downwards ≡ None
+no_fault = refl
+
+no_pixels : view_fault (view_of (vector (pos 0) (pos 0) (pos 0)) MinusZ (pos 1) 0 5) ≡ Some Pixels
+no_pixels = refl
+
+-- no pixels comes before a side that is too long
+no_pixels_first : view_fault (view_of (vector (pos 0) (pos 0) (pos 0)) MinusZ (pos 1) 2049 0) ≡ Some Pixels
+no_pixels_first = refl
+
+long_side : view_fault (view_of (vector (pos 0) (pos 0) (pos 0)) MinusZ (pos 0) 1 2049) ≡ Some Side
+long_side = refl
+
+no_cell : view_fault (view_of (vector (pos 524289) (pos 0) (pos 0)) MinusZ (pos 0) 1 1) ≡ Some Cell
+no_cell = refl
+
+corner_outside : view_fault (view_of (vector (pos 524289) (pos 0) (pos 0)) MinusZ (pos 1) 1 1) ≡ Some World
+corner_outside = refl
+
+-- 524,279 and ten cells of 1 are too far, and nine are not
+last_column_outside : view_fault (view_of (vector (pos 524279) (pos 0) (pos 0)) MinusZ (pos 1) 11 1) ≡ Some World
+last_column_outside = refl
+
+last_column_inside : view_fault (view_of (vector (pos 524279) (pos 0) (pos 0)) MinusZ (pos 1) 10 1) ≡ None
+last_column_inside = refl
+
+-- one pixel has one ray, whatever the cell
+one_pixel_of_any_cell : view_fault (view_of (vector (pos 0) (pos 0) (pos 0)) MinusZ (pos 999999999) 1 1) ≡ None
+one_pixel_of_any_cell = refl

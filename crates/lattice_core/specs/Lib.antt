@@ -9,4 +9,6 @@ pub mod Matrices
 pub mod Extents
 pub mod Spans
 pub mod Units
+pub mod Views
+pub mod Tiles
 pub mod Examples

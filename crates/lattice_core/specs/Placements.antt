@@ -6,6 +6,7 @@ use Rattle.lattice_core.specs.Limits.{IsWithin}
 use Rattle.lattice_core.specs.Vectors.{vector_sum}
 use Rattle.lattice_core.specs.Turns.{entry_of, turned}
 
+-- where a placement puts a point: turned, and then shifted
 abbrev pub placed : Placement → V3 → V3
 placed by p = vector_sum (turned by.turn.number p) by.shift
 

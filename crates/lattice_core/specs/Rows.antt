@@ -16,6 +16,7 @@ signed_by negated z = cond negated (neg_ℤ z) z
 abbrev pub row_times : Row → V3 → ℤ
 row_times row v = signed_by row.negated (picked row.column v)
 
+-- a row or a column, counted from 1
 abbrev pub IsPlace : ℕ → Type 0
 IsPlace n = (1 ≤ n) × (n ≤ 3)
 

@@ -2,7 +2,9 @@
 use Rattle.std.specs.Prelude.{◌≡◌, ◌⊎◌}
 use Rattle.lattice_core.specs.declared.boxes.Box3.{Box3}
 use Rattle.lattice_core.specs.declared.boxes.Box3.TheVariants.{Empty, Span}
-use Rattle.lattice_core.specs.Extents.{IsOrdered, hull_low, hull_high, meet_low, meet_high}
+use Rattle.lattice_core.specs.declared.boxes.Side.TheVariants.{At}
+use Rattle.lattice_core.specs.declared.vector.V3.{V3}
+use Rattle.lattice_core.specs.Extents.{IsOrdered, hull_low, hull_high, meet_low, meet_high, reach_low, reach_high}
 
 -- no side lies beyond its opposite one
 abbrev pub IsNonEmpty : Box3 → Type 0
@@ -24,3 +26,11 @@ meet_span Empty b = Empty
 meet_span (Span xlo xhi ylo yhi zlo zhi) Empty = Empty
 meet_span (Span xlo xhi ylo yhi zlo zhi) (Span xlo' xhi' ylo' yhi' zlo' zhi') =
     Span (meet_low xlo xlo') (meet_high xhi xhi') (meet_low ylo ylo') (meet_high yhi yhi') (meet_low zlo zlo') (meet_high zhi zhi')
+
+-- from the least coordinate of a ray to the greatest, along each axis
+abbrev pub reach_span : V3 → V3 → Box3
+reach_span origin step =
+    Span
+    (At (reach_low origin.x step.x)) (At (reach_high origin.x step.x))
+    (At (reach_low origin.y step.y)) (At (reach_high origin.y step.y))
+    (At (reach_low origin.z step.z)) (At (reach_high origin.z step.z))

@@ -32,7 +32,7 @@ entry_of turn row column =
 abbrev pub row_of : ℕ → ℕ → V3
 row_of turn row = record { x = entry_of turn row 1; y = entry_of turn row 2; z = entry_of turn row 3 }
 
--- the matrix times a vector
+-- the vector that a turn makes of one: the matrix times the vector
 abbrev pub turned : ℕ → V3 → V3
 turned turn v = record {
   x = dot_product (row_of turn 1) v;

@@ -4,6 +4,7 @@ use Rattle.lattice_core.specs.declared.vector.V3.{V3}
 use Rattle.lattice_core.specs.declared.ray.Dir.{Dir}
 use Rattle.lattice_core.specs.declared.ray.Dir.TheVariants.{PlusX, MinusX, PlusY, MinusY, PlusZ, MinusZ}
 
+-- the vector of length 1 in a direction
 abbrev pub unit_of : Dir → V3
 unit_of PlusX = record { x = pos 1; y = pos 0; z = pos 0 }
 unit_of MinusX = record { x = negsuc 0; y = pos 0; z = pos 0 }

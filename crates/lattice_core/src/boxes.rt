@@ -1,13 +1,17 @@
 //! Closed boxes along the axes: the least one that holds two, what two share, and whether a ray meets one.
 
-ghost use Rattle.std.specs.Prelude.{◌↔◌, ◌≡◌, IsTrue};
+ghost use Rattle.std.specs.Prelude.{◌↔◌, ◌≡◌, pos, IsTrue};
 ghost use Rattle.lattice_core.specs.declared.limit.TheConstants.{WORLD};
 ghost use Rattle.lattice_core.specs.Limits.{IsWithin};
-ghost use Rattle.lattice_core.specs.Boxes.{IsHull, IsMeet, IsTidy, MeetsRay};
-ghost use Rattle.lattice_core.specs.Spans.{IsNonEmpty, IsTidyOf, hull_span, meet_span};
+ghost use Rattle.lattice_core.specs.Boxes.{IsHull, IsMeet, IsTidy, Meets, MeetsRay, IsRayBox};
+ghost use Rattle.lattice_core.specs.Spans.{IsNonEmpty, IsTidyOf, hull_span, meet_span, reach_span};
 
-use crate::extent::{hull_high, hull_low, is_ordered, meet_high, meet_low, meets_reach};
+use crate::extent::{
+    greatest_on_ray, hull_high, hull_low, is_ordered, least_on_ray, meet_high, meet_low,
+    meets_reach,
+};
 use crate::ray::Ray;
+use crate::vector::V3;
 
 /// One side of a box: open, or at a whole coordinate in millimetres, which belongs to the box.
 #[derive(Clone, Copy, Debug, PartialEq, Eq, Hash)]
@@ -118,6 +122,36 @@ fn meet_of_spans(a: &Box3, b: &Box3) -> Box3
             zhi: meet_high(zhi, zhi_2),
         },
         _ => Box3::Empty,
+    }
+}
+
+/// Whether some point lies in both boxes. Boxes that only touch share one.
+pub fn boxes_meet(a: &Box3, b: &Box3) -> bool
+    ensures { IsTrue result ↔ Meets a.now b.now }
+{
+    has_points(&meet_of_spans(a, b))
+}
+
+/// The box of the points of a ray.
+pub fn ray_box(ray: &Ray) -> Box3
+    requires { IsWithin WORLD ray.now.origin }
+    ensures { IsRayBox result ray.now }
+{
+    reach_of(ray.origin, ray.dir.unit())
+}
+
+fn reach_of(origin: V3, step: V3) -> Box3
+    requires origin { IsWithin WORLD origin }
+    requires step { IsWithin (pos 1) step }
+    ensures { result ≡ reach_span origin step }
+{
+    Box3::Span {
+        xlo: least_on_ray(origin.x, step.x),
+        xhi: greatest_on_ray(origin.x, step.x),
+        ylo: least_on_ray(origin.y, step.y),
+        yhi: greatest_on_ray(origin.y, step.y),
+        zlo: least_on_ray(origin.z, step.z),
+        zhi: greatest_on_ray(origin.z, step.z),
     }
 }
 

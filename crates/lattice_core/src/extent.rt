@@ -70,7 +70,8 @@ pub fn meets_reach(low: Side, high: Side, origin: i64, step: i64) -> bool
     )
 }
 
-fn least_on_ray(origin: i64, step: i64) -> Side
+/// The least coordinate on a ray, as a side.
+pub fn least_on_ray(origin: i64, step: i64) -> Side
     requires origin { IsAtMost WORLD origin }
     requires step { IsStep step }
     ensures { result ≡ Side.At (reach_low origin step) }
@@ -78,7 +79,8 @@ fn least_on_ray(origin: i64, step: i64) -> Side
     Side::At(origin.min(origin + step * FAR))
 }
 
-fn greatest_on_ray(origin: i64, step: i64) -> Side
+/// The greatest coordinate on a ray, as a side.
+pub fn greatest_on_ray(origin: i64, step: i64) -> Side
     requires origin { IsAtMost WORLD origin }
     requires step { IsStep step }
     ensures { result ≡ Side.At (reach_high origin step) }

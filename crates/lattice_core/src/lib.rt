@@ -1,4 +1,4 @@
-//! The lattice of whole points: vectors, axis directions, rays, placements and boxes. Lengths are whole millimetres.
+//! The lattice of whole points: vectors, axis directions, rays, views and their tiles, placements and boxes. Lengths are whole millimetres.
 #![tactic(auto)]
 
 mod boxes;
@@ -7,12 +7,18 @@ mod limit;
 mod placement;
 mod ray;
 mod row;
+mod tile;
 mod turn;
 mod vector;
+mod view;
 
-pub use boxes::{Box3, Side, box_meets_ray, hull, meet};
-pub use limit::{COORD, FAR, PLACED, REACH, SHIFT, WIDE, WORLD, limit_laws};
+pub use boxes::{Box3, Side, box_meets_ray, boxes_meet, hull, meet, ray_box};
+pub use limit::{
+    COORD, FAR, PICTURE_SIDE, PLACED, REACH, SHIFT, TILE_SIDE, VIEW_NUMBER, WIDE, WORLD, limit_laws,
+};
 pub use placement::{MatrixFault, Placement, compose, of_matrix};
 pub use ray::{Dir, Ray};
+pub use tile::{TileSpan, box_meets_tile, tile_box};
 pub use turn::Turn;
 pub use vector::V3;
+pub use view::{View, ViewFault};

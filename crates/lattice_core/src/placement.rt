@@ -55,7 +55,7 @@ pub fn of_matrix(m: &[i64; 16]) -> Result<Placement, MatrixFault>
         return Err(MatrixFault::NotLattice);
     };
     let shift = shift_in(m);
-    if is_near(shift) {
+    if shift.is_within(COORD) {
         Ok(Placement { turn, shift })
     } else {
         Err(MatrixFault::TooFar)
@@ -88,26 +88,6 @@ fn shift_in(m: &[i64; 16]) -> V3
         y: m[7],
         z: m[11],
     }
-}
-
-fn is_near(shift: V3) -> bool
-    ensures { IsTrue result ↔ IsWithin COORD shift }
-{
-    let V3 { x, y, z } = shift;
-    if !is_at_most(COORD, x) {
-        return false;
-    }
-    if !is_at_most(COORD, y) {
-        return false;
-    }
-    is_at_most(COORD, z)
-}
-
-fn is_at_most(limit: i64, component: i64) -> bool
-    requires { (pos 0 ≤ℤ limit) × (limit ≤ℤ REACH) }
-    ensures { IsTrue result ↔ IsAtMost limit component }
-{
-    -limit <= component && component <= limit
 }
 
 impl Placement {

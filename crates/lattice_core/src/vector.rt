@@ -1,7 +1,8 @@
 //! Points and vectors, and what is done to their components.
 
-ghost use Rattle.std.specs.Prelude.{◌≡◌, ◌↔◌, ℤ, IsTrue};
+ghost use Rattle.std.specs.Prelude.{◌≡◌, ◌↔◌, ◌≤ℤ◌, ℤ, pos, IsTrue};
 ghost use Rattle.lattice_core.specs.declared.limit.TheConstants.{WIDE};
+ghost use Rattle.lattice_core.specs.Limits.{IsAtMost};
 
 use crate::ray::Dir;
 
@@ -14,7 +15,7 @@ pub struct V3 {
 }
 
 impl V3 {
-    ghost use Rattle.lattice_core.specs.Limits.{IsAtMost, IsWithin, IsBelow};
+    ghost use Rattle.lattice_core.specs.Limits.{IsWithin, IsBelow};
     ghost use Rattle.lattice_core.specs.Units.{unit_of};
     ghost use Rattle.lattice_core.specs.Vectors.{dot_product, vector_sum, zero_vector};
 
@@ -54,4 +55,25 @@ impl V3 {
     {
         self.x == 0 && self.y == 0 && self.z == 0
     }
+
+    /// Whether every component is at most a limit in size.
+    pub fn is_within(self, limit: i64) -> bool
+        requires { (pos 0 ≤ℤ limit) × (limit ≤ℤ WIDE) }
+        ensures { IsTrue result ↔ IsWithin limit self }
+    {
+        if !is_at_most(limit, self.x) {
+            return false;
+        }
+        if !is_at_most(limit, self.y) {
+            return false;
+        }
+        is_at_most(limit, self.z)
+    }
+}
+
+fn is_at_most(limit: i64, component: i64) -> bool
+    requires { (pos 0 ≤ℤ limit) × (limit ≤ℤ WIDE) }
+    ensures { IsTrue result ↔ IsAtMost limit component }
+{
+    -limit <= component && component <= limit
 }

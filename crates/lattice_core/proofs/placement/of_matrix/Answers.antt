@@ -6,22 +6,22 @@ use Rattle.lattice_core.specs.declared.limit.TheConstants.{COORD}
 use Rattle.lattice_core.proofs.Placing.{IsReadMatrix, matrix_is, rows_in, last_in, read_near, read_far, read_none, rows_of_parts, parts_of_rows}
 use Rattle.lattice_core.proofs.placement.of_matrix.Goals as goal
 
-pub returns-then-is_near : goal.returns-then-is_near
-returns-then-is_near c =
+pub returns-then-is_within : goal.returns-then-is_within
+returns-then-is_within c =
     let p : Placement = record { turn = c.in-Some.turn; shift = c.shift_in-shift.result } in
     let e = matrix_is c.args.m.now p c.told-m
     (rows_of_parts c.args.m.now p.turn.number c.vector_at.ensures c.vector_at-2.ensures c.vector_at-3.ensures c.in-Some.ensures.some)
     (c.if-not-has_last_row.ensures.0 refl) c.shift_in-shift.ensures in
-    let all : IsReadMatrix COORD c.args.m.now (Ok p) = read_near COORD c.args.m.now p e (c.if-is_near.ensures.0 refl) in
+    let all : IsReadMatrix COORD c.args.m.now (Ok p) = read_near COORD c.args.m.now p e (c.if-is_within.ensures.0 refl) in
     record { value = all.value; not_lattice = all.not_lattice; too_far = all.too_far }
 
-pub returns-else-is_near : goal.returns-else-is_near
-returns-else-is_near c =
+pub returns-else-is_within : goal.returns-else-is_within
+returns-else-is_within c =
     let p : Placement = record { turn = c.in-Some.turn; shift = c.shift_in-shift.result } in
     let e = matrix_is c.args.m.now p c.told-m
     (rows_of_parts c.args.m.now p.turn.number c.vector_at.ensures c.vector_at-2.ensures c.vector_at-3.ensures c.in-Some.ensures.some)
     (c.if-not-has_last_row.ensures.0 refl) c.shift_in-shift.ensures in
-    let all : IsReadMatrix COORD c.args.m.now (Err TooFar) = read_far COORD c.args.m.now p e (λ near. false≢true (c.if-is_near.ensures.1 near)) in
+    let all : IsReadMatrix COORD c.args.m.now (Err TooFar) = read_far COORD c.args.m.now p e (λ near. false≢true (c.if-is_within.ensures.1 near)) in
     record { value = all.value; not_lattice = all.not_lattice; too_far = all.too_far }
 
 pub returns-then-not-has_last_row : goal.returns-then-not-has_last_row

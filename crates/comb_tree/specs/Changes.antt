@@ -16,9 +16,11 @@ abbrev pub map_members : (Member → Member) → Comb → Comb
 map_members f None = None
 map_members f (Some t) = Some (map_leaves f t)
 
+-- a member of this name with another name, and every other one as it is
 abbrev pub renamed : Name → Name → Member → Member
 renamed old new m = cond (same_name m.name old) (record m { name = new }) m
 
+-- a member of this name with another placement, and every other one as it is
 abbrev pub placed : Name → Placement → Member → Member
 placed name by m = cond (same_name m.name name) (record m { placement = by }) m
 

@@ -47,6 +47,7 @@ abbrev pub union_of : Comb → List (List ListEntry) → Comb
 union_of t [] = t
 union_of t (p ∷ ps) = union_of (united t (product_tree p)) ps
 
+-- the tree of a list: the union of its products, from the left
 abbrev pub tree_of_list : List ListEntry → Comb
 tree_of_list l = union_of None (products l)
 

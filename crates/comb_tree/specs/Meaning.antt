@@ -4,7 +4,7 @@ use Rattle.tree_forms.specs.Trees.{joined, holds}
 use Rattle.comb_tree.specs.declared.node.ListEntry.{ListEntry}
 use Rattle.comb_tree.specs.Nodes.{Comb}
 
--- the empty tree holds nowhere
+-- whether a combination's tree holds, for a truth value per leaf; the empty tree holds nowhere
 abbrev pub comb_holds : Comb → (ℕ → Bool) → Bool
 comb_holds None values = false
 comb_holds (Some t) values = holds t values

@@ -12,8 +12,10 @@ pub record KeyAndValue : Type 0 where
   pub key : Name
   pub value : List ℕ
 
+-- the shift of each entry's placement is within the limit
 abbrev pub AreNear : List ListEntry → Type 0
 AreNear list = All (λ (e : ListEntry). IsWithin COORD e.placement.shift) list
 
+-- the value of each kept attribute is a text that can be one
 abbrev pub AreTexts : List KeptAttr → Type 0
 AreTexts pairs = All (λ (k : KeptAttr). IsTextValue k.value) pairs

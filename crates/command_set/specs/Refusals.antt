@@ -20,6 +20,7 @@ shape_text (NotConvex face) = codes "convex " ++ decimal face
 shape_text Radius = codes "radius"
 shape_text ZeroNormal = codes "normal"
 
+-- how a refusal is printed
 abbrev pub refusal_text : Refusal → List ℕ
 refusal_text Syntax = codes "syntax"
 refusal_text (Name word) = codes "name " ++ decimal word

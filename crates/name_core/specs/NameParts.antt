@@ -5,6 +5,7 @@ use Rattle.std.proofs.lemmas.List.{length-take-le}
 use Rattle.name_core.specs.NameText.{IsName}
 use Rattle.name_core.specs.declared.name.Name.TheInside.{Inside}
 
+-- the bytes of a name as it is kept
 abbrev pub bytes_of : Inside → List ℕ
 bytes_of s = take s.len s.buf
 

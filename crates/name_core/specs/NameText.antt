@@ -26,6 +26,7 @@ abbrev pub read_with : Option ℕ → List ℕ → Result (List ℕ) NameFault
 read_with None bytes = Ok bytes
 read_with (Some place) bytes = Err (BadByte place)
 
+-- the name that bytes are, or the first fault: no byte, over 64 bytes, or the first bad byte
 abbrev pub read_name : List ℕ → Result (List ℕ) NameFault
 read_name bytes = cond (length bytes == 0) (Err Empty) (cond (nat_lt 64 (length bytes)) (Err Long) (read_with (first_bad bytes) bytes))
 

@@ -13,6 +13,7 @@ use Rattle.object_set.specs.declared.kept.KeptAttr.{KeptAttr}
 use Rattle.object_set.specs.declared.object.Body.{Body}
 use Rattle.object_set.specs.declared.object.Body.TheVariants.{Solid, Comb}
 
+-- an object as contracts see it: a solid or a combination, and the attributes that it keeps
 pub record Parts : Type 0 where
   pub body : Body
   pub kept : List KeptAttr
@@ -26,6 +27,7 @@ pub record IsComb (attr : Attr) (tree : Tree) : Type 0 where
   pub few : length (members tree) ≤ 4096
   pub near : All (λ (m : Member). IsWithin COORD m.placement.shift) (members tree)
 
+-- a solid, or a combination whose numbers and shifts are in their ranges
 abbrev pub IsBody : Body → Type 0
 IsBody (Solid solid) = Unit {0}
 IsBody (Comb attr tree) = IsComb attr tree
@@ -35,6 +37,7 @@ pub record IsKept (kept : List KeptAttr) : Type 0 where
   pub distinct : IsDistinct same_name (keys_of_kept kept)
   pub texts : All (λ k. IsTextValue k.value) kept
 
+-- what the type of an object keeps: its body is lawful, and so are the attributes that it keeps
 pub record IsObject (object : Parts) : Type 0 where
   pub body : IsBody object.body
   pub kept : IsKept object.kept

@@ -15,5 +15,6 @@ abbrev pub renamed_body : Name → Name → Body → Body
 renamed_body old new (Solid solid) = Solid solid
 renamed_body old new (Comb attr tree) = Comb attr (map_members (renamed old new) tree)
 
+-- the object with one name in the place of another in its tree
 abbrev pub renamed_object : Name → Name → Parts → Parts
 renamed_object old new object = record object { body = renamed_body old new object.body }

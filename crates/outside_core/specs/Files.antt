@@ -17,6 +17,6 @@ pub record HasSet (old new : List File) (name bytes : List ℕ) : Type 0 where
   pub here : bytes_in new name ≡ Some bytes
   pub others : (other : List ℕ) → other ≢ name → bytes_in new other ≡ bytes_in old other
 
--- the same of files that may not be told, which are told after the call where they were told before
+-- what a put makes of files that may not be told: where they were told before they are told after, with this one
 abbrev pub SetsFile : Option (List File) → Option (List File) → List ℕ → List ℕ → Type 0
 SetsFile old new name bytes = IfSome old (λ before. (after : List File) × (new ≡ Some after) × HasSet before after name bytes)

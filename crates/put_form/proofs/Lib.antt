@@ -6,4 +6,6 @@ pub mod SolidLaws
 pub mod CombLaws
 pub mod TreeLaws
 pub mod PutLaws
+pub mod MemberLaws
 pub mod OneLine
+pub mod NameWords

@@ -11,14 +11,14 @@ use Rattle.lattice_core.specs.declared.placement.Placement.{Placement}
 use Rattle.lattice_core.specs.Placements.{matrix_of}
 use Rattle.tree_forms.specs.declared.Op.{Op}
 use Rattle.tree_forms.specs.declared.Op.TheVariants.{U, N, Minus}
-use Rattle.tree_forms.specs.Trees.{Tree, Leaf, Join, postfix}
-use Rattle.comb_tree.specs.Nodes.{Comb, Member, leaf, apply, comb_nodes}
+use Rattle.tree_forms.specs.Trees.{Tree, Leaf, Join, leaves, postfix}
+use Rattle.comb_tree.specs.Nodes.{Comb, Member, leaf, apply, comb_nodes, members}
 use Rattle.region_attr.specs.declared.attr.Attr.{Attr}
 use Rattle.region_attr.specs.declared.attr.Rgb.{Rgb}
 use Rattle.solid_set.specs.declared.solid.Solid.{Solid}
 use Rattle.solid_set.specs.declared.solid.Solid.TheVariants as solids
 use Rattle.object_set.specs.Named.{HasName, HaveNames, HasKey, IsNamedEntry}
-use Rattle.object_set.specs.Objects.{Parts, IsKept}
+use Rattle.object_set.specs.Objects.{Parts, IsKept, member_names}
 use Rattle.object_set.specs.TextValues.{IsTextValue}
 use Rattle.object_set.specs.declared.kept.KeptAttr.{KeptAttr}
 use Rattle.object_set.specs.declared.object.Body.{Body}
@@ -27,6 +27,7 @@ use Rattle.object_set.proofs.Each.{by_each, of_first, of_rest}
 use Rattle.transcript.specs.Lines.{Lacks}
 use Rattle.transcript.proofs.LineLaws.{lacks_append}
 use Rattle.transcript.proofs.TranscriptLaws.{computed}
+use Rattle.put_form.proofs.MemberLaws.{AreNamed, first_named, rest_named, both_named}
 use Rattle.put_form.specs.Written.{numbers_text, vector_text, vertices_text, solid_text, truth_text, colour_text, attr_text, is_zero, matrix_text, operator_text, node_text, tree_text, body_text, put_line, kept_text, kept_line, kept_lines, object_lines}
 
 -- a name has none
@@ -120,44 +121,80 @@ operator_lacks U = computed 10 (codes "u") refl
 operator_lacks N = computed 10 (codes "n") refl
 operator_lacks Minus = computed 10 (codes "-") refl
 
-node_lacks : (t : Tree Member) → AllByRecursion HasName (postfix leaf apply t) → Lacks 10 (node_text t)
-node_lacks (Leaf m) h = begun (codes "l ") _ (computed 10 (codes "l ") refl) (begun m.name _ (name_lacks m.name h.0) (matrix_lacks m.placement))
+-- a tree whose members' names have none
+node_lacks : (t : Tree Member) → AreNamed (leaves t) → Lacks 10 (node_text t)
+node_lacks (Leaf m) h = begun (codes "l ") _ (computed 10 (codes "l ") refl) (begun m.name _ h.0 (matrix_lacks m.placement))
 node_lacks (Join op l r) h =
-    let left : AllByRecursion HasName (postfix leaf apply l) = of_first HasName (postfix leaf apply l) (postfix leaf apply r ++ apply op ∷ []) h in
-    let right : AllByRecursion HasName (postfix leaf apply r) = of_first HasName (postfix leaf apply r) (apply op ∷ []) (of_rest HasName (postfix leaf apply l) (postfix leaf apply r ++ apply op ∷ []) h) in
     begun (operator_text op) _ (operator_lacks op) (begun (codes " {") _ (computed 10 (codes " {") refl)
-    (begun (node_text l) _ (node_lacks l left) (begun (codes "} {") _ (computed 10 (codes "} {") refl) (begun (node_text r) _ (node_lacks r right) (computed 10 (codes "}") refl)))))
+    (begun (node_text l) _ (node_lacks l (first_named (leaves l) (leaves r) h)) (begun (codes "} {") _ (computed 10 (codes "} {") refl)
+    (begun (node_text r) _ (node_lacks r (rest_named (leaves l) (leaves r) h)) (computed 10 (codes "}") refl)))))
 
-tree_lacks : (t : Comb) → All HasName (comb_nodes t) → Lacks 10 (tree_text t)
+tree_lacks : (t : Comb) → AreNamed (members t) → Lacks 10 (tree_text t)
 tree_lacks None h = tt
-tree_lacks (Some t) h = begun (codes " tree {") _ (computed 10 (codes " tree {") refl) (begun (node_text t) _ (node_lacks t (by_each HasName (postfix leaf apply t) h)) (computed 10 (codes "}") refl))
+tree_lacks (Some t) h = begun (codes " tree {") _ (computed 10 (codes " tree {") refl) (begun (node_text t) _ (node_lacks t h) (computed 10 (codes "}") refl))
 
-body_lacks : (body : Body) → HaveNames body → Lacks 10 (body_text body)
+-- the names of the members of a body have none
+abbrev pub AreMembersPlain : Body → Type 0
+AreMembersPlain body = AllByRecursion (Lacks 10) (member_names body)
+
+-- the names and the values of attributes have none
+abbrev pub AreAttrsPlain : List KeptAttr → Type 0
+AreAttrsPlain kept = AllByRecursion (λ (k : KeptAttr). Lacks 10 k.name × Lacks 10 k.value) kept
+
+body_lacks : (body : Body) → AreMembersPlain body → Lacks 10 (body_text body)
 body_lacks (bodies.Solid solid) h = solid_lacks solid
 body_lacks (bodies.Comb attr tree) h = begun (codes "comb ") (attr_text attr ++ tree_text tree) (computed 10 (codes "comb ") refl) (begun (attr_text attr) _ (attr_lacks attr) (tree_lacks tree h))
 
+plain_put : (name : Name) (body : Body) → Lacks 10 name → AreMembersPlain body → Lacks 10 (put_line name body)
+plain_put name body h k =
+    begun (codes "put ") _ (computed 10 (codes "put ") refl) (begun name _ h (begun (codes " ") _ (computed 10 (codes " ") refl) (body_lacks body k)))
+
+attributes_lack : (kept : List KeptAttr) → AreAttrsPlain kept → Lacks 10 (flat_map kept_text kept)
+attributes_lack [] h = tt
+attributes_lack (k ∷ ks) h =
+    begun (kept_text k) _
+    (begun (codes " ") _ (computed 10 (codes " ") refl) (begun k.name _ h.0.0 (begun (codes " {") _ (computed 10 (codes " {") refl) (begun k.value _ h.0.1 (computed 10 (codes "}") refl)))))
+    (attributes_lack ks h.1)
+
+plain_kept : (name : Name) (kept : List KeptAttr) → Lacks 10 name → AreAttrsPlain kept → Lacks 10 (kept_line name kept)
+plain_kept name kept h k = begun (codes "attr set ") _ (computed 10 (codes "attr set ") refl) (begun name _ h (attributes_lack kept k))
+
+plain_kept_lines : (name : Name) (kept : List KeptAttr) → Lacks 10 name → AreAttrsPlain kept → AllByRecursion (Lacks 10) (kept_lines name kept)
+plain_kept_lines name [] h k = tt
+plain_kept_lines name (a ∷ rest) h k = (plain_kept name (a ∷ rest) h k, tt)
+
+-- no line of such an object has one
+pub plain_lines : (name : Name) (object : Parts) → Lacks 10 name → AreMembersPlain object.body → AreAttrsPlain object.kept → AllByRecursion (Lacks 10) (object_lines name object)
+plain_lines name object h members kept = (plain_put name object.body h members, plain_kept_lines name object.kept h kept)
+
+-- names are such names, and values that can be kept are such values
+leaves_named : (t : Tree Member) → AllByRecursion HasName (postfix leaf apply t) → AreNamed (leaves t)
+leaves_named (Leaf m) h = (name_lacks m.name h.0, tt)
+leaves_named (Join op l r) h =
+    both_named (leaves l) (leaves r)
+    (leaves_named l (of_first HasName (postfix leaf apply l) (postfix leaf apply r ++ apply op ∷ []) h))
+    (leaves_named r (of_first HasName (postfix leaf apply r) (apply op ∷ []) (of_rest HasName (postfix leaf apply l) (postfix leaf apply r ++ apply op ∷ []) h)))
+
+tree_named : (tree : Comb) → All HasName (comb_nodes tree) → AreNamed (members tree)
+tree_named None h = tt
+tree_named (Some t) h = leaves_named t (by_each HasName (postfix leaf apply t) h)
+
+pub members_plain : (body : Body) → HaveNames body → AreMembersPlain body
+members_plain (bodies.Solid solid) h = tt
+members_plain (bodies.Comb attr tree) h = tree_named tree h
+
+each_plain : (kept : List KeptAttr) → AllByRecursion HasKey kept → AllByRecursion (λ (k : KeptAttr). IsTextValue k.value) kept → AreAttrsPlain kept
+each_plain [] keys texts = tt
+each_plain (k ∷ ks) keys texts = ((name_lacks k.name keys.0, by_each (λ b. b ≢ 10) k.value texts.0.one_line), each_plain ks keys.1 texts.1)
+
+pub attrs_plain : (kept : List KeptAttr) → All HasKey kept → IsKept kept → AreAttrsPlain kept
+attrs_plain kept keys lawful = each_plain kept (by_each HasKey kept keys) (by_each (λ (k : KeptAttr). IsTextValue k.value) kept lawful.texts)
+
 pub put_lacks : (name : Name) (body : Body) → IsName name → HaveNames body → Lacks 10 (put_line name body)
-put_lacks name body h k =
-    begun (codes "put ") _ (computed 10 (codes "put ") refl) (begun name _ (name_lacks name h) (begun (codes " ") _ (computed 10 (codes " ") refl) (body_lacks body k)))
-
-attribute_lacks : (attribute : KeptAttr) → HasKey attribute → IsTextValue attribute.value → Lacks 10 (kept_text attribute)
-attribute_lacks attribute key text =
-    begun (codes " ") _ (computed 10 (codes " ") refl) (begun attribute.name _ (name_lacks attribute.name key)
-    (begun (codes " {") _ (computed 10 (codes " {") refl) (begun attribute.value _ (by_each (λ b. b ≢ 10) attribute.value text.one_line) (computed 10 (codes "}") refl))))
-
-attributes_lack : (kept : List KeptAttr) → AllByRecursion HasKey kept → AllByRecursion (λ (k : KeptAttr). IsTextValue k.value) kept → Lacks 10 (flat_map kept_text kept)
-attributes_lack [] keys texts = tt
-attributes_lack (k ∷ ks) keys texts = begun (kept_text k) _ (attribute_lacks k keys.0 texts.0) (attributes_lack ks keys.1 texts.1)
+put_lacks name body h k = plain_put name body (name_lacks name h) (members_plain body k)
 
 pub kept_lacks : (name : Name) (kept : List KeptAttr) → IsName name → All HasKey kept → IsKept kept → Lacks 10 (kept_line name kept)
-kept_lacks name kept h keys lawful =
-    begun (codes "attr set ") _ (computed 10 (codes "attr set ") refl) (begun name _ (name_lacks name h)
-    (attributes_lack kept (by_each HasKey kept keys) (by_each (λ (k : KeptAttr). IsTextValue k.value) kept lawful.texts)))
+kept_lacks name kept h keys lawful = plain_kept name kept (name_lacks name h) (attrs_plain kept keys lawful)
 
-kept_lines_lack : (name : Name) (kept : List KeptAttr) → IsName name → All HasKey kept → IsKept kept → AllByRecursion (Lacks 10) (kept_lines name kept)
-kept_lines_lack name [] h keys lawful = tt
-kept_lines_lack name (k ∷ ks) h keys lawful = (kept_lacks name (k ∷ ks) h keys lawful, tt)
-
--- no line of an object has one
 pub object_lines_lack : (name : Name) (object : Parts) → IsNamedEntry (name, object) → AllByRecursion (Lacks 10) (object_lines name object)
-object_lines_lack name object h = (put_lacks name object.body h.name h.members, kept_lines_lack name object.kept h.name h.keys h.kept)
+object_lines_lack name object h = plain_lines name object (name_lacks name h.name) (members_plain object.body h.members) (attrs_plain object.kept h.keys h.kept)

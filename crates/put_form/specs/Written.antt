@@ -78,6 +78,7 @@ abbrev pub body_text : Body → List ℕ
 body_text (bodies.Solid solid) = solid_text solid
 body_text (bodies.Comb attr tree) = codes "comb " ++ (attr_text attr ++ tree_text tree)
 
+-- the line that puts an object
 abbrev pub put_line : Name → Body → List ℕ
 put_line name body = codes "put " ++ (name ++ (codes " " ++ body_text body))
 
@@ -85,6 +86,7 @@ put_line name body = codes "put " ++ (name ++ (codes " " ++ body_text body))
 abbrev pub kept_text : KeptAttr → List ℕ
 kept_text k = codes " " ++ (k.name ++ (codes " {" ++ (k.value ++ codes "}")))
 
+-- the line that keeps an object's attributes
 abbrev pub kept_line : Name → List KeptAttr → List ℕ
 kept_line name kept = codes "attr set " ++ (name ++ flat_map kept_text kept)
 

@@ -86,7 +86,7 @@ pub(crate) fn read_pairs<'a>(
     ensures words { IfOk result (λ found. IfSome found (λ v. steps.HaveWords tokens.now v.items)) }
     ensures places { IfOk result (λ found. IfSome found (λ v. steps.HavePlaces v.items)) }
 {
-    let mut pairs = Vec::new(alloc);
+    let mut pairs = Vec::with_capacity(alloc, words.len() / 2)?;
     let mut at = 0;
     while at + 1 < words.len() {
         let pair = pair_of_words(

@@ -34,7 +34,7 @@ fn single(alloc: Global, atom: Option<&[u8]>) -> Result<Option<Vec<&[u8]>>, Memo
 {
     match atom {
         Some(atom) => {
-            let mut atoms = Vec::new(alloc);
+            let mut atoms = Vec::with_capacity(alloc, 1)?;
             atoms.push(atom)?;
             Ok(Some(atoms))
         }
@@ -81,7 +81,7 @@ fn value_atoms<'a>(
 fn solid_numbers(alloc: Global, atoms: &[&[u8]]) -> Result<Vec<Option<i64>>, Memory>
     ensures { IfOk result (λ v. v.items ≡ map solid_number (map (λ a. a.now) atoms.now)) }
 {
-    let mut numbers = Vec::new(alloc);
+    let mut numbers = Vec::with_capacity(alloc, atoms.len())?;
     for atom in atoms {
         numbers.push(number_to(atom, SOLID_NUMBER))?;
     }
@@ -136,7 +136,7 @@ fn all_numbers(
     requires words { HaveWords tokens.now pairs.now }
     ensures { IfOk result (λ found. option_map (λ v. v.items) found ≡ solids.all_numbers text.now tokens.now pairs.now (kinds.keys_of form)) }
 {
-    let mut numbers = Vec::new(alloc);
+    let mut numbers = Vec::with_capacity(alloc, 24)?;
     for place in 0..key_count(form) {
         let key = key_at(form, place);
         let Some(found) = key_numbers(alloc, text, tokens, pairs, &key)? else {

@@ -13,6 +13,9 @@ use name_core::Name;
 use object_set::{Body, KeptAttr, Object};
 use std::alloc::Global;
 
+/// Room for a line of usual length.
+const LINE: usize = 1_024;
+
 fn push_body(alloc: Global, line: &mut Vec<u8>, body: &Body) -> Result<(), Memory>
     ensures { OnOk result (line.new.items ≡ line.old.items ++ written.body_text body.now) }
 {
@@ -29,7 +32,7 @@ fn push_body(alloc: Global, line: &mut Vec<u8>, body: &Body) -> Result<(), Memor
 fn put_line(alloc: Global, name: &Name, body: &Body) -> Result<Vec<u8>, Memory>
     ensures { IfOk result (λ line. line.items ≡ written.put_line name.now body.now) }
 {
-    let mut line = Vec::new(alloc);
+    let mut line = Vec::with_capacity(alloc, LINE)?;
     line.extend_from_slice(b"put ")?;
     line.extend_from_slice(name.bytes())?;
     line.push(b' ')?;

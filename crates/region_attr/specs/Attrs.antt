@@ -68,6 +68,7 @@ abbrev pub set_known : Option Key → List ℕ → Attr → Result Attr AttrFaul
 set_known None value attr = Err UnknownKey
 set_known (Some key) value attr = or_bad (with_value key value attr)
 
+-- the attributes once a key is given a value, or why they are not changed
 abbrev pub set_attr : List ℕ → List ℕ → Attr → Result Attr AttrFault
 set_attr key value attr = set_known (key_of key) value attr
 
@@ -85,12 +86,14 @@ abbrev pub known_takes : Option Key → List ℕ → Bool
 known_takes None value = false
 known_takes (Some key) value = takes key value
 
+-- whether a key and a value set something, whatever the attributes are
 abbrev pub is_setting : List ℕ → List ℕ → Bool
 is_setting key value = known_takes (key_of key) value
 
--- the attributes of a new region, and of a new combination that is none
+-- the attributes of a new region
 abbrev pub region_attr : Attr
 region_attr = record { region = true; id = 1000; air = 0; los = 100; mater = 1; rgb = None; inherit = false }
 
+-- the attributes of a new combination that is no region
 abbrev pub group_attr : Attr
 group_attr = record { region = false; id = 0; air = 0; los = 0; mater = 0; rgb = None; inherit = false }

@@ -4,6 +4,7 @@ use Rattle.std.specs.Str.{bytes_eq}
 use Rattle.region_attr.specs.declared.key.Key.{Key}
 use Rattle.region_attr.specs.declared.key.Key.TheVariants.{Region, Id, Air, Los, Mater, Rgb, Inherit}
 
+-- which of the seven attributes a key names
 abbrev pub key_of : List ℕ → Option Key
 key_of key =
     if bytes_eq key (codes "region") then Some Region

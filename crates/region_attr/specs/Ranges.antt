@@ -14,6 +14,7 @@ most_los = 100
 abbrev pub most_part : ℕ
 most_part = 255
 
+-- the numbers of the attributes are in their ranges
 pub record HasRanges (attr : Attr) : Type 0 where
   pub id : attr.id ≤ most_number
   pub air : attr.air ≤ most_number

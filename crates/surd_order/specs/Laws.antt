@@ -8,9 +8,11 @@ use Rattle.surd_order.specs.Spelling.{IsSpelled}
 abbrev pub OrderIsTotal : Type 0
 OrderIsTotal = (x y : Pos) → IsPlace x → IsPlace y → IsExactlyOne (Precedes x y) (SamePlace x y) (Precedes y x)
 
+-- what precedes something that precedes a third precedes the third
 abbrev pub OrderIsTransitive : Type 0
 OrderIsTransitive = (x y z : Pos) → IsPlace y → IsPlace z → Precedes x y → Precedes y z → Precedes x z
 
+-- what is the same place as something that is the same place as a third is the same place as the third
 abbrev pub SamePlaceIsTransitive : Type 0
 SamePlaceIsTransitive = (x y z : Pos) → SamePlace x y → SamePlace y z → SamePlace x z
 

@@ -59,6 +59,6 @@ place_of (Surd a plus k) = Surd a plus k
 unfoldable pub place_cmp : Pos → Pos → Ordering
 place_cmp x y = position_cmp (place_of x) (place_of y)
 
--- it says so of all places
+-- the comparison says of all places which of the three holds
 abbrev pub PlacesAreCompared : Type 0
 PlacesAreCompared = (x y : Pos) → IsPlace x → IsPlace y → IsOrderOf (place_cmp x y) x y

@@ -14,6 +14,7 @@ pub record IsSurdInRange (a : ℤ) (k : ℕ) : Type 0 where
   pub whole : unsigned_abs a < WHOLE_LIMIT
   pub square : k < SQUARE_LIMIT
 
+-- the numbers of a position are within the limits for its kind
 abbrev pub IsInRange : Pos → Type 0
 IsInRange (Frac p q) = IsFractionInRange p q
 IsInRange (Surd a plus k) = IsSurdInRange a k

@@ -6,6 +6,7 @@ use Rattle.surd_order.specs.declared.position.Pos.{Pos}
 use Rattle.surd_order.specs.declared.position.Pos.TheVariants.{Frac, Surd}
 use Rattle.surd_order.specs.AtMost.{AtMost}
 
+-- the position is a fraction
 abbrev pub IsFraction : Pos → Type 0
 IsFraction (Frac p q) = Unit {0}
 IsFraction (Surd a plus k) = ⊥

@@ -47,7 +47,7 @@ not_false : (b : Bool) → not b ≡ false → b ≡ true
 not_false true e = refl
 not_false false e = cc
 
-is_word : (ts : List Token) (i : ℕ) → IsBalanced ts → i < length ts → (level ts i == 0) ≡ true → IsWordOf ts (record { first = i; last = word_last ts i })
+pub is_word : (ts : List Token) (i : ℕ) → IsBalanced ts → i < length ts → (level ts i == 0) ≡ true → IsWordOf ts (record { first = i; last = word_last ts i })
 is_word ts i balanced within out = record {
   ordered = omega arith;
   within = last_within ts i balanced within;

@@ -2,6 +2,7 @@ pub mod Bytes
 pub mod Faults
 pub mod Tokens
 pub mod Reading
+pub mod ReadingSteps
 pub mod Numbers
 pub mod Pieces
 pub mod TopWords

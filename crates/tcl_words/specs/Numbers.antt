@@ -51,5 +51,6 @@ abbrev pub with_sign : Bool → Option ℕ → Option ℤ
 with_sign negative None = None
 with_sign negative (Some n) = Some (signed negative n)
 
+-- the number that an atom is, if it is one
 abbrev pub number_of : List ℕ → Option ℤ
 number_of atom = with_sign (begins (λ b. b == 45) atom) (magnitude (unsigned atom))

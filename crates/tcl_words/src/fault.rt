@@ -1,4 +1,5 @@
 use memory_core::Memory;
+use std::alloc::AllocFailed;
 use thiserror::Error;
 
 /// Why a text has no words. Places are those of bytes, counted from 0. The fault at the first place is
@@ -29,6 +30,17 @@ impl From<Memory> for WordFault {
     ghost from_gives = { λ _ e. e ≡ faults.Memory };
 
     fn from(_error: Memory) -> WordFault {
+        WordFault::Memory
+    }
+}
+
+impl<T: Drop> From<AllocFailed<T>> for WordFault {
+    ghost use Rattle.std.specs.Prelude.{◌≡◌};
+    ghost use Rattle.tcl_words.specs.declared.fault.WordFault.TheVariants as faults;
+
+    ghost from_gives = { λ _ e. e ≡ faults.Memory };
+
+    fn from(_error: AllocFailed<T>) -> WordFault {
         WordFault::Memory
     }
 }

@@ -1,4 +1,4 @@
-ghost use Rattle.std.specs.Prelude.{◌≡◌, ◌<◌, ◌≤◌, ◌^◌, ◌+◌, ℕ, cond, length, take, count_by, All, IfOk};
+ghost use Rattle.std.specs.Prelude.{◌≡◌, ◌<◌, ◌≤◌, ◌^◌, ◌+◌, ℕ, true, cond, length, All, IfOk};
 ghost use Rattle.tcl_words.specs.TopWords as words;
 ghost use Rattle.std.specs.List.{slice_range};
 ghost use Rattle.std.specs.Option.{option_copied};
@@ -7,39 +7,30 @@ use crate::token::{Kind, Token, Word};
 use memory_core::Memory;
 use std::alloc::Global;
 
-fn is_open_kind(kind: Kind) -> bool
-    ensures { result ≡ words.is_open_kind kind }
+/// How many groups are open after a token.
+fn level_after(kind: Kind, groups: usize) -> usize
+    requires few { groups < 2 ^ 63 }
+    requires closes { words.is_close_kind kind ≡ true → 0 < groups }
+    ensures { result + cond (words.is_close_kind kind) 1 0 ≡ groups + cond (words.is_open_kind kind) 1 0 }
 {
-    matches!(kind, Kind::Open)
+    match kind {
+        Kind::Open => groups + 1,
+        Kind::Close => groups - 1,
+        Kind::Atom => groups,
+    }
 }
 
-fn is_close_kind(kind: Kind) -> bool
-    ensures { result ≡ words.is_close_kind kind }
-{
-    matches!(kind, Kind::Close)
-}
-
-/// One more where a test holds.
-fn counted(count: usize, more: bool) -> usize
-    requires { count < 2 ^ 63 }
-    ensures { result ≡ count + cond more 1 0 }
-{
-    if more { count + 1 } else { count }
-}
-
-/// The last token of the word that begins at a token, before which so many groups were opened and closed.
-fn word_last(tokens: &[Token], first: usize, opened: usize, closed: usize) -> usize
+/// The last token of the word that begins at a token outside all groups.
+fn word_last(tokens: &[Token], first: usize) -> usize
     requires within { first < length tokens.now }
-    requires opened { opened ≡ count_by words.opens (take first tokens.now) }
-    requires closed { closed ≡ count_by words.closes (take first tokens.now) }
+    requires balanced { words.IsBalanced tokens.now }
+    requires outside { words.level tokens.now first ≡ 0 }
     ensures { result ≡ words.word_last tokens.now first }
 {
-    let mut opened = opened;
-    let mut closed = closed;
+    let mut groups = 0;
     for last in first..tokens.len() {
-        opened = counted(opened, is_open_kind(tokens[last].kind));
-        closed = counted(closed, is_close_kind(tokens[last].kind));
-        if opened <= closed {
+        groups = level_after(tokens[last].kind, groups);
+        if groups == 0 {
             return last;
         }
     }
@@ -52,18 +43,12 @@ pub fn top_words(alloc: Global, tokens: &[Token]) -> Result<Vec<Word>, Memory>
     ensures words { IfOk result (λ found. found.items ≡ words.top_words tokens.now) }
     ensures within { IfOk result (λ found. All (words.IsWordOf tokens.now) found.items) }
 {
-    let mut found = Vec::new(alloc);
-    let mut opened = 0;
-    let mut closed = 0;
-    for (first, token) in tokens.iter().enumerate() {
-        if opened <= closed {
-            found.push(Word {
-                first,
-                last: word_last(tokens, first, opened, closed),
-            })?;
-        }
-        opened = counted(opened, is_open_kind(token.kind));
-        closed = counted(closed, is_close_kind(token.kind));
+    let mut found = Vec::with_capacity(alloc, tokens.len())?;
+    let mut first = 0;
+    while first < tokens.len() {
+        let last = word_last(tokens, first);
+        found.push(Word { first, last })?;
+        first = last + 1;
     }
     Ok(found)
 }

@@ -2,12 +2,14 @@
 #![tactic(auto)]
 
 mod bytes;
+mod class;
 mod fault;
 mod group_text;
 mod groups;
 mod limit;
 mod number;
 mod read;
+mod step;
 mod token;
 mod write;
 

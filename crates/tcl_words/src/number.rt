@@ -88,6 +88,9 @@ fn short_value(digits: &[u8]) -> Option<u32>
     requires { numbers.AreDigits digits.now }
     ensures { result ≡ numbers.short_value digits.now }
 {
+    if digits.len() <= 9 {
+        return Some(value(digits));
+    }
     let rest = significant(digits);
     if 9 < rest.len() {
         return None;

@@ -1,15 +1,16 @@
-ghost use Rattle.std.specs.Prelude.{◌≡◌, ◌<◌, ◌^◌, List, length, IfOk, ◌≤◌, ◌+◌, cond, true};
+ghost use Rattle.std.specs.Prelude.{◌≡◌, ◌<◌, ◌^◌, List, [], length, IfOk, IfErr, ◌≤◌, ◌+◌, cond, true};
 ghost use Rattle.tcl_words.specs.Bytes as bytes;
 ghost use Rattle.tcl_words.specs.Faults as faults;
-ghost use Rattle.tcl_words.specs.Tokens as tokens;
 ghost use Rattle.tcl_words.specs.Reading as reading;
+ghost use Rattle.tcl_words.specs.ReadingSteps as steps;
 ghost use Rattle.tcl_words.specs.Cover.{Covers};
 ghost use Rattle.tcl_words.specs.TopWords.{AreTokensIn};
 
 use crate::bytes::{is_atom, is_bad, is_bad_outside, is_close, is_open};
 use crate::fault::WordFault;
 use crate::limit::MOST_OPEN;
-use crate::token::{Kind, Token};
+use crate::step::{place_after, step_at};
+use crate::token::Token;
 use memory_core::Memory;
 use std::alloc::Global;
 use std::marker::Model;
@@ -60,93 +61,38 @@ pub(crate) fn groups_after(byte: u8, groups: u32) -> u32
     }
 }
 
-/// The first fault of a text.
-fn first_fault(text: &[u8]) -> Option<WordFault>
+/// Room for the tokens of a text.
+fn room(alloc: Global, text: &[u8]) -> Result<Vec<Token>, Memory>
     requires { length text.now < 2 ^ 31 }
-    ensures { result ≡ faults.word_fault text.now }
+    ensures { IfOk result (λ found. found.items ≡ []) }
 {
+    Ok(Vec::with_capacity(alloc, text.len() / 2 + 1)?)
+}
+
+/// All tokens of a text, or its first fault.
+fn read_tokens(alloc: Global, text: &[u8]) -> Result<Vec<Token>, WordFault>
+    requires { length text.now < 2 ^ 31 }
+    ensures tokens { IfOk result (λ found. steps.AreRead text.now found.items) }
+    ensures fault { IfErr result (λ fault. steps.IsFaultOf fault text.now) }
+{
+    let mut found = room(alloc, text)?;
     let mut groups = 0;
     let mut last = b' ';
-    for (place, byte) in text.iter().enumerate() {
-        let fault = fault_of(*byte, last, groups, place as u32);
-        if fault.is_some() {
-            return fault;
-        }
-        groups = groups_after(*byte, groups);
-        last = *byte;
-    }
-    if groups == 0 {
-        None
-    } else {
-        Some(WordFault::Unclosed)
-    }
-}
-
-/// The byte before a place, a blank before the first.
-fn before(text: &[u8], place: usize) -> u8
-    requires { place < length text.now }
-    ensures { result ≡ bytes.before text.now place }
-{
-    if place == 0 { b' ' } else { text[place - 1] }
-}
-
-/// Where the run of an atom's bytes ends that begins at a place.
-fn run_end(text: &[u8], place: usize) -> usize
-    requires { place ≤ length text.now }
-    ensures end { result ≡ tokens.run_end text.now place }
-    ensures within { result ≤ length text.now }
-{
-    for end in place..text.len() {
-        if !is_atom(text[end]) {
-            return end;
-        }
-    }
-    text.len()
-}
-
-/// The token that begins at a place.
-fn token_at(text: &[u8], place: usize) -> Option<Token>
-    requires short { length text.now < 2 ^ 31 }
-    requires within { place < length text.now }
-    ensures { result ≡ tokens.token_at text.now place }
-{
-    let start = place as u32;
-    let byte = text[place];
-    if is_open(byte) {
-        Some(Token {
-            kind: Kind::Open,
-            start,
-            end: start + 1,
-        })
-    } else if is_close(byte) {
-        Some(Token {
-            kind: Kind::Close,
-            start,
-            end: start + 1,
-        })
-    } else if is_atom(byte) && !is_atom(before(text, place)) {
-        Some(Token {
-            kind: Kind::Atom,
-            start,
-            end: run_end(text, place) as u32,
-        })
-    } else {
-        None
-    }
-}
-
-/// All tokens of a text.
-fn tokens_of(alloc: Global, text: &[u8]) -> Result<Vec<Token>, Memory>
-    requires { length text.now < 2 ^ 31 }
-    ensures { IfOk result (λ found. found.items ≡ tokens.tokens_of text.now) }
-{
-    let mut found = Vec::new(alloc);
-    for place in 0..text.len() {
-        if let Some(token) = token_at(text, place) {
+    let mut place = 0;
+    while place < text.len() {
+        let token = step_at(text, place, last, groups)?;
+        groups = groups_after(text[place], groups);
+        place = place_after(place, token);
+        last = text[place - 1];
+        if let Some(token) = token {
             found.push(token)?;
         }
     }
-    Ok(found)
+    if groups == 0 {
+        Ok(found)
+    } else {
+        Err(WordFault::Unclosed)
+    }
 }
 
 /// The words of a text: its tokens, in which each group is opened before it is closed, and all are closed.
@@ -188,9 +134,6 @@ pub fn read_words(alloc: Global, text: &[u8]) -> Result<Words, WordFault>
     ensures only { IfOk result (λ words. (tokens : List Token) → Covers text.now 0 tokens → tokens ≡ words) }
     ensures tokens { IfOk result (λ words. AreTokensIn (length text.now) words) }
 {
-    if let Some(fault) = first_fault(text) {
-        return Err(fault);
-    }
-    let tokens = tokens_of(alloc, text)?;
+    let tokens = read_tokens(alloc, text)?;
     Ok(Words { tokens })
 }

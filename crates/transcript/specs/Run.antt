@@ -50,12 +50,15 @@ committed book None = book
 committed book (Some directory) = record { directory = directory; version = book.version + 1 }
 
 module _ {D L C F : Type 0} (rules : Rules D L C F) where
+  -- the directory and version after a command; one that was answered for want of memory changes nothing
   abbrev pub book_after : Book D → Marked C → Book D
   book_after book m = cond m.memory book (committed book (rules.edited book.directory m.command))
 
+  -- what the command's own session has after it
   abbrev pub own_after : Book D → L → Marked C → L
   own_after book own m = cond m.memory (rules.forgotten own m.command) (rules.kept book.directory own m.command)
 
+  -- what a command is answered, where it stands in the run
   abbrev pub answer_of : Book D → L → Marked C → Answer F
   answer_of book own m = record {
     version = (book_after book m).version;

@@ -7,6 +7,6 @@ gcd_within zero a b = a
 gcd_within (suc bound) a zero = a
 gcd_within (suc bound) a (suc b) = gcd_within bound (suc b) (a % suc b)
 
--- b falls at each division, so b of them are enough
+-- the greatest common divisor, by divisions with remainder; b falls at each, so b of them are enough
 abbrev pub gcd_of : ℕ → ℕ → ℕ
 gcd_of a b = gcd_within b a b

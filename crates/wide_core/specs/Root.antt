@@ -11,5 +11,6 @@ root_within zero n = 0
 root_within (suc bound) zero = 0
 root_within (suc bound) (suc n) = root_from (2 * root_within bound (suc n / 4)) (suc n)
 
+-- the square root of a number, rounded down, digit by digit in base 4
 abbrev pub root_of : ℕ → ℕ
 root_of n = root_within n n

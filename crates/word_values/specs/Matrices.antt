@@ -56,6 +56,7 @@ is_near shift = is_near_number shift.x && is_near_number shift.y && is_near_numb
 abbrev pub placement_by : V3 → Turn → Placement
 placement_by shift turn = record { turn = turn; shift = shift }
 
+-- the placement that sixteen numbers are, if they are one within the limits
 abbrev pub placement_in : List ℤ → Option Placement
 placement_in numbers =
     if has_last_row numbers && is_near (fourth_column numbers) then option_map (placement_by (fourth_column numbers)) (turn_numbered (turn_number numbers)) else None

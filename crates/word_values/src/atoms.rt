@@ -4,6 +4,7 @@ ghost use Rattle.std.specs.Option.{option_map};
 ghost use Rattle.std.specs.Int.RustNames.{unsigned_abs};
 ghost use Rattle.tcl_words.specs.TopWords.{AreTokensIn, IsWordOf};
 ghost use Rattle.word_values.specs.Atoms as atoms;
+ghost use Rattle.word_values.specs.declared.atoms.TheConstants.{SOLID_NUMBER, VIEW_NUMBER};
 
 use memory_core::Memory;
 use std::alloc::Global;
@@ -14,6 +15,12 @@ pub const SOLID_NUMBER: u64 = 16_384;
 
 /// The greatest size of a coordinate of a ray's origin, and of a number of a matrix.
 pub const VIEW_NUMBER: u64 = 999_999_999;
+
+/// The limits are these numbers. This law is what refuses other constants.
+pub fn limit_laws()
+    ensures solid { SOLID_NUMBER ≡ 16384 }
+    ensures view { VIEW_NUMBER ≡ 999999999 }
+{}
 
 /// The atoms that words are, or none where one is a group that counts as no atom.
 pub fn word_atoms<'a>(
@@ -27,7 +34,7 @@ pub fn word_atoms<'a>(
     ensures few { IfOk result (λ found. IfSome found (λ atoms. vec_len atoms ≡ length words.now)) }
     ensures atoms { IfOk result (λ found. option_map (λ atoms. map (λ a. a.now) atoms.items) found ≡ atoms.atoms_in text.now tokens.now words.now) }
 {
-    let mut atoms = Vec::new(alloc);
+    let mut atoms = Vec::with_capacity(alloc, words.len())?;
     for word in words {
         let Some(atom) = atom_text(text, tokens, *word) else {
             return Ok(None);

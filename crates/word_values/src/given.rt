@@ -79,7 +79,7 @@ fn comb_node(node: &GivenNode) -> Option<CombNode>
 fn whole_nodes(alloc: Global, nodes: &[GivenNode]) -> Result<Option<Vec<CombNode>>, Memory>
     ensures { IfOk result (λ found. option_map (λ v. v.items) found ≡ reading.all_there (map reading.comb_node nodes.now)) }
 {
-    let mut found = Vec::new(alloc);
+    let mut found = Vec::with_capacity(alloc, nodes.len())?;
     for node in nodes {
         let Some(node) = comb_node(node) else {
             return Ok(None);

@@ -146,18 +146,18 @@ impl Reader {
     ghost use Rattle.tcl_words.specs.TopWords.{Lies};
     ghost use Rattle.word_values.specs.Reading as reading;
 
-    /// Before any token.
-    fn new(alloc: Global) -> Reader
-        ensures { reading.state_of result ≡ reading.start }
+    /// Before any of so many tokens.
+    fn new(alloc: Global, tokens: usize) -> Result<Reader, Memory>
+        ensures { IfOk result (λ reader. reading.state_of reader ≡ reading.start) }
     {
-        Reader {
-            nodes: Vec::new(alloc),
+        Ok(Reader {
+            nodes: Vec::with_capacity(alloc, tokens / 3 + 1)?,
             sides: Vec::new(alloc),
             name: None,
-            numbers: Vec::new(alloc),
+            numbers: Vec::with_capacity(alloc, 16)?,
             place: Place::Node,
             lone: Lone::No,
-        }
+        })
     }
 
     fn add(&mut self, node: GivenNode) -> Result<(), Memory>
@@ -379,7 +379,7 @@ pub(crate) fn given_nodes(
     if tokens.is_empty() {
         return Ok(Vec::new(alloc));
     }
-    let mut reader = Reader::new(alloc);
+    let mut reader = Reader::new(alloc, tokens.len())?;
     for token in tokens {
         reader.token(text, token)?;
     }

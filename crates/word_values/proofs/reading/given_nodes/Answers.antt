@@ -15,7 +15,7 @@ pub loop-token-init : goal.loop-token-init
 loop-token-init c =
     let none : length c.args.tokens.now ≢ 0 = eqb-false (length c.args.tokens.now) 0 (sym c.is_empty.ensures ∙ c.if-is_empty.false) in
     let some : 0 < length c.args.tokens.now = omega (arith, none) in
-    ap (λ (s : State). means s (levels_of c.args.text.now c.args.tokens.now)) c.new-reader.ensures ∙ begun c.args.text.now c.args.tokens.now c.requires.tokens.balanced some
+    ap (λ (s : State). means s (levels_of c.args.text.now c.args.tokens.now)) c.in_ok-reader.ensures ∙ begun c.args.text.now c.args.tokens.now c.requires.tokens.balanced some
 
 pub token-requires : goal.token-requires
 token-requires c = lies_at (length c.args.text.now) c.args.tokens.now c.loop-token.token-index _ c.requires.tokens.lie c.loop-token-test.true
@@ -23,7 +23,7 @@ token-requires c = lies_at (length c.args.text.now) c.args.tokens.now c.loop-tok
 pub returns-in_err-token-clause-none : goal.returns-in_err-token-clause-none
 returns-in_err-token-clause-none c =
     let total : Option (List GivenNode) = option_map given_nodes (tree_in (words_of_tokens c.args.text.now c.args.tokens.now)) in
-    passed_on (λ e. IsNone e total) c.from_residual.result c.in_err-token.field-0.0 c.from_residual.ensures (λ e h. h)
+    passed_on (λ e. IsNone e total) c.from_residual-in_err-token.result c.in_err-token.field-0.0 c.from_residual-in_err-token.ensures (λ e h. h)
     (not_next c.args.text.now c.args.tokens.now c.loop-token.token-index _ (state_of c.loop-token.reader) (state_of c.token.new.self) total c.in_err-token.field-0.0 c.requires.tokens.balanced c.loop-token-test.true c.loop-token.invariant c.in_err-token.ensures)
 
 pub loop-token-preserved : goal.loop-token-preserved

@@ -1,6 +1,6 @@
 -- Objects that keep what was gathered for their names: the list with all of it put in, and each edit of it.
-use Rattle.std.proofs.Common.{◌≡◌, ◌≢◌, inl, inr, ◌++◌, ◌∷◌, ◌∙◌, [], ℕ, zero, suc, Bool, true, false, cond, List, Option, Some, None, IsSome, Result, Ok, Err, length, map, refl, ap, sym, subst, arith}
-use Rattle.std.specs.Prelude.{is_some, nat_le}
+use Rattle.std.proofs.Common.{◌≡◌, ◌≢◌, inl, inr, ◌++◌, ◌∷◌, ◌∙◌, ◌+◌, ◌-◌, [], ℕ, zero, suc, Bool, true, false, cond, List, Option, Some, None, IsSome, Result, Ok, Err, length, length-append, take, map, refl, ap, sym, subst, arith}
+use Rattle.std.specs.Prelude.{is_err, is_some, nat_le}
 use Rattle.std.specs.Option.{option_map}
 use Rattle.std.specs.List.{AllByRecursion, Contains, IsDistinct}
 use Rattle.std.specs.Map.{keys_of, lookup}
@@ -16,16 +16,19 @@ use Rattle.object_set.specs.declared.kept.KeptAttr.{KeptAttr}
 use Rattle.directory.specs.declared.fault.DirFault.{DirFault}
 use Rattle.directory.specs.declared.fault.DirFault.TheVariants.{Exists, Missing, Full, Cycle, Deep, Memory}
 use Rattle.directory.specs.Alone.{KeepsNames}
+use Rattle.directory.specs.Drafts.{gather_fault}
 use Rattle.directory.specs.Edits.{first_of, when, appended, put_fault, replaced, replace_fault, judged, judged_by, IsCause, Follows}
 use Rattle.directory.specs.Listing.{Listing}
 use Rattle.directory.specs.Walks.{Entries, IsSound, object_of, body_weight, depth_over, depth_within, greatest_of, deepest, unbounded, most_objects}
+use Rattle.directory.proofs.DraftLemmas.{gather_put}
 use Rattle.directory.proofs.EditLemmas.{replace_other}
 use Rattle.directory.proofs.FindLemmas.{none_or}
 use Rattle.directory.proofs.PlaceLemmas.{map_same, over_same, past_head}
 use Rattle.directory.proofs.ReplaceLemmas.{names_deep, same_judged}
-use Rattle.directory.proofs.TellLemmas.{put_exists, replace_rest}
+use Rattle.directory.proofs.TellLemmas.{first_holds, put_exists, replace_rest}
 use Rattle.directory.proofs.WalkLemmas.{name_tells, same_or_apart}
 use Rattle.asc_form.specs.Gathering.{Gathered, pairs_in, gathered_of, keeping, settled_by, settled, AreTexts, IsGathered, Puts, Gathers, Settles}
+use Rattle.asc_form.specs.Progress.{IsReader, Progress, PutsObject}
 use Rattle.asc_form.specs.Reading.{kept_by}
 
 abbrev Pairs : Type 0
@@ -97,23 +100,61 @@ put_same f es a o nothing =
 nothing_for : (g : Gathered) (es : Entries) (a : Name) → IsGathered es g → object_of es a ≡ None → gathered_of g a ≡ []
 nothing_for g es a h none = ap pairs_in (h.there a none)
 
-put_new : (es : Entries) (a : Name) (o : Parts) → put_fault es a o ≡ None → object_of es a ≡ None
-put_new es a o e =
+gather_new : (es : Entries) (a : Name) → gather_fault es a ≡ None → object_of es a ≡ None
+gather_new es a e =
     elim (none_or (object_of es a)) [
       | inl none ↦ none
-      | inr there ↦ let wrong : Some Exists ≡ None = sym (put_exists es a o (ap is_some there.1)) ∙ e in cc
+      | inr there ↦ let wrong : Some Exists ≡ None = sym (first_holds (is_some (object_of es a)) Exists _ (ap is_some there.1)) ∙ e in cc
     ]
 
-pub put_follows : (g : Gathered) (es after : Entries) (a : Name) (o : Parts) (r : Result (Unit {0}) DirFault) → IsGathered es g → Follows es (put_fault es a o) (appended es a o) r after
-    → Follows (settled es g) (put_fault (settled es g) a o) (appended (settled es g) a o) r (settled after g)
-put_follows g es after a o (Ok u) gathered h = (
-  put_same (gathered_of g) es a o (nothing_for g es a gathered) ∙ h.0,
-  ap (λ (l : Entries). settled l g) h.1 ∙ settled_append (gathered_of g) es a o (nothing_for g es a gathered (put_new es a o h.0)),
+-- a reader with these parts
+abbrev pub progress_of : List ℕ → Entries → Entries → List ℕ → ℕ → Progress
+progress_of title objects bare lines line = record { made = record { title = title; objects = objects }; bare = bare; lines = lines; line = line }
+
+pub object_put : (title : List ℕ) (g : Gathered) (es after : Entries) (lines left : List ℕ) (line : ℕ) (a : Name) (o : Parts) → IsGathered es g → Follows es (gather_fault es a) (appended es a o) (Ok tt) after
+    → left ≡ lines ++ line ∷ [] → PutsObject a o (progress_of title (settled es g) es lines line) (Ok tt) (progress_of title (settled after g) after left line)
+object_put title g es after lines left line a o gathered h more = (
+  ap (λ (l : Entries). progress_of title (settled l g) l left line) h.1
+      ∙ ap (λ (l : Entries). progress_of title l (appended es a o) left line) (settled_append (gathered_of g) es a o (nothing_for g es a gathered (gather_new es a h.0)))
+      ∙ ap (λ (ls : List ℕ). progress_of title (appended (settled es g) a o) (appended es a o) ls line) more,
+  put_same (gathered_of g) es a o (nothing_for g es a gathered),
 )
-put_follows g es after a o (Err why) gathered h = (
-  subst (λ (v : Option DirFault). IsCause v why) (sym (put_same (gathered_of g) es a o (nothing_for g es a gathered))) h.0,
-  ap (λ (l : Entries). settled l g) h.1,
+
+not_put : (title : List ℕ) (g : Gathered) (es after : Entries) (lines left : List ℕ) (line : ℕ) (a : Name) (o : Parts) (fault : DirFault) → IsGathered es g → gather_fault es a ≡ Some fault → after ≡ es → left ≡ lines
+    → (put_fault (settled es g) a o ≡ Some fault) × (progress_of title (settled after g) after left line ≡ progress_of title (settled es g) es lines line)
+not_put title g es after lines left line a o fault gathered is same kept = (
+  put_same (gathered_of g) es a o (nothing_for g es a gathered) ∙ gather_put es a o fault is,
+  ap (λ (l : Entries). progress_of title (settled l g) l left line) same ∙ ap (λ (ls : List ℕ). progress_of title (settled es g) es ls line) kept,
 )
+
+pub object_not_put : (title : List ℕ) (g : Gathered) (es after : Entries) (lines left : List ℕ) (line : ℕ) (a : Name) (o : Parts) (fault : DirFault) → IsGathered es g
+    → Follows es (gather_fault es a) (appended es a o) (Err fault) after → left ≡ lines → PutsObject a o (progress_of title (settled es g) es lines line) (Err fault) (progress_of title (settled after g) after left line)
+object_not_put title g es after lines left line a o Exists gathered h kept = not_put title g es after lines left line a o Exists gathered h.0 h.1 kept
+object_not_put title g es after lines left line a o Missing gathered h kept = not_put title g es after lines left line a o Missing gathered h.0 h.1 kept
+object_not_put title g es after lines left line a o Full gathered h kept = not_put title g es after lines left line a o Full gathered h.0 h.1 kept
+object_not_put title g es after lines left line a o (Cycle b) gathered h kept = not_put title g es after lines left line a o (Cycle b) gathered h.0 h.1 kept
+object_not_put title g es after lines left line a o (Deep n) gathered h kept = not_put title g es after lines left line a o (Deep n) gathered h.0 h.1 kept
+object_not_put title g es after lines left line a o Memory gathered h kept = tt
+
+pub put_done : (title : List ℕ) (g : Gathered) (es after : Entries) (lines left : List ℕ) (line : ℕ) (a : Name) (o : Parts) (r : Result (Unit {0}) DirFault) → is_err r ≡ false → IsGathered es g
+    → Follows es (gather_fault es a) (appended es a o) r after → left ≡ lines ++ line ∷ [] → PutsObject a o (progress_of title (settled es g) es lines line) r (progress_of title (settled after g) after left line)
+put_done title g es after lines left line a o (Ok u) e gathered h more = object_put title g es after lines left line a o gathered h more
+put_done title g es after lines left line a o (Err fault) e gathered h more = cc
+
+pub put_refused : (title : List ℕ) (g : Gathered) (es after : Entries) (lines left : List ℕ) (line : ℕ) (a : Name) (o : Parts) (r : Result (Unit {0}) DirFault) → is_err r ≡ true → IsGathered es g
+    → Follows es (gather_fault es a) (appended es a o) r after → left ≡ lines → PutsObject a o (progress_of title (settled es g) es lines line) r (progress_of title (settled after g) after left line)
+put_refused title g es after lines left line a o (Ok u) e gathered h kept = cc
+put_refused title g es after lines left line a o (Err fault) e gathered h kept = object_not_put title g es after lines left line a o fault gathered h kept
+
+front_of : (xs : List ℕ) (x : ℕ) → take (length xs) (xs ++ x ∷ []) ≡ xs
+front_of [] x = refl
+front_of (y ∷ xs) x = ap (λ (l : List ℕ). y ∷ l) (front_of xs x)
+
+pub popped : (xs ys zs : List ℕ) (x n : ℕ) → ys ≡ xs ++ x ∷ [] → n ≡ length ys → zs ≡ take (n - 1) ys → zs ≡ xs
+popped xs ys zs x n pushed len e =
+    let one : length ys ≡ length xs + 1 = ap (length {A = ℕ}) pushed ∙ length-append xs (x ∷ []) in
+    let k : n - 1 ≡ length xs = omega (arith, len, one) in
+    e ∙ ap (λ (m : ℕ). take m ys) k ∙ ap (take (length xs)) pushed ∙ front_of xs x
 
 still_none : (b : Bool) (o : Parts) (more less : Option Parts) → (more ≡ None → less ≡ None) → cond b (Some o) more ≡ None → cond b (Some o) less ≡ None
 still_none true o more less h e = cc
@@ -127,6 +168,14 @@ pub put_gathered : (g : Gathered) (es after : Entries) (a : Name) (o : Parts) (v
 put_gathered g es after a o v (Ok u) h follows =
     record { there = λ x none. h.there x (append_none es ((a, o) ∷ []) x (sym (ap (λ (l : Entries). object_of l x) follows.1) ∙ none)); texts = h.texts }
 put_gathered g es after a o v (Err why) h follows = subst (λ (l : Entries). IsGathered l g) (sym follows.1) h
+
+pub reader_more : (g : Gathered) (es after : Entries) (lines left : List ℕ) (line : ℕ) (a : Name) (o : Parts) (v : Option DirFault) (r : Result (Unit {0}) DirFault) → is_err r ≡ false → IsReader es g lines
+    → Follows es v (appended es a o) r after → left ≡ lines ++ line ∷ [] → IsReader after g left
+reader_more g es after lines left line a o v (Ok u) e h follows more =
+    let one : length left ≡ length lines + 1 = ap (length {A = ℕ}) more ∙ length-append lines (line ∷ []) in
+    let two : length after ≡ length es + 1 = ap (length {A = Name × Parts}) follows.1 ∙ length-append es ((a, o) ∷ []) in
+    record { gathered = put_gathered g es after a o v (Ok u) h.gathered follows; even = omega (arith, one, two, h.even) }
+reader_more g es after lines left line a o v (Err fault) e h follows more = cc
 
 -- ---- more is gathered
 settled_same : (f g : Name → Pairs) (es : Entries) → ((x : Name) → Contains (keys_of es) x → f x ≡ g x) → settled_by f es ≡ settled_by g es

@@ -1,12 +1,11 @@
--- The words of the code: a text cut byte by byte, and a command step by step.
-use Rattle.std.specs.Prelude.{◌≡◌, ℕ, List, Option, None, Some, is_some, is_ok, Result, Ok, Err, if◌then◌else◌}
-use Rattle.tcl_words.specs.Bytes.{is_blank}
+-- The words of the code: a command step by step.
+use Rattle.std.specs.Prelude.{◌≡◌, ◌⊎◌, ℕ, List, Option, None, Some, is_some, is_ok, Result, Ok, Err, if◌then◌else◌}
 use Rattle.name_core.specs.NameText.{read_name}
 use Rattle.name_core.specs.declared.name.Name.{Name as NameOf}
 use Rattle.put_form.specs.declared.fault.PutFault.{PutFault}
 use Rattle.directory.specs.declared.fault.DirFault.{DirFault}
-use Rattle.directory.specs.Listing.{Listing}
 use Rattle.directory.specs.Walks.{Entries, object_of}
+use Rattle.asc_form.specs.Progress.{Progress, Makes, MakesObject}
 use Rattle.asc_form.specs.Reading.{Made, kind_of_put, kind_of_dir}
 use Rattle.asc_form.specs.declared.fault.AscKind.{AscKind}
 use Rattle.asc_form.specs.declared.fault.AscKind.TheVariants.{Attr, Name}
@@ -14,11 +13,6 @@ use Rattle.asc_form.specs.declared.fault.AscFault.{AscFault}
 use Rattle.asc_form.specs.declared.fault.AscFault.TheVariants.{At}
 use Rattle.asc_form.specs.declared.kinds.CommandFault.{CommandFault}
 use Rattle.asc_form.specs.declared.kinds.CommandFault.TheVariants.{Faulty}
-
--- the first byte that is no blank, with one byte more
-abbrev pub first_after : Option ℕ → ℕ → Option ℕ
-first_after (Some other) byte = Some other
-first_after None byte = if is_blank byte then None else Some byte
 
 -- the name that a word is, of an object that is there
 abbrev pub named : Entries → Option (List ℕ) → Result NameOf AscKind
@@ -48,14 +42,18 @@ abbrev pub at_line : ℕ → CommandFault → AscFault
 at_line line CommandFault.Memory = AscFault.Memory
 at_line line (Faulty kind) = At line kind
 
--- a command made of a directory what it makes, or has this fault, unless memory ran out
-abbrev pub IsMade : Made → Result (Unit {0}) CommandFault → Listing → Type 0
-IsMade made (Ok u) after = made ≡ Ok after
-IsMade made (Err (Faulty kind)) after = made ≡ Err kind
-IsMade made (Err CommandFault.Memory) after = Unit {0}
+-- a command made of a directory what it makes, or has this fault, unless memory ran out. An object is put whether or not it
+-- may stand
+abbrev pub IsMade : Made → Progress → Result (Unit {0}) CommandFault → Progress → Type 0
+IsMade made before (Ok u) after = Makes made before after ⊎ MakesObject made before after
+IsMade made before (Err (Faulty kind)) after = (made ≡ Err kind) × (after ≡ before)
+IsMade made before (Err CommandFault.Memory) after = Unit {0}
 
 -- the same, where the command begins on this line
-abbrev pub IsMadeAt : Made → ℕ → Result (Unit {0}) AscFault → Listing → Type 0
-IsMadeAt made line (Ok u) after = made ≡ Ok after
-IsMadeAt made line (Err (At place kind)) after = (place ≡ line) × (made ≡ Err kind)
-IsMadeAt made line (Err AscFault.Memory) after = Unit {0}
+abbrev pub at : Progress → ℕ → Progress
+at p line = record p { line = line }
+
+abbrev pub IsMadeAt : Made → Progress → ℕ → Result (Unit {0}) AscFault → Progress → Type 0
+IsMadeAt made before line (Ok u) after = Makes made (at before line) after ⊎ MakesObject made (at before line) after
+IsMadeAt made before line (Err (At place kind)) after = (place ≡ line) × (made ≡ Err kind) × (after ≡ at before line)
+IsMadeAt made before line (Err AscFault.Memory) after = Unit {0}

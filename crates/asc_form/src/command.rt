@@ -4,8 +4,8 @@ ghost use Rattle.std.specs.Option.{option_copied};
 ghost use Rattle.tcl_words.specs.Reading.{words_of};
 ghost use Rattle.tcl_words.specs.TopWords.{AreTokensIn, IsWordOf};
 ghost use Rattle.tcl_words.specs.declared.token.Word.{Word};
-ghost use Rattle.directory.specs.Listing.{Listing};
 ghost use Rattle.put_form.specs.Puts.{put_of};
+ghost use Rattle.asc_form.specs.Progress.{Progress};
 ghost use Rattle.asc_form.specs.Reading as reading;
 ghost use Rattle.asc_form.specs.Steps.{IsMade, IsMadeAt};
 
@@ -32,7 +32,7 @@ fn is_word(word: &[u8], atom: Option<&[u8]>) -> bool
 
 /// Sets the title to this text.
 fn set_title(alloc: Global, reader: &mut Reader, text: &[u8]) -> Result<(), CommandFault>
-    ensures { IsMade (reading.titled reader.old text.now) result reader.new }
+    ensures { IsMade (reading.titled reader.old.made text.now) reader.old result reader.new }
 {
     if !is_text_value(text) {
         return Err(CommandFault::Faulty(AscKind::Attr));
@@ -51,7 +51,7 @@ fn title_command(
 ) -> Result<(), CommandFault>
     requires tokens { AreTokensIn (length text.now) tokens.now }
     requires words { All (IsWordOf tokens.now) words.now }
-    ensures { IsMade (reading.title_made reader.old text.now tokens.now words.now) result reader.new }
+    ensures { IsMade (reading.title_made reader.old.made text.now tokens.now words.now) reader.old result reader.new }
 {
     match words {
         [] => Err(CommandFault::Faulty(AscKind::NoType)),
@@ -63,7 +63,7 @@ fn title_command(
 fn units_command(text: &[u8], tokens: &[Token], words: &[Word]) -> Result<(), CommandFault>
     requires tokens { AreTokensIn (length text.now) tokens.now }
     requires words { All (IsWordOf tokens.now) words.now }
-    ensures { (d : Listing) → IsMade (reading.units_made d text.now tokens.now words.now) result d }
+    ensures { (p : Progress) → IsMade (reading.units_made p.made text.now tokens.now words.now) p result p }
 {
     match words {
         [unit] => {
@@ -79,7 +79,7 @@ fn units_command(text: &[u8], tokens: &[Token], words: &[Word]) -> Result<(), Co
 
 /// Puts an object under a new name.
 fn put_object(reader: &mut Reader, name: &Name, object: Object) -> Result<(), CommandFault>
-    ensures { IsMade (reading.put_into reader.old (Ok (name.now, object))) result reader.new }
+    ensures { IsMade (reading.put_into reader.old.made (Ok (name.now, object))) reader.old result reader.new }
 {
     match reader.put(name, object) {
         Ok(()) => Ok(()),
@@ -99,7 +99,7 @@ fn put_command(
     requires tokens { AreTokensIn (length text.now) tokens.now }
     requires words { All (IsWordOf tokens.now) words.now }
     requires few { length words.now ≤ 2 ^ 31 }
-    ensures { IsMade (reading.put_into reader.old (put_of text.now tokens.now words.now)) result reader.new }
+    ensures { IsMade (reading.put_into reader.old.made (put_of text.now tokens.now words.now)) reader.old result reader.new }
 {
     match read_put(alloc, text, tokens, words) {
         Ok((name, object)) => put_object(reader, &name, object),
@@ -118,7 +118,7 @@ fn attr_command(
     requires tokens { AreTokensIn (length text.now) tokens.now }
     requires words { All (IsWordOf tokens.now) words.now }
     requires few { length words.now ≤ 2 ^ 31 }
-    ensures { IsMade (reading.attr_made reader.old text.now tokens.now words.now) result reader.new }
+    ensures { IsMade (reading.attr_made reader.old.made text.now tokens.now words.now) reader.old result reader.new }
 {
     match words {
         [set, name, rest @ ..] => {
@@ -149,7 +149,7 @@ fn named_command(
     requires few { length words.now ≤ 2 ^ 31 }
     requires rest { All (IsWordOf tokens.now) rest.now }
     requires fewer { length rest.now ≤ 2 ^ 31 }
-    ensures { (word : Word) → words.now ≡ word ∷ rest.now → IsMade (reading.named_made reader.old text.now tokens.now word rest.now (Some name.now)) result reader.new }
+    ensures { (word : Word) → words.now ≡ word ∷ rest.now → IsMade (reading.named_made reader.old.made text.now tokens.now word rest.now (Some name.now)) reader.old result reader.new }
 {
     if name == b"put".as_slice() {
         put_command(alloc, reader, text, tokens, words)
@@ -176,7 +176,7 @@ fn words_command(
     requires tokens { AreTokensIn (length text.now) tokens.now }
     requires words { All (IsWordOf tokens.now) words.now }
     requires few { length words.now ≤ 2 ^ 31 }
-    ensures { IsMade (reading.words_made reader.old text.now tokens.now words.now) result reader.new }
+    ensures { IsMade (reading.words_made reader.old.made text.now tokens.now words.now) reader.old result reader.new }
 {
     match words {
         [] => Ok(()),
@@ -190,7 +190,7 @@ fn words_command(
 /// The command of this text, which is not passed over.
 fn read_command(alloc: Global, reader: &mut Reader, text: &[u8]) -> Result<(), CommandFault>
     requires { length text.now < 2 ^ 31 }
-    ensures { IsMade (reading.read_made reader.old text.now (words_of text.now)) result reader.new }
+    ensures { IsMade (reading.read_made reader.old.made text.now (words_of text.now)) reader.old result reader.new }
 {
     match read_words(alloc, text) {
         Ok(read) => {
@@ -205,7 +205,7 @@ fn read_command(alloc: Global, reader: &mut Reader, text: &[u8]) -> Result<(), C
 /// Makes of a directory what the command of this text makes of it.
 fn apply_command(alloc: Global, reader: &mut Reader, text: &[u8]) -> Result<(), CommandFault>
     requires { length text.now < 2 ^ 31 }
-    ensures { IsMade (reading.made_by reader.old text.now) result reader.new }
+    ensures { IsMade (reading.made_by reader.old.made text.now) reader.old result reader.new }
 {
     if is_passed(text) {
         return Ok(());
@@ -221,8 +221,9 @@ pub(crate) fn apply_at(
     text: &[u8],
 ) -> Result<(), AscFault>
     requires { length text.now < 2 ^ 31 }
-    ensures { IsMadeAt (reading.made_by reader.old text.now) line result reader.new }
+    ensures { IsMadeAt (reading.made_by reader.old.made text.now) reader.old line result reader.new }
 {
+    reader.begin(line);
     match apply_command(alloc, reader, text) {
         Ok(()) => Ok(()),
         Err(fault) => Err(at_line(line, fault)),

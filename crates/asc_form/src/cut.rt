@@ -1,9 +1,8 @@
 //! Cuts a text into commands.
-ghost use Rattle.std.specs.Prelude.{◌≡◌, ◌<◌, ◌≤◌, ◌^◌, ◌+◌, ◌-◌, ◌==◌, ◌&&◌, ◌||◌, length, find, not, cond, count_by, IfSome};
-ghost use Rattle.tcl_words.specs.Bytes as bytes;
+ghost use Rattle.std.specs.Prelude.{◌≡◌, ◌<◌, ◌≤◌, ◌^◌, ◌+◌, length, cond, count_by, IfSome};
 ghost use Rattle.asc_form.specs.Commands as commands;
 ghost use Rattle.asc_form.specs.Reading as reading;
-ghost use Rattle.asc_form.specs.Steps as steps;
+ghost use Rattle.asc_form.specs.CutSteps as steps;
 
 use tcl_words::is_blank;
 
@@ -11,15 +10,6 @@ fn first_byte(text: &[u8]) -> Option<u8>
     ensures { result ≡ commands.first_byte text.now }
 {
     text.iter().copied().find(|byte| !is_blank(*byte))
-}
-
-fn is_pound(first: Option<u8>) -> bool
-    ensures { result ≡ commands.is_pound first }
-{
-    match first {
-        None => false,
-        Some(byte) => byte == b'#',
-    }
 }
 
 /// Whether a command does nothing: it is blank, or its first byte that is no blank is `#`.
@@ -40,22 +30,42 @@ fn counted(count: u32, more: bool) -> u32
     if more { count + 1 } else { count }
 }
 
-/// The first byte that is no blank, with one byte more.
-fn first_after(first: Option<u8>, byte: u8) -> Option<u8>
-    ensures { result ≡ steps.first_after first byte }
+/// The first line feed from a place on, behind a `#` that no byte but blanks stands before.
+fn end_of_line(text: &[u8], start: usize) -> Option<usize>
+    requires short { length text.now < 2 ^ 31 }
+    requires start { start < length text.now }
+    requires pound { steps.IsPoundFrom text.now start }
+    ensures end { result ≡ steps.end_from text.now start }
+    ensures within { IfSome result (λ end. end < length text.now) }
 {
-    match first {
-        Some(other) => Some(other),
-        None if is_blank(byte) => None,
-        None => Some(byte),
+    for place in start..text.len() {
+        if text[place] == b'\n' {
+            return Some(place);
+        }
     }
+    None
 }
 
-/// Whether this byte ends a command that begins with this one, where so many groups were opened and closed.
-fn ends_command(byte: u8, first: Option<u8>, opened: u32, closed: u32) -> bool
-    ensures { result ≡ (byte == 10 && (commands.is_pound first || opened - closed == 0)) }
+/// The first line feed outside braces from a place on, in a text whose first byte that is no blank stands there and is no
+/// `#`.
+fn end_outside(text: &[u8], start: usize) -> Option<usize>
+    requires short { length text.now < 2 ^ 31 }
+    requires start { start < length text.now }
+    requires first { steps.IsFirstFrom text.now start }
+    ensures end { result ≡ steps.end_from text.now start }
+    ensures within { IfSome result (λ end. end < length text.now) }
 {
-    byte == b'\n' && (is_pound(first) || opened.saturating_sub(closed) == 0)
+    let mut opened = 0;
+    let mut closed = 0;
+    for place in start..text.len() {
+        let byte = text[place];
+        if byte == b'\n' && opened <= closed {
+            return Some(place);
+        }
+        opened = counted(opened, byte == b'{');
+        closed = counted(closed, byte == b'}');
+    }
+    None
 }
 
 /// The place at which the first command of a text ends, none where nothing follows it.
@@ -64,16 +74,16 @@ pub(crate) fn end_of(text: &[u8]) -> Option<usize>
     ensures end { result ≡ commands.end_of text.now }
     ensures within { IfSome result (λ end. end < length text.now) }
 {
-    let mut opened = 0;
-    let mut closed = 0;
-    let mut first = None;
     for (place, byte) in text.iter().enumerate() {
-        if ends_command(*byte, first, opened, closed) {
+        if *byte == b'\n' {
             return Some(place);
         }
-        opened = counted(opened, *byte == b'{');
-        closed = counted(closed, *byte == b'}');
-        first = first_after(first, *byte);
+        if *byte == b'#' {
+            return end_of_line(text, place);
+        }
+        if !is_blank(*byte) {
+            return end_outside(text, place);
+        }
     }
     None
 }

@@ -18,7 +18,7 @@ use std::alloc::Global;
 
 /// The name that a word is, of an object that is there.
 fn named(reader: &Reader, word: Option<&[u8]>) -> Result<Name, AscKind>
-    ensures { result ≡ named reader.now.objects (option_copied word.entry) }
+    ensures { result ≡ named reader.now.made.objects (option_copied word.entry) }
 {
     let Some(word) = word else {
         return Err(AscKind::Name);
@@ -41,7 +41,7 @@ fn keep_read(
     pairs: KeptAttrs,
 ) -> Result<(), CommandFault>
     requires { AreTexts pairs }
-    ensures { IsMade (reading.keep_with reader.old (option_copied word.entry) (Ok pairs)) result reader.new }
+    ensures { IsMade (reading.keep_with reader.old.made (option_copied word.entry) (Ok pairs)) reader.old result reader.new }
 {
     let name = named(reader, word)?;
     reader.keep(alloc, &name, pairs)?;
@@ -50,7 +50,7 @@ fn keep_read(
 
 /// This fault, if a word names an object that is there, else why it names none.
 fn if_named(reader: &Reader, word: Option<&[u8]>, fault: CommandFault) -> CommandFault
-    ensures { result ≡ if_named (named reader.now.objects (option_copied word.entry)) fault }
+    ensures { result ≡ if_named (named reader.now.made.objects (option_copied word.entry)) fault }
 {
     match named(reader, word) {
         Ok(_) => fault,
@@ -60,7 +60,7 @@ fn if_named(reader: &Reader, word: Option<&[u8]>, fault: CommandFault) -> Comman
 
 /// Why attributes with this fault are not kept of the object that a word names. A fault of their form comes first.
 fn unkept(reader: &Reader, word: Option<&[u8]>, fault: PutFault) -> CommandFault
-    ensures { result ≡ unkept (named reader.now.objects (option_copied word.entry)) fault }
+    ensures { result ≡ unkept (named reader.now.made.objects (option_copied word.entry)) fault }
 {
     match fault {
         PutFault::Attr => CommandFault::Faulty(AscKind::Attr),
@@ -77,7 +77,7 @@ pub(crate) fn keep_command(
     read: Result<KeptAttrs, PutFault>,
 ) -> Result<(), CommandFault>
     requires { IfOk read (λ kept. AreTexts kept) }
-    ensures { (pairs : Result (List KeptAttr) PutFault) → IsKeptRead read pairs → IsMade (reading.keep_with reader.old (option_copied word.entry) pairs) result reader.new }
+    ensures { (pairs : Result (List KeptAttr) PutFault) → IsKeptRead read pairs → IsMade (reading.keep_with reader.old.made (option_copied word.entry) pairs) reader.old result reader.new }
 {
     match read {
         Ok(pairs) => keep_read(alloc, reader, word, pairs),

@@ -1,17 +1,21 @@
-//! Puts into an object what was gathered for its name.
+//! Puts into objects what was gathered for their names.
 ghost use Rattle.std.specs.Prelude.{◌≡◌, IfOk, IsSome, OnOk, Some};
 ghost use Rattle.object_set.specs.Objects.{Parts};
 ghost use Rattle.directory.specs.Alone.{KeepsNames};
 ghost use Rattle.directory.specs.Edits.{replaced};
 ghost use Rattle.directory.specs.declared.fault.DirFault.TheVariants as dir;
 ghost use Rattle.directory.specs.Walks.{object_of};
-ghost use Rattle.asc_form.specs.Gathering.{keeping, AreTexts, Settles};
+ghost use Rattle.asc_form.specs.Gathering.{keeping, settled, AreTexts, IsGathered, Settles};
 
 use directory::{DirFault, Directory};
+use indexmap::IndexMap;
 use memory_core::Memory;
 use name_core::Name;
-use object_set::{KeptAttr, Object};
+use object_set::{KeptAttr, KeptAttrs, Object};
 use std::alloc::Global;
+
+/// Attributes that objects are to keep, by the objects' names.
+pub(crate) type Gathered = IndexMap<Name, KeptAttrs>;
 
 /// The object with these attributes kept.
 fn with_kept(alloc: Global, object: &Object, pairs: &[KeptAttr]) -> Result<Object, Memory>
@@ -63,7 +67,7 @@ fn exchange(directory: &mut Directory, name: &Name, object: Object) -> Result<()
 }
 
 /// Keeps what was gathered for a name of the name's object.
-pub(crate) fn keep_gathered(
+fn keep_gathered(
     alloc: Global,
     directory: &mut Directory,
     name: &Name,
@@ -76,4 +80,19 @@ pub(crate) fn keep_gathered(
     let _count = directory.len();
     let object = object_keeping(alloc, directory, name, pairs)?;
     exchange(directory, name, object)
+}
+
+/// Each object keeps what was gathered for its name.
+pub(crate) fn keep_all(
+    alloc: Global,
+    mut directory: Directory,
+    gathered: Gathered,
+) -> Result<Directory, Memory>
+    requires { IsGathered directory.objects gathered.entries }
+    ensures { IfOk result (λ d. d ≡ record directory { objects = settled directory.objects gathered.entries }) }
+{
+    for (name, pairs) in gathered {
+        keep_gathered(alloc, &mut directory, &name, pairs.items())?;
+    }
+    Ok(directory)
 }

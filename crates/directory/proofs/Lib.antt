@@ -1,9 +1,11 @@
 pub mod AloneLemmas
 pub mod CountLemmas
+pub mod DraftLemmas
 pub mod EditLemmas
 pub mod FindLemmas
 pub mod PlaceLemmas
 pub mod ReplaceLemmas
+pub mod TakeLemmas
 pub mod TellLemmas
 pub mod WalkLemmas
 pub mod WholeLemmas

@@ -30,6 +30,7 @@ judged dir a = judged_by (deepest dir) a
 abbrev pub appended : Entries → Name → Parts → Entries
 appended dir a o = dir ++ (a, o) ∷ []
 
+-- why a pair is not added: the name is there, the list is full, or the list with it may not stand
 abbrev pub put_fault : Entries → Name → Parts → Option DirFault
 put_fault dir a o = first_of (when (is_some (object_of dir a)) Exists ∷ when (nat_le most_objects (length dir)) Full ∷ judged (appended dir a o) a ∷ [])
 
@@ -37,6 +38,7 @@ put_fault dir a o = first_of (when (is_some (object_of dir a)) Exists ∷ when (
 abbrev pub replaced : Entries → Name → Parts → Entries
 replaced dir a o = set_value (same_name a) dir o
 
+-- why an object is not replaced: the name is not there, or the list with the new one may not stand
 abbrev pub replace_fault : Entries → Name → Parts → Option DirFault
 replace_fault dir a o = first_of (when (not (is_some (object_of dir a))) Missing ∷ judged (replaced dir a o) a ∷ [])
 
@@ -44,6 +46,7 @@ replace_fault dir a o = first_of (when (not (is_some (object_of dir a))) Missing
 abbrev pub removed : Entries → Name → Entries
 removed dir a = remove_entry (same_name a) dir
 
+-- why a pair is not taken out: the name is not there
 abbrev pub remove_fault : Entries → Name → Option DirFault
 remove_fault dir a = when (not (is_some (object_of dir a))) Missing
 
@@ -55,6 +58,7 @@ without_all dir names = filter (λ e. not (list_any (same_name e.0) names)) dir
 abbrev pub renamed_all : Entries → Name → Name → Entries
 renamed_all dir a b = map (λ e. (new_name a b e.0, renamed_object a b e.1)) dir
 
+-- why a name is not replaced: the new one is there, the old one is not, or the renamed list may not stand
 abbrev pub rename_fault : Entries → Name → Name → Option DirFault
 rename_fault dir a b = first_of (when (is_some (object_of dir b)) Exists ∷ when (not (is_some (object_of dir a))) Missing ∷ judged (renamed_all dir a b) b ∷ [])
 

@@ -8,9 +8,11 @@ use Rattle.object_set.specs.Objects.{Parts, member_names}
 use Rattle.object_set.specs.declared.object.Body.{Body}
 use Rattle.object_set.specs.declared.object.Body.TheVariants.{Solid, Comb}
 
+-- so many objects may be in a directory
 abbrev pub most_objects : ℕ
 most_objects = 65535
 
+-- so many combinations may lie one in the other
 abbrev pub most_depth : ℕ
 most_depth = 16
 

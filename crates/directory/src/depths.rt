@@ -70,7 +70,7 @@ pub(crate) fn depth_of(objects: &IndexMap<Name, Object>, below: &[u8], object: &
 }
 
 /// The greatest of the depths.
-fn greatest(depths: &[u8]) -> u8
+pub(crate) fn greatest(depths: &[u8]) -> u8
     ensures { result ≡ greatest_of depths.now }
 {
     let mut most = 0;

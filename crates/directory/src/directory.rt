@@ -43,6 +43,7 @@ impl Directory {
     ghost use Rattle.std.specs.Option.{option_copied, option_map};
     ghost use Rattle.std.specs.Map.Iter.{deref_pair};
     ghost use Rattle.object_set.specs.TextValues.{IsTextValue};
+    ghost use Rattle.directory.specs.Keeping.{IsKept};
     ghost use Rattle.directory.specs.Walks.{IsSound, object_of};
     ghost use Rattle.directory.specs.Edits.{appended, put_fault, replaced, replace_fault, removed, remove_fault, renamed_all, rename_fault, without_all, references_of, Follows, Tells};
 
@@ -56,6 +57,25 @@ impl Directory {
             objects: IndexMap::new(alloc),
             depths: Vec::new(alloc),
             counts: Counts::new(alloc),
+        }
+    }
+
+    /// The directory of these parts.
+    pub(crate) fn of_parts(
+        title: Vec<u8>,
+        objects: IndexMap<Name, Object>,
+        depths: Vec<u8>,
+        counts: Counts,
+    ) -> Directory
+        requires { IsKept title.items objects.entries depths.items counts }
+        ensures title { result.title ≡ title.items }
+        ensures objects { result.objects ≡ objects.entries }
+    {
+        Directory {
+            title,
+            objects,
+            depths,
+            counts,
         }
     }
 

@@ -1,5 +1,6 @@
-//! Depths found by one walk down, which visits each combination at most once.
-ghost use Rattle.std.specs.Prelude.{◌≡◌, ◌<◌, ◌≤◌, true, false, length, None, slice_get, slice_index, IsSome};
+//! Depths of the first objects of a list, found by one walk down, which visits each combination at most once. To it a name
+//! whose object comes later is a name without one.
+ghost use Rattle.std.specs.Prelude.{◌≡◌, ◌<◌, ◌≤◌, true, false, length, take, None, slice_get, slice_index, IsSome};
 ghost use Rattle.name_core.specs.declared.name.Name.{Name};
 ghost use Rattle.object_set.specs.Objects.{Parts};
 ghost use Rattle.directory.specs.Walks.{unbounded, depth_within, deepest};
@@ -18,16 +19,18 @@ use object_set::{Body, Object};
 fn find_place(
     objects: &IndexMap<Name, Object>,
     depths: &mut [u8],
+    count: usize,
     place: usize,
     levels: u8,
 ) -> Option<u8>
-    requires len { length depths.old ≡ length objects.now.entries }
-    requires within { place < length objects.now.entries }
+    requires len { length depths.old ≡ count }
+    requires count { count ≤ length objects.now.entries }
+    requires within { place < count }
     requires levels { levels < unbounded }
-    requires found { AreFound objects.now.entries depths.old }
-    ensures depth { (k : Name) (o : Parts) → slice_get objects.now.entries place ≡ Some (k, o) → Finds (λ most. depth_within most objects.now.entries k) levels result }
+    requires found { AreFound (take count objects.now.entries) depths.old }
+    ensures depth { (k : Name) (o : Parts) → slice_get (take count objects.now.entries) place ≡ Some (k, o) → Finds (λ most. depth_within most (take count objects.now.entries) k) levels result }
     ensures here { IsSome result → slice_index depths.new place < unbounded }
-    ensures found { AreFound objects.now.entries depths.new }
+    ensures found { AreFound (take count objects.now.entries) depths.new }
     ensures kept { KeepsFound depths.old depths.new }
 {
     let _count = objects.len();
@@ -37,7 +40,7 @@ fn find_place(
     }
     match objects.get_index(place) {
         Some((_name, object)) => {
-            let depth = find_object(objects, depths, object, levels)?;
+            let depth = find_object(objects, depths, count, object, levels)?;
             depths[place] = depth;
             Some(depth)
         }
@@ -50,14 +53,16 @@ fn find_place(
 fn find_object(
     objects: &IndexMap<Name, Object>,
     depths: &mut [u8],
+    count: usize,
     object: &Object,
     levels: u8,
 ) -> Option<u8>
-    requires len { length depths.old ≡ length objects.now.entries }
+    requires len { length depths.old ≡ count }
+    requires count { count ≤ length objects.now.entries }
     requires levels { levels < unbounded }
-    requires found { AreFound objects.now.entries depths.old }
-    ensures depth { Finds (λ most. object_within most objects.now.entries object.now) levels result }
-    ensures found { AreFound objects.now.entries depths.new }
+    requires found { AreFound (take count objects.now.entries) depths.old }
+    ensures depth { Finds (λ most. object_within most (take count objects.now.entries) object.now) levels result }
+    ensures found { AreFound (take count objects.now.entries) depths.new }
     ensures kept { KeepsFound depths.old depths.new }
 {
     match object.body() {
@@ -66,7 +71,7 @@ fn find_object(
             if levels == 0 {
                 return None;
             }
-            let below = find_nodes(objects, depths, tree.nodes(), levels - 1)?;
+            let below = find_nodes(objects, depths, count, tree.nodes(), levels - 1)?;
             Some(below + 1)
         }
     }
@@ -77,19 +82,21 @@ fn find_object(
 fn find_nodes(
     objects: &IndexMap<Name, Object>,
     depths: &mut [u8],
+    count: usize,
     nodes: &[CombNode],
     levels: u8,
 ) -> Option<u8>
-    requires len { length depths.old ≡ length objects.now.entries }
+    requires len { length depths.old ≡ count }
+    requires count { count ≤ length objects.now.entries }
     requires levels { levels < unbounded }
-    requires found { AreFound objects.now.entries depths.old }
-    ensures depth { Finds (λ most. names_within most objects.now.entries (node_names nodes.now)) levels result }
-    ensures found { AreFound objects.now.entries depths.new }
+    requires found { AreFound (take count objects.now.entries) depths.old }
+    ensures depth { Finds (λ most. names_within most (take count objects.now.entries) (node_names nodes.now)) levels result }
+    ensures found { AreFound (take count objects.now.entries) depths.new }
     ensures kept { KeepsFound depths.old depths.new }
 {
     let mut most = 0;
     for node in nodes {
-        most = larger(most, find_node(objects, depths, node, levels)?);
+        most = larger(most, find_node(objects, depths, count, node, levels)?);
     }
     Some(most)
 }
@@ -99,18 +106,20 @@ fn find_nodes(
 fn find_node(
     objects: &IndexMap<Name, Object>,
     depths: &mut [u8],
+    count: usize,
     node: &CombNode,
     levels: u8,
 ) -> Option<u8>
-    requires len { length depths.old ≡ length objects.now.entries }
+    requires len { length depths.old ≡ count }
+    requires count { count ≤ length objects.now.entries }
     requires levels { levels < unbounded }
-    requires found { AreFound objects.now.entries depths.old }
-    ensures depth { Finds (λ most. names_within most objects.now.entries (name_of_node node.now)) levels result }
-    ensures found { AreFound objects.now.entries depths.new }
+    requires found { AreFound (take count objects.now.entries) depths.old }
+    ensures depth { Finds (λ most. names_within most (take count objects.now.entries) (name_of_node node.now)) levels result }
+    ensures found { AreFound (take count objects.now.entries) depths.new }
     ensures kept { KeepsFound depths.old depths.new }
 {
     match node {
-        CombNode::Leaf { name, .. } => find_name(objects, depths, name, levels),
+        CombNode::Leaf { name, .. } => find_name(objects, depths, count, name, levels),
         _ => Some(0),
     }
 }
@@ -120,18 +129,26 @@ fn find_node(
 fn find_name(
     objects: &IndexMap<Name, Object>,
     depths: &mut [u8],
+    count: usize,
     name: &Name,
     levels: u8,
 ) -> Option<u8>
-    requires len { length depths.old ≡ length objects.now.entries }
+    requires len { length depths.old ≡ count }
+    requires count { count ≤ length objects.now.entries }
     requires levels { levels < unbounded }
-    requires found { AreFound objects.now.entries depths.old }
-    ensures depth { Finds (λ most. depth_within most objects.now.entries name.now) levels result }
-    ensures found { AreFound objects.now.entries depths.new }
+    requires found { AreFound (take count objects.now.entries) depths.old }
+    ensures depth { Finds (λ most. depth_within most (take count objects.now.entries) name.now) levels result }
+    ensures found { AreFound (take count objects.now.entries) depths.new }
     ensures kept { KeepsFound depths.old depths.new }
 {
     match objects.get_index_of(name) {
-        Some(place) => find_place(objects, depths, place, levels),
+        Some(place) => {
+            if place < count {
+                find_place(objects, depths, count, place, levels)
+            } else {
+                Some(0)
+            }
+        }
         None => Some(0),
     }
 }
@@ -143,20 +160,32 @@ fn forget(depths: &mut [u8])
     depths.fill(UNBOUNDED);
 }
 
-/// Finds the depths of all objects, and says whether there is no cycle. The first walk that is too deep ends the search.
+/// Finds the depths of the first objects, and says whether none of them is over 33. The first walk that is too deep ends
+/// the search.
+pub(crate) fn find_first(objects: &IndexMap<Name, Object>, depths: &mut [u8], count: usize) -> bool
+    requires len { length depths.old ≡ count }
+    requires count { count ≤ length objects.now.entries }
+    ensures known { result ≡ true → depths.new ≡ known_depths (take count objects.now.entries) }
+    ensures shallow { result ≡ true → deepest (take count objects.now.entries) < unbounded }
+    ensures cycle { result ≡ false → unbounded ≤ deepest (take count objects.now.entries) }
+{
+    forget(depths);
+    for place in 0..count {
+        if find_place(objects, depths, count, place, UNBOUNDED - 1).is_none() {
+            return false;
+        }
+    }
+    true
+}
+
+/// Finds the depths of all objects, and says whether none of them is over 33.
 fn find_all(objects: &IndexMap<Name, Object>, depths: &mut [u8]) -> bool
     requires { length depths.old ≡ length objects.now.entries }
     ensures known { result ≡ true → depths.new ≡ known_depths objects.now.entries }
     ensures shallow { result ≡ true → deepest objects.now.entries < unbounded }
     ensures cycle { result ≡ false → unbounded ≤ deepest objects.now.entries }
 {
-    forget(depths);
-    for place in 0..objects.len() {
-        if find_place(objects, depths, place, UNBOUNDED - 1).is_none() {
-            return false;
-        }
-    }
-    true
+    find_first(objects, depths, objects.len())
 }
 
 /// Finds the depths of all objects, and why they may not stand after an edit of the name.

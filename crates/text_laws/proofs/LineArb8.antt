@@ -29,7 +29,8 @@ use Rattle.put_form.specs.Solids as solid_keys
 use Rattle.put_form.specs.Written.{put_line, vertices_text}
 use Rattle.text_laws.specs.PutAgain.{IsPutAgain}
 use Rattle.text_laws.proofs.LineSolids.{put_words, good_solid, vector_value, some_three, put_solid}
-use Rattle.text_laws.proofs.LineNumbers.{lettered_word, name_word, word_good}
+use Rattle.put_form.proofs.NameWords.{name_word, word_good}
+use Rattle.text_laws.proofs.LineNumbers.{lettered_word}
 use Rattle.text_laws.proofs.LinePieces.{HasPieces, read_line, placed, HasBytes, by_places, word, atom, vector_pieces, triple_text, vector_written, vector_good}
 
 -- the vertices with their keys

@@ -38,7 +38,8 @@ use Rattle.put_form.specs.declared.fault.PutFault.TheVariants as put_faults
 use Rattle.put_form.specs.Written.{put_line, truth_text, colour_text, tree_text}
 use Rattle.text_laws.specs.Fits.{IsColour, HasColour, IsFitTree}
 use Rattle.text_laws.specs.PutAgain.{IsPutAgain}
-use Rattle.text_laws.proofs.LineNumbers.{is_word, name_word, word_good, decimal_word, number_again}
+use Rattle.put_form.proofs.NameWords.{is_word, name_word, word_good}
+use Rattle.text_laws.proofs.LineNumbers.{decimal_word, number_again}
 use Rattle.text_laws.proofs.LinePieces.{HasPieces, read_line, placed, HasBytes, by_places, word, atom, opening, closing}
 use Rattle.text_laws.proofs.LineSolids.{put_words, name_fine, some_three}
 use Rattle.text_laws.proofs.LineWords.{Stretch, tops, top_is, stretch_good, stretch_end, stretch_tops}

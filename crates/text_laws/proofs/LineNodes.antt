@@ -36,7 +36,8 @@ use Rattle.word_values.specs.declared.tree.TreeFault.TheVariants as faults
 use Rattle.word_values.proofs.MatrixLaws.{of_read, all_there, still}
 use Rattle.put_form.specs.Written.{numbers_text, operator_text, node_text}
 use Rattle.text_laws.specs.Fits.{IsFit}
-use Rattle.text_laws.proofs.LineNumbers.{word_good, name_word, signed_word, view_number_again, within_size}
+use Rattle.put_form.proofs.NameWords.{word_good, name_word}
+use Rattle.text_laws.proofs.LineNumbers.{signed_word, view_number_again, within_size}
 use Rattle.text_laws.proofs.LinePieces.{atom, opening, closing}
 use Rattle.text_laws.proofs.LineSolids.{zero_all}
 use Rattle.text_laws.proofs.LineWords.{Stretch, stretch_append}

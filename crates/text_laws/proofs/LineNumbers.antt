@@ -1,64 +1,25 @@
 -- Atoms that are written: names and numbers, and what they are read as.
-use Rattle.std.proofs.Common.{◌≡◌, ◌∙◌, ◌+◌, ◌-◌, ◌*◌, ◌^◌, ◌<◌, ◌≤◌, ◌&&◌, ℕ, zero, suc, ℤ, pos, negsuc, ◌-ℤ◌, Bool, true, false, cond, List, [], ◌∷◌, length, All, Some, None, refl, ap, sym, arith, decimal, append-nil, length-drop}
+use Rattle.std.proofs.Common.{◌≡◌, ◌∙◌, ◌+◌, ◌-◌, ◌*◌, ◌^◌, ◌<◌, ◌≤◌, ℕ, zero, suc, ℤ, pos, negsuc, ◌-ℤ◌, true, cond, List, [], ◌∷◌, length, Some, None, refl, ap, sym, arith, decimal, append-nil, length-drop}
 use Rattle.std.specs.Prelude.{fold}
 use Rattle.std.specs.Int.{IsInRange}
 use Rattle.std.specs.Int.RustNames.{unsigned_abs}
 use Rattle.std.specs.List.{AllByRecursion, list_all, prefix_len}
 use Rattle.std.specs.Char.{is_ascii_digit}
 use Rattle.std.specs.Fmt.{signed_decimal}
-use Rattle.std.proofs.lemmas.Bool.{and_parts, le-leb}
+use Rattle.std.proofs.lemmas.Bool.{le-leb}
 use Rattle.std.proofs.lemmas.Bool.Decides.{nat_tests}
 use Rattle.std.proofs.lemmas.Fmt.{digits_decimal, digits_value-decimal, decimal_nonempty, length-decimal-le}
 use Rattle.std.proofs.lemmas.Int.{ints}
-use Rattle.std.proofs.lemmas.List.Elements.{All-head, All-tail}
 use Rattle.std.proofs.lemmas.Str.Parse.{IsNumeralModel, numerals_by_fold}
 use Rattle.lattice_core.specs.declared.limit.TheConstants.{COORD}
 use Rattle.lattice_core.specs.Limits.{IsAtMost}
-use Rattle.name_core.specs.NameText.{IsName, is_first_byte, is_next_byte}
-use Rattle.tcl_words.specs.Bytes.{is_atom}
-use Rattle.tcl_words.specs.Faults.{is_bad_at}
+use Rattle.name_core.specs.NameText.{is_next_byte}
 use Rattle.tcl_words.specs.Numbers.{value, AreDigits, significant, is_zero, number_of}
 use Rattle.tcl_words.specs.NumberForm.{NoSign, Minus, IsNumber}
-use Rattle.tcl_words.specs.declared.token.Kind.TheVariants.{Atom}
 use Rattle.tcl_words.proofs.Forms.{form_read}
-use Rattle.tcl_words.proofs.Written.{AtomBytes, GoodPiece}
 use Rattle.word_values.specs.Atoms.{kept_to, number_to, solid_number, view_number}
-
--- ---- atoms of the bytes of names
-
-abbrev pub is_word : List ℕ → Bool
-is_word [] = false
-is_word (b ∷ bs) = is_next_byte b && list_all is_next_byte bs
-
-byte_atom : (b : ℕ) → is_next_byte b ≡ true → is_atom b ≡ true
-byte_atom b is = grind (arith, nat_tests)
-
-byte_good : (b g : ℕ) → is_next_byte b ≡ true → is_bad_at b g ≡ false
-byte_good b g is = grind (arith, nat_tests)
-
-bytes_good : (bs : List ℕ) (g : ℕ) → list_all is_next_byte bs ≡ true → AtomBytes g bs
-bytes_good [] g is = tt
-bytes_good (b ∷ bs) g is =
-    let both = and_parts (is_next_byte b) (list_all is_next_byte bs) is in
-    (byte_atom b both.0, byte_good b g both.0, bytes_good bs g both.1)
-
-pub word_good : (bs : List ℕ) (g : ℕ) → is_word bs ≡ true → GoodPiece Atom bs g
-word_good [] g is = absurd cc
-word_good (b ∷ bs) g is = (omega arith, bytes_good (b ∷ bs) g is)
-
-both : (a b : Bool) → a ≡ true → b ≡ true → (a && b) ≡ true
-both a b p q = cc
-
-first_next : (b : ℕ) → is_first_byte b ≡ true → is_next_byte b ≡ true
-first_next b is = cc
-
-all_next : (bs : List ℕ) → All (λ b. is_next_byte b ≡ true) bs → list_all is_next_byte bs ≡ true
-all_next [] all = refl
-all_next (b ∷ bs) all = both (is_next_byte b) (list_all is_next_byte bs) (All-head (λ b. is_next_byte b ≡ true) b bs all) (all_next bs (All-tail (λ b. is_next_byte b ≡ true) b bs all))
-
-pub name_word : (name : List ℕ) → IsName name → is_word name ≡ true
-name_word [] is = absurd (omega (arith, is.some))
-name_word (b ∷ bs) is = both (is_next_byte b) (list_all is_next_byte bs) (first_next b is.first) (all_next bs is.rest)
+use Rattle.put_form.proofs.ListLaws.{both}
+use Rattle.put_form.proofs.NameWords.{is_word}
 
 -- ---- decimal numbers
 

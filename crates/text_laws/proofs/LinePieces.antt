@@ -16,7 +16,8 @@ use Rattle.tcl_words.proofs.Fine.{fine_words}
 use Rattle.tcl_words.proofs.Scan.{Piece, scanned}
 use Rattle.tcl_words.proofs.Written.{Again, Good, read_again}
 use Rattle.put_form.specs.Written.{vector_text}
-use Rattle.text_laws.proofs.LineNumbers.{word_good, within_word}
+use Rattle.put_form.proofs.NameWords.{word_good}
+use Rattle.text_laws.proofs.LineNumbers.{within_word}
 
 -- the words of good pieces that are written are these pieces
 pub record HasPieces (line : List ℕ) (ps : List Piece) : Type 0 where

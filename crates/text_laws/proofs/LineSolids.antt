@@ -42,7 +42,8 @@ use Rattle.put_form.specs.declared.kind.SolidForm.TheVariants.{Sphere, Half}
 use Rattle.put_form.specs.Solids as solid_keys
 use Rattle.put_form.specs.Written.{put_line}
 use Rattle.text_laws.specs.PutAgain.{IsPutAgain}
-use Rattle.text_laws.proofs.LineNumbers.{is_word, name_word, word_good, within_word, solid_number_again}
+use Rattle.put_form.proofs.NameWords.{is_word, name_word, word_good}
+use Rattle.text_laws.proofs.LineNumbers.{within_word, solid_number_again}
 use Rattle.text_laws.proofs.LinePieces.{HasPieces, read_line, placed, HasBytes, by_places, word, atom, vector_pieces, triple_text, vector_written, vector_good}
 
 -- ---- what the words of a line come to

@@ -1,19 +1,13 @@
 -- What the written lines make of a directory: the title, the unit, and the attributes that are kept.
-use Rattle.std.proofs.Common.{All, ◌≡◌, ◌<◌, ◌≤◌, ◌+◌, ◌==◌, ◌++◌, ◌∷◌, ◌∙◌, [], ℕ, Bool, true, false, not, cond, inl, inr, List, length, map, flat_map, codes, Option, Some, None, Ok, Err, is_ok, arith, refl, ap, sym, subst, ne_eqb, append_assoc, append-nil, true≢false}
-use Rattle.std.specs.Prelude.{◌&&◌, ◌||◌, nat_lt, is_none, find, unwrap_or, if◌then◌else◌}
+use Rattle.std.proofs.Common.{◌≡◌, ◌<◌, ◌+◌, ◌++◌, ◌∷◌, ◌∙◌, [], ℕ, Bool, true, not, cond, List, length, map, flat_map, codes, Option, Some, None, Ok, Err, is_ok, arith, refl, ap, sym, subst, ne_eqb, append_assoc, append-nil}
+use Rattle.std.specs.Prelude.{◌&&◌, is_none, find, unwrap_or, if◌then◌else◌}
 use Rattle.std.specs.List.{AllByRecursion, list_all}
 use Rattle.std.specs.Option.{option_map}
-use Rattle.std.proofs.lemmas.Bool.{lt-leb, le-ltb}
-use Rattle.std.proofs.lemmas.Bool.Decides.{leb_tells}
-use Rattle.std.proofs.lemmas.List.Elements.{All-head, All-tail}
-use Rattle.name_core.specs.NameText.{IsName, is_next_byte, read_name}
+use Rattle.name_core.specs.NameText.{IsName, read_name}
 use Rattle.name_core.proofs.NameLaws.{accepted}
-use Rattle.tcl_words.specs.Bytes.{is_atom, is_blank}
-use Rattle.tcl_words.specs.Faults.{is_bad_at}
 use Rattle.tcl_words.specs.TopWords.{top_words, atom_of}
 use Rattle.tcl_words.specs.declared.token.Token.{Token}
 use Rattle.tcl_words.specs.declared.token.Word.{Word}
-use Rattle.tcl_words.proofs.Written.{AtomBytes}
 use Rattle.word_values.specs.Atoms.{text_from}
 use Rattle.object_set.specs.Objects.{Parts}
 use Rattle.object_set.specs.TextValues.{IsTextValue}
@@ -22,6 +16,7 @@ use Rattle.put_form.specs.Keeps.{is_text, word_text, kept_attr, has_form, is_nam
 use Rattle.put_form.specs.Pairs.{Pair, pair, pairs_of}
 use Rattle.put_form.specs.Written.{kept_text, kept_line}
 use Rattle.put_form.specs.declared.fault.PutFault.TheVariants as put
+use Rattle.put_form.proofs.NameWords.{name_word, word_good}
 use Rattle.directory.specs.Listing.{Listing}
 use Rattle.directory.specs.Walks.{object_of}
 use Rattle.asc_form.specs.Reading.{titled, unless_kind, when, is_word, keep_with, kept_by, kept_in, named_made, words_made, read_made, made_by}
@@ -32,45 +27,8 @@ use Rattle.text_laws.proofs.TextWords.{Spelled, Plain, Group, after_blanks, line
 
 -- ---- a name is an atom
 
-differs : (b c : ℕ) → is_next_byte b ≡ true → is_next_byte c ≡ false → (b == c) ≡ false
-differs b c h k = ne_eqb b c (λ e. true≢false (sym h ∙ ap is_next_byte e ∙ k))
-
-atom_by : (a b c d e f : Bool) → a ≡ false → b ≡ false → c ≡ false → d ≡ false → e ≡ false → f ≡ false → not ((a || b || c || d) || e || f) ≡ true
-atom_by a b c d e f p q r s t u = cc
-
-byte_atom : (b : ℕ) → is_next_byte b ≡ true → is_atom b ≡ true
-byte_atom b h = atom_by (b == 32) (b == 9) (b == 13) (b == 10) (b == 123) (b == 125) (differs b 32 h refl) (differs b 9 h refl) (differs b 13 h refl) (differs b 10 h refl) (differs b 123 h refl) (differs b 125 h refl)
-
-small_by : (p q r a b c x y z : Bool) → p ≡ false → q ≡ false → r ≡ false → a ≡ false → b ≡ false → c ≡ false → (((p && x) || (q && y) || (r && z) || a) || b || c) ≡ false
-small_by p q r a b c x y z h i j k l m = cc
-
-small_none : (b : ℕ) → b < 32 → is_next_byte b ≡ false
-small_none b lt =
-    small_by _ _ _ (b == 95) (b == 46) (b == 45) _ _ _ (lt-leb 48 b (omega (arith, lt))) (lt-leb 65 b (omega (arith, lt))) (lt-leb 97 b (omega (arith, lt)))
-    (ne_eqb b 95 (λ e. omega (arith, lt, e))) (ne_eqb b 46 (λ e. omega (arith, lt, e))) (ne_eqb b 45 (λ e. omega (arith, lt, e)))
-
-byte_large : (b : ℕ) → is_next_byte b ≡ true → 32 ≤ b
-byte_large b h = elim (leb_tells 32 b) [ inl t ↦ t.1 | inr t ↦ absurd (true≢false (sym h ∙ small_none b t.1)) ]
-
-bad_by : (l k a b c d e f g : Bool) → l ≡ false → a ≡ false → b ≡ false → c ≡ false → d ≡ false → e ≡ false → f ≡ false → g ≡ false → (((l && k) || a || b) || (c || d || e || f || g)) ≡ false
-bad_by l k a b c d e f g h i j m n o p q = cc
-
-byte_good : (b : ℕ) → is_next_byte b ≡ true → is_bad_at b 0 ≡ false
-byte_good b h =
-    bad_by (nat_lt b 32) (not (is_blank b)) (b == 127) (b == 92) (b == 34) (b == 91) (b == 93) (b == 36) (b == 59) (le-ltb b 32 (byte_large b h))
-    (differs b 127 h refl) (differs b 92 h refl) (differs b 34 h refl) (differs b 91 h refl) (differs b 93 h refl) (differs b 36 h refl) (differs b 59 h refl)
-
-rest_atoms : (bytes : List ℕ) → All (λ b. is_next_byte b ≡ true) bytes → AtomBytes 0 bytes
-rest_atoms [] h = tt
-rest_atoms (b ∷ bs) h =
-    let here : is_next_byte b ≡ true = All-head (λ x. is_next_byte x ≡ true) b bs h in
-    (byte_atom b here, byte_good b here, rest_atoms bs (All-tail (λ x. is_next_byte x ≡ true) b bs h))
-
 pub name_atom : (bytes : List ℕ) → IsName bytes → IsSpelled (Plain bytes)
-name_atom [] h = absurd (omega (arith, h.some))
-name_atom (b ∷ bs) h =
-    let here : is_next_byte b ≡ true = ap (λ (t : Bool). t || b == 46 || b == 45) h.first in
-    (omega arith, (byte_atom b here, byte_good b here, rest_atoms bs h.rest))
+name_atom bytes h = word_good bytes 0 (name_word bytes h)
 
 -- ---- the title
 

@@ -1,19 +1,15 @@
-use Rattle.std.proofs.Common.{arith, ◌∙◌, ap, not}
-use Rattle.directory.specs.Walks.{depth_within}
-use Rattle.directory.proofs.FindLemmas.{some_at, lost, deep_found, all_found, all_shallow}
+use Rattle.std.proofs.Common.{◌≡◌, ◌<◌, ◌≤◌, ◌∙◌, ℕ, ap, rules, subst, take, length}
+use Rattle.std.proofs.Math.Seq.{take-length}
+use Rattle.directory.specs.Places.{known_depths}
+use Rattle.directory.specs.Walks.{Entries, unbounded, deepest}
 use Rattle.directory.proofs.walk.find_all.Goals as goal
 
-pub returns-then-is_none-clause-cycle : goal.returns-then-is_none-clause-cycle
-returns-then-is_none-clause-cycle c =
-    let at = some_at c.args.objects.now.entries c.loop-place.place (omega (arith, c.loop-place-test.true)) in
-    λ _. deep_found c.args.objects.now.entries at.0 (lost (λ n. depth_within n c.args.objects.now.entries at.0) 33 c.find_place.result (c.is_none.ensures ∙ ap not c.if-is_none.true) (c.find_place.ensures.depth at.0 at.1 at.2))
-
-pub returns-clause-known : goal.returns-clause-known
-returns-clause-known c =
-    λ _. all_found c.args.objects.now.entries c.loop-place.depths (omega (arith, c.loop-place.auto.depths, c.forget.auto.depths, c.requires)) c.loop-place.invariant.found
-    (λ j lt. c.loop-place.invariant.before j (omega (arith, lt, c.loop-place-test.false)))
-
-pub returns-clause-shallow : goal.returns-clause-shallow
-returns-clause-shallow c =
-    λ _. all_shallow c.args.objects.now.entries c.loop-place.depths (omega (arith, c.loop-place.auto.depths, c.forget.auto.depths, c.requires)) c.loop-place.invariant.found
-    (λ j lt. c.loop-place.invariant.before j (omega (arith, lt, c.loop-place-test.false)))
+pub returns : goal.returns
+returns c =
+    let n : c.len.result ≡ length c.args.objects.now.entries = search rules in
+    let whole : take c.len.result c.args.objects.now.entries ≡ c.args.objects.now.entries = ap (λ (n : ℕ). take n c.args.objects.now.entries) n ∙ take-length c.args.objects.now.entries in
+    record {
+      known = λ e. c.find_first.ensures.known e ∙ ap known_depths whole;
+      shallow = λ e. subst (λ (es : Entries). deepest es < unbounded) whole (c.find_first.ensures.shallow e);
+      cycle = λ e. subst (λ (es : Entries). unbounded ≤ deepest es) whole (c.find_first.ensures.cycle e);
+    }

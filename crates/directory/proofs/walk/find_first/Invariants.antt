@@ -1,11 +1,11 @@
-use Rattle.std.proofs.Common.{◌<◌, ℕ}
+use Rattle.std.proofs.Common.{◌<◌, ℕ, take}
 use Rattle.std.specs.Prelude.{slice_index}
 use Rattle.directory.specs.Walks.{unbounded}
 use Rattle.directory.specs.Places.{AreFound}
-use Rattle.directory.proofs.walk.find_all.Given as goal
+use Rattle.directory.proofs.walk.find_first.Given as goal
 
 abbrev pub invariant-loop-place : goal.invariant-loop-place
 invariant-loop-place l = record {
-  found : AreFound l.objects.entries l.depths;
+  found : AreFound (take l.count l.objects.entries) l.depths;
   before : (j : ℕ) → j < l.place → slice_index l.depths j < unbounded;
 }

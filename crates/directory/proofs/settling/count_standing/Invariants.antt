@@ -1,0 +1,14 @@
+use Rattle.std.proofs.Common.{◌<◌, ◌≤◌, ◌-◌, take, length}
+use Rattle.directory.specs.Walks.{deepest, most_depth}
+use Rattle.directory.proofs.settling.count_standing.Given as goal
+
+abbrev pub invariant-loop-refused : goal.invariant-loop-refused
+invariant-loop-refused l = record {
+  apart : l.standing < l.refused;
+  within : l.refused ≤ length l.objects.entries;
+  sound : deepest (take l.standing l.objects.entries) ≤ most_depth;
+  deep : most_depth < deepest (take l.refused l.objects.entries);
+}
+
+abbrev pub decreases-loop-refused : goal.decreases-loop-refused
+decreases-loop-refused l = l.refused - l.standing

@@ -32,10 +32,10 @@ nothing_from_nothing (Leaf (Some i)) values h = h i
 nothing_from_nothing (Join op l r) values h =
     ap (λ b. joined op b (mask_holds r values)) (nothing_from_nothing l values h) ∙ ap (λ b. joined op false b) (nothing_from_nothing r values h) ∙ joined_none op
 
-all_left : {X : Type 0} (P : X → Type 0) (xs ys : List X) → All P (xs ++ ys) → All P xs
+pub all_left : {X : Type 0} (P : X → Type 0) (xs ys : List X) → All P (xs ++ ys) → All P xs
 all_left P xs ys all k d lt = subst P (get_or_append_left xs ys d k lt) (all k d (omega (arith, lt, length-append xs ys)))
 
-all_right : {X : Type 0} (P : X → Type 0) (xs ys : List X) → All P (xs ++ ys) → All P ys
+pub all_right : {X : Type 0} (P : X → Type 0) (xs ys : List X) → All P (xs ++ ys) → All P ys
 all_right P xs ys all k d lt = subst P (get_or-append-add xs ys k d) (all (length xs + k) d (omega (arith, lt, length-append xs ys)))
 
 -- a tree holds alike for two values that agree at its leaves

@@ -147,10 +147,10 @@ place_from (Surd a plus k) s = tt
 pub tied_same : (x y : Pos) → IsSpelled x → IsSpelled y → place_cmp x y ≡ Equal → x ≡ y
 tied_same x y s t e = places_have_one_spelling x y s t ((places_are_compared x y (place_from x s) (place_from y t)).same.0 e)
 
-start_good : IsGood ray_start
+pub start_good : IsGood ray_start
 start_good = record { spelled = (omega arith, gcd_one 0); range = record { over = omega arith; positive = omega arith; under = omega arith } }
 
-end_good : IsGood ray_end
+pub end_good : IsGood ray_end
 end_good = record { spelled = (omega arith, gcd_one 1048576); range = record { over = omega arith; positive = omega arith; under = omega arith } }
 
 abbrev ends : Woven → List Pos

@@ -8,3 +8,4 @@ pub mod Filling
 pub mod Middles
 pub mod Claimed
 pub mod LawProofs
+pub mod Behind

@@ -19,9 +19,11 @@ intervals_between [] = []
 intervals_between (x ∷ []) = []
 intervals_between (x ∷ y ∷ ys) = record { start = x; end = y } ∷ intervals_between (y ∷ ys)
 
+-- the intervals between the cuts of what was woven
 abbrev pub intervals_of : List Woven → List Interval
 intervals_of woven = intervals_between (cuts_of woven)
 
+-- whether one place comes before another
 abbrev pub is_before : Pos → Pos → Bool
 is_before x y = is_lt (place_cmp x y)
 
@@ -37,5 +39,6 @@ spans woven interval instance = list_any (λ w. (w.instance == instance) && cove
 abbrev pub claims_interval : List Woven → Mask → ℕ → Interval → Bool
 claims_interval woven tree first interval = mask_holds tree (λ i. spans woven interval (first + i))
 
+-- which of the intervals a tree claims, in their order
 abbrev pub claims_of : List Woven → Mask → ℕ → List Bool
 claims_of woven tree first = map (claims_interval woven tree first) (intervals_of woven)

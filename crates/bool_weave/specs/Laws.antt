@@ -12,7 +12,7 @@ use Rattle.bool_weave.specs.Claims.{Interval, covers}
 abbrev pub CutsAreThere : Type 0
 CutsAreThere = (woven : List Woven) → IsWoven woven → AreCuts woven (cuts_of woven)
 
--- and there is no other list of them
+-- there is no other list of cuts than the computed one
 abbrev pub CutsAreAlone : Type 0
 CutsAreAlone = (woven : List Woven) (cuts : List Pos) → IsWoven woven → AreCuts woven cuts → cuts ≡ cuts_of woven
 
@@ -21,6 +21,7 @@ pub record HasRayEnds (cuts : List Pos) : Type 0 where
   pub first : (d : Pos) → slice_index_or cuts 0 d ≡ ray_start
   pub last : (d : Pos) → slice_index_or cuts (length cuts - 1) d ≡ ray_end
 
+-- so the cuts of each weave begin and end with the ray
 abbrev pub CutsAreWithinTheRay : Type 0
 CutsAreWithinTheRay = (woven : List Woven) → IsWoven woven → HasRayEnds (cuts_of woven)
 

@@ -3,4 +3,5 @@ pub mod Masks
 pub mod Claims
 pub mod Laws
 pub mod Tables
+pub mod Behind
 pub mod Examples

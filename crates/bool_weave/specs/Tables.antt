@@ -53,6 +53,7 @@ leaf_end node.U = 0
 leaf_end node.N = 0
 leaf_end node.Minus = 0
 
+-- each leaf's number is below a bound
 abbrev pub AreLeavesBelow : ℕ → List MaskNode → Type 0
 AreLeavesBelow bound nodes = All (λ n. leaf_end n ≤ bound) nodes
 

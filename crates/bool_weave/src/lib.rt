@@ -10,7 +10,7 @@ mod span;
 mod woven;
 
 pub use claim::{ClaimRow, claims};
-pub use laws::{claim_laws, cut_laws};
+pub use laws::{claim_laws, cut_laws, place_laws};
 pub use mask::{MaskNode, MaskTree};
 pub use place::place_in;
 pub use woven::{Weave, Woven};

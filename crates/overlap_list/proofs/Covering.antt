@@ -73,7 +73,7 @@ module _ (regions : List RegionClaims) (r : ℕ) where
       ]
 
   -- the run of the intervals about k that the region wins
-  run_about : (count k : ℕ) → k < count → wins k → winner_of regions count ≢ Some r → (run : IntervalRun) × IsWonRun regions run × (run.to ≤ count) × (run.from ≤ k) × (k < run.to)
+  pub run_about : (count k : ℕ) → k < count → wins k → winner_of regions count ≢ Some r → (run : IntervalRun) × IsWonRun regions run × (run.to ≤ count) × (run.from ≤ k) × (k < run.to)
   run_about count k lt e last =
       let b = begin_of k e in
       let t = end_of count (count - (k + 1)) (k + 1) (omega (arith, lt)) last in
@@ -93,7 +93,7 @@ module _ (regions : List RegionClaims) (r : ℕ) where
       )
 
 -- behind the last interval nobody wins
-nobody_past : (regions : List RegionClaims) (count r : ℕ) → All (λ x. length x.claims ≡ count) regions → winner_of regions count ≢ Some r
+pub nobody_past : (regions : List RegionClaims) (count r : ℕ) → All (λ x. length x.claims ≡ count) regions → winner_of regions count ≢ Some r
 nobody_past regions count r rows e =
     let nothing : RegionClaims = record { air = false; first = 0; count = 0; claims = [] } in
     let w : IsWinner regions count r = winner_is regions count r e in

@@ -61,7 +61,7 @@ same_from : (a b : Bool) → differ a b ≡ false → a ≡ b
 same_from a b h = elim (same_or_not a b) [ inl e ↦ e | inr ne ↦ absurd (true≢false (sym (differ_from a b ne) ∙ h)) ]
 
 -- the first that passes is the same by two tests that agree on all elements
-position_same : {X : Type 0} (f g : X → Bool) (n : ℕ) (xs : List X) → ((x : X) → Has xs x → f x ≡ g x) → position_from f n xs ≡ position_from g n xs
+pub position_same : {X : Type 0} (f g : X → Bool) (n : ℕ) (xs : List X) → ((x : X) → Has xs x → f x ≡ g x) → position_from f n xs ≡ position_from g n xs
 position_same f g n [] h = refl
 position_same f g n (x ∷ xs) h =
     ap (λ b. cond b (Some n) (position_from f (n + 1) xs)) (h x (inl refl)) ∙ ap (λ o. cond (g x) (Some n) o) (position_same f g (n + 1) xs (λ y m. h y (inr m)))

@@ -28,7 +28,7 @@ none_from t n (x ∷ xs) e (suc s) d lt =
       | inr failed ↦ none_from t (n + 1) xs (sym (cond-false (t x) (Some n) (position_from t (n + 1) xs) failed) ∙ e) s d (omega (arith, lt))
     ]
 
-none_pass : {X : Type 0} (t : X → Bool) (xs : List X) → position t xs ≡ None → (s : ℕ) (d : X) → s < length xs → t (get_or xs s d) ≡ false
+pub none_pass : {X : Type 0} (t : X → Bool) (xs : List X) → position t xs ≡ None → (s : ℕ) (d : X) → s < length xs → t (get_or xs s d) ≡ false
 none_pass t xs e = none_from t 0 xs (sym (position_from-zero t xs) ∙ e)
 
 without_fails : (r : RegionClaims) (k : ℕ) → (not r.air && claims_at r k) ≡ false → r.air ≡ false → claims_at r k ≡ true → ⊥

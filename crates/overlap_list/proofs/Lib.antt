@@ -10,3 +10,4 @@ pub mod Placing
 pub mod Covering
 pub mod Trees
 pub mod Hitting
+pub mod Firsts

@@ -40,7 +40,7 @@ pub record IsWonRun (regions : List RegionClaims) (run : IntervalRun) : Type 0 w
   pub begun : (k : ℕ) → k + 1 ≡ run.from → winner_of regions k ≢ winner_of regions run.from
   pub ended : winner_of regions run.to ≢ winner_of regions run.from
 
--- the runs of the partitions are these
+-- the runs of the partitions are the maximal runs of intervals that one region wins
 abbrev pub RunsAreMaximal : Type 0
 RunsAreMaximal = (regions : List RegionClaims) (count : ℕ) (run : IntervalRun) → Contains (won_runs regions count) run ↔ (IsWonRun regions run × (run.to ≤ count))
 
@@ -53,7 +53,7 @@ pub record AreInOrder (partitions : List Partition) : Type 0 where
   pub forward : All (λ p. Precedes p.start p.end) partitions
   pub apart : AllPairs LiesBefore partitions
 
--- so partitions are in order and disjoint
+-- partitions are in order and disjoint
 abbrev pub PartitionsAreInOrder : Type 0
 PartitionsAreInOrder = (woven : List Woven) (regions : List RegionClaims) → IsWoven woven → AreInOrder (partitions_of woven regions)
 
@@ -67,7 +67,7 @@ pub record IsPartOfRay (start end : Pos) : Type 0 where
   pub end_range : IsInRange end
   pub end_spelled : IsSpelled end
 
--- each partition is such a part
+-- each partition is a part of the ray, from a place to a later one
 abbrev pub PartitionsAreOnTheRay : Type 0
 PartitionsAreOnTheRay = (woven : List Woven) (regions : List RegionClaims) → IsWoven woven → All (λ p. IsPartOfRay p.start p.end) (partitions_of woven regions)
 
@@ -80,7 +80,7 @@ pub record IsWonPart (woven : List Woven) (regions : List RegionClaims) (p : Par
   pub end : p.end ≡ cut_at woven run.to
   pub won : (k : ℕ) → run.from ≤ k → k < run.to → IsWinner regions k p.region
 
--- so its region claims each of them, and nothing without air is hidden by air
+-- the region of a partition wins each of its intervals: it claims them, and nothing without air is hidden by air
 abbrev pub PartitionsAreWon : Type 0
 PartitionsAreWon = (woven : List Woven) (regions : List RegionClaims) → All (IsWonPart woven regions) (partitions_of woven regions)
 
@@ -142,7 +142,7 @@ pub record AreByPlace (count : ℕ) (runs : List OverlapRun) : Type 0 where
   pub pairs : All (λ r. (r.one < r.two) × (r.two < count)) runs
   pub rising : AllPairs HasLowerPlaces runs
 
--- so overlaps are in the order of their pairs
+-- overlaps are in the order of their pairs
 abbrev pub OverlapsAreInOrder : Type 0
 OverlapsAreInOrder = (woven : List Woven) (regions : List RegionClaims) → AreByPlace (length regions) (overlaps_of woven regions)
 
@@ -159,12 +159,12 @@ pub record IsFirstOverlap (woven : List Woven) (regions : List RegionClaims) (o 
   pub first : (k : ℕ) → k < run.from → do_overlap_at regions (record { one = o.one; two = o.two }) k ≡ false
   pub ended : do_overlap_at regions (record { one = o.one; two = o.two }) run.to ≡ false
 
--- the overlaps are exactly these
+-- the overlaps are exactly the first runs of intervals that both regions of a pair claim
 abbrev pub OverlapsAreFirst : Type 0
 OverlapsAreFirst = (woven : List Woven) (regions : List RegionClaims) → All (λ r. length r.claims ≡ length (intervals_of woven)) regions
     → (o : OverlapRun) → Contains (overlaps_of woven regions) o ↔ IsFirstOverlap woven regions o
 
--- and each lies on the ray
+-- each overlap lies on the ray
 abbrev pub OverlapsAreOnTheRay : Type 0
 OverlapsAreOnTheRay = (woven : List Woven) (regions : List RegionClaims) → IsWoven woven → All (λ r. length r.claims ≡ length (intervals_of woven)) regions
     → All (λ o. IsPartOfRay o.start o.end) (overlaps_of woven regions)

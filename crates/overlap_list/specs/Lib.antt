@@ -5,4 +5,5 @@ pub mod Partitions
 pub mod Overlaps
 pub mod Steps
 pub mod Laws
+pub mod Firsts
 pub mod Examples

@@ -50,5 +50,6 @@ abbrev pub IsTooMany : ℕ → CheckFault → Type 0
 IsTooMany count TooMany = MOST_PAIRS < count
 IsTooMany count Memory = Unit {0}
 
+-- there are too many overlaps of these regions, or there was no memory
 abbrev pub IsCheckFault : List Woven → List RegionClaims → CheckFault → Type 0
 IsCheckFault woven regions fault = IsTooMany (length (overlaps_of woven regions)) fault

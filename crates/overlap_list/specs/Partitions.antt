@@ -39,5 +39,6 @@ partition_of woven regions run = record {
   hit = or_no_hit (hit_of woven regions run.from);
 }
 
+-- the partitions of a ray: the maximal runs of intervals with one winner, in order
 abbrev pub partitions_of : List Woven → List RegionClaims → List Partition
 partitions_of woven regions = map (partition_of woven regions) (won_runs regions (length (intervals_of woven)))

@@ -1,4 +1,5 @@
 ghost use Rattle.overlap_list.specs.Laws.{WinnersAreRight, RunsAreMaximal, PartitionsAreInOrder, PartitionsAreOnTheRay, PartitionsAreWon, ClaimsArePartitioned, HitsAreThere, OverlapsAreInOrder, OverlapsAreFirst, OverlapsAreOnTheRay};
+ghost use Rattle.overlap_list.specs.Firsts.{FirstStartsAtFirstPlace, NoneWithoutPlace};
 
 /// Laws of winners, of partitions and of their hits. The function does nothing: its contract is the laws.
 pub fn partition_laws()
@@ -16,4 +17,10 @@ pub fn overlap_laws()
     ensures order { OverlapsAreInOrder }
     ensures first { OverlapsAreFirst }
     ensures places { OverlapsAreOnTheRay }
+{}
+
+/// Laws of the first partition whose region has no air. The function does nothing: its contract is the laws.
+pub fn first_laws()
+    ensures first { FirstStartsAtFirstPlace }
+    ensures none { NoneWithoutPlace }
 {}

@@ -24,6 +24,7 @@ crossing_by Less plane ray = Enters (start_on plane ray -ℤ plane.d) (pos 0 -�
 crossing_by Equal plane ray = cond (holds_along plane.n (plane.d -ℤ start_on plane ray)) Holds Misses
 crossing_by Greater plane ray = Leaves (plane.d -ℤ start_on plane ray) (slope_on plane ray)
 
+-- what a plane does to a ray: the ray enters it, leaves it, is held by it, or misses it
 abbrev pub crossing_of : Plane → Ray → Crossing
 crossing_of plane ray = crossing_by (int_cmp (slope_on plane ray) (pos 0)) plane ray
 

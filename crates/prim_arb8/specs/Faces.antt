@@ -84,6 +84,7 @@ pub record Case : Type 0 where
 abbrev pub case_of : Bool → ShapeFault → Case
 case_of holds fault = record { holds = holds; fault = fault }
 
+-- the first fault of the cases that hold, in their order
 abbrev pub first_fault : List Case → Option ShapeFault
 first_fault [] = None
 first_fault (c ∷ rest) = cond c.holds (Some c.fault) (first_fault rest)

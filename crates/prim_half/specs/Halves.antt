@@ -10,6 +10,7 @@ use Rattle.lattice_core.specs.Limits.{IsAtMost, IsWithin}
 use Rattle.lattice_core.specs.Vectors.{zero_vector}
 use Rattle.plane_geom.specs.declared.plane.Plane.{Plane}
 
+-- a half-space as contracts see it: its normal and its distance
 pub record HalfSpace : Type 0 where
   pub normal : V3
   pub distance : ℤ

@@ -17,12 +17,12 @@ use Rattle.scene_prep.specs.Sizes.{size_of_name, names_size, object_size}
 abbrev pub TreesAreWhole : Type 0
 TreesAreWhole = (directory : Entries) → IsSound directory → (name : Name) → expanded directory name ≡ expanded_object (expanded directory) (object_of directory name)
 
--- and so are its regions
+-- a name's regions are made of those of its members: the number of levels cuts nothing off
 abbrev pub RegionsAreWhole : Type 0
 RegionsAreWhole = (directory : Entries) → IsSound directory → (name : Name)
     → regions_of_name directory name ≡ regions_of_object (expanded directory) (regions_of_name directory) name (object_of directory name)
 
--- and its size
+-- a name's size is made of those of its members: the number of levels cuts nothing off
 abbrev pub SizesAreWhole : Type 0
 SizesAreWhole = (directory : Entries) → IsSound directory → (name : Name)
     → size_of_name directory name ≡ object_size (size_of_name directory) (object_of directory name)
@@ -53,7 +53,7 @@ NumbersFollow = (first : ℕ) (tree : Expanded) → filter_map (λ leaf. leaf) (
 abbrev pub DoesAll : Placement → List Placement → Type 0
 DoesAll by placements = (p : V3) → placed by p ≡ point_under placements p
 
--- the solid then stands where that one placement takes it
+-- a solid below several placements stands where the one placement takes it that they compose to
 abbrev pub PlacementsAreOne : Type 0
 PlacementsAreOne = (one : PlacedSolid) (by : Placement) → DoesAll by one.placements
     → ((in_world one).surface ≡ surface_of one.solid by) × ((in_world one).bounds ≡ bounds_of one.solid by)

@@ -11,3 +11,11 @@ pub mod PickingOverlaps
 pub mod Shooting
 pub mod ResultLaws
 pub mod Placing
+pub mod FirstShots
+pub mod NearSides
+pub mod OnRay
+pub mod InBoxes
+pub mod Missing
+pub mod FirstSearch
+pub mod Fronting
+pub mod Owning

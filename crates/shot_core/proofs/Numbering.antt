@@ -25,7 +25,7 @@ pub firsts_length : (n : ℕ) (rs : List Region) → length (firsts_from n rs) �
 firsts_length n [] = refl
 firsts_length n (r ∷ rs) = ap (λ k. suc k) (firsts_length (n + length r.body.instances) rs)
 
-firsts_least : (n : ℕ) (rs : List Region) (i d : ℕ) → i < length rs → n ≤ get_or (firsts_from n rs) i d
+pub firsts_least : (n : ℕ) (rs : List Region) (i d : ℕ) → i < length rs → n ≤ get_or (firsts_from n rs) i d
 firsts_least n [] i d lt = absurd (omega (arith, lt))
 firsts_least n (r ∷ rs) zero d lt = omega arith
 firsts_least n (r ∷ rs) (suc i) d lt = omega (arith, firsts_least (n + length r.body.instances) rs i d (omega (arith, lt)))

@@ -18,6 +18,7 @@ use Rattle.shot_core.specs.Shots.{woven_of, claims_on}
 abbrev pub part_of : Lit → Partition
 part_of lit = record { region = lit.region; start = lit.start; end = lit.end; hit = lit.hit }
 
+-- the partitions without their levels
 abbrev pub parts_of : List Lit → List Partition
 parts_of lit = map part_of lit
 

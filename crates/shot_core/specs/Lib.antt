@@ -2,7 +2,11 @@ pub mod Regions
 pub mod TreeBoxes
 pub mod MetBoxes
 pub mod Shots
+pub mod FirstShots
+pub mod FirstSteps
 pub mod Laws
 pub mod Prepared
 pub mod Steps
+pub mod SegmentLaws
+pub mod RegionBoxes
 pub mod Examples

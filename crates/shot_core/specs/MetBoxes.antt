@@ -21,7 +21,7 @@ meets_ray (Span xlo xhi ylo yhi zlo zhi) ray =
     comes_between xlo xhi ray.origin.x (unit_of ray.dir).x
     && (comes_between ylo yhi ray.origin.y (unit_of ray.dir).y && comes_between zlo zhi ray.origin.z (unit_of ray.dir).z)
 
--- it says whether some point of the ray lies in the box
+-- the computation says whether some point of the ray lies in the box
 abbrev pub TellsWhetherMet : Type 0
 TellsWhetherMet = (b : Box3) (ray : Ray) → IsTrue (meets_ray b ray) ↔ MeetsRay b ray
 

@@ -13,9 +13,11 @@ use Rattle.bool_weave.specs.Masks.{Mask, mask_code}
 use Rattle.shot_core.specs.Regions.{Instance, RegionBody, Region, HasLeavesBelow, HaveInstances, HavePlacedSolids, IsScene, firsts_from}
 use Rattle.shot_core.specs.TreeBoxes.{tree_box}
 
+-- an instance as contracts see it: the surface of a placed solid and its box
 abbrev pub instance_of : Placed → Instance
 instance_of placed = record { surface = placed.surface; bounds = placed.bounds }
 
+-- the boxes of instances, in their order
 abbrev pub boxes_of : List Instance → List Box3
 boxes_of instances = map (λ i. i.bounds) instances
 

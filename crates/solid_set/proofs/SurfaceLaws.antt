@@ -156,6 +156,25 @@ segment_sound surface ray seg is range =
     missed_sound (is_missed surface ray) (entering surface ray) (leaving surface ray) seg
     (ends_of (entering surface ray) (leaving surface ray) (enter_places surface ray) (leave_places surface ray)) is range
 
+-- the ends of a segment are in their one spelling, in range or not
+spelled_by : (es ls : List Crossed) (seg : Seg) → AreEnds es ls (start_of es) (end_of ls) → (b : Bool)
+    → cond b (Some (let found : Seg = record { start = spelled (start_of es); start_face = face_at (start_of es) es; end = spelled (end_of ls); end_face = face_at (end_of ls) ls } in found)) None ≡ Some seg
+    → IsSpelled seg.start × IsSpelled seg.end
+spelled_by es ls seg ends true is =
+    let found : Seg = record { start = spelled (start_of es); start_face = face_at (start_of es) es; end = spelled (end_of ls); end_face = face_at (end_of ls) ls } in
+    let same : found ≡ seg = cc in
+    subst (λ (s : Seg). IsSpelled s.start × IsSpelled s.end) same (is_one_spelling.spelling (start_of es) ends.start_place, is_one_spelling.spelling (end_of ls) ends.end_place)
+spelled_by es ls seg ends false is = absurd (none_some seg is)
+
+missed_spelled : (b : Bool) (es ls : List Crossed) (seg : Seg) → AreEnds es ls (start_of es) (end_of ls) → cond b None (segment_between es ls) ≡ Some seg → IsSpelled seg.start × IsSpelled seg.end
+missed_spelled true es ls seg ends is = absurd (none_some seg is)
+missed_spelled false es ls seg ends is = spelled_by es ls seg ends (is_lt (place_cmp (start_of es) (end_of ls))) is
+
+pub segment_spelled : (surface : Surface) (ray : Ray) (seg : Seg) → segment_of surface ray ≡ Some seg → IsSpelled seg.start × IsSpelled seg.end
+segment_spelled surface ray seg is =
+    missed_spelled (is_missed surface ray) (entering surface ray) (leaving surface ray) seg
+    (ends_of (entering surface ray) (leaving surface ray) (enter_places surface ray) (leave_places surface ray)) is
+
 -- the span of a chord is the segment of the ball
 pub ball_finished : (c : V3) (r : ℤ) (ray : Ray) (chord : Chord) → chord_at c r ray ≡ Some chord → IsSpanInRange (ball_span chord) → finished_span (ball_span chord) ≡ segment_of (Ball c r) ray
 ball_finished c r ray chord is range =

@@ -27,6 +27,7 @@ abbrev pub HoldsAtMostOne : Surface → Ray → Type 0
 HoldsAtMostOne surface ray =
     (p q p' q' : ℤ) → IsOnRay p q → IsOnRay p' q' → IsInside surface ray p q → IsInside surface ray p' q' → SamePlace (Frac p q) (Frac p' q')
 
+-- what an answered segment tells of the fractions that are inside: all between its ends and none outside, or without one at most a single fraction
 abbrev pub TellsInside : Surface → Ray → Option Seg → Type 0
 TellsInside surface ray None = HoldsAtMostOne surface ray
 TellsInside surface ray (Some seg) = Encloses surface ray seg

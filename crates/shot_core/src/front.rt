@@ -1,0 +1,96 @@
+ghost use Rattle.std.specs.Prelude.{◌≡◌, ◌<◌, ◌++◌, All, IfOk, length};
+ghost use Rattle.std.specs.Option.{ForSome};
+ghost use Rattle.lattice_core.specs.declared.limit.TheConstants.{WORLD};
+ghost use Rattle.lattice_core.specs.Limits.{IsWithin};
+ghost use Rattle.surd_order.specs.Range.{IsInRange};
+ghost use Rattle.bool_weave.specs.Cuts.{IsSegment};
+ghost use Rattle.shot_core.specs.FirstSteps.{better_of, own_no, IsTaken, IsFront};
+
+use crate::beside::Marks;
+use crate::own::{add_segments, first_start};
+use crate::scene::Scene;
+use bool_weave::Woven;
+use lattice_core::Ray;
+use memory_core::Memory;
+use std::cmp::Ordering;
+use surd_order::Pos;
+
+/// Where a region without air claims first.
+#[derive(Clone, Copy, Debug)]
+pub(crate) struct Front {
+    pub(crate) start: Pos,
+    pub(crate) region: u32,
+}
+
+/// The earlier one, and of two at one place the one of the lower number.
+fn better(best: Option<Front>, start: Option<Pos>, region: u32) -> Option<Front>
+    requires best { ForSome best (λ b. IsInRange b.start) }
+    requires start { ForSome start IsInRange }
+    ensures { result ≡ better_of best start region }
+{
+    let Some(start) = start else {
+        return best;
+    };
+    let Some(so_far) = best else {
+        return Some(Front { start, region });
+    };
+    match start.cmp(&so_far.start) {
+        Ordering::Less => Some(Front { start, region }),
+        Ordering::Equal => {
+            if region < so_far.region {
+                Some(Front { start, region })
+            } else {
+                best
+            }
+        }
+        Ordering::Greater => best,
+    }
+}
+
+/// The best with one more region, whose segments are added to those of the others.
+fn take_region(
+    segments: &mut Vec<Woven>,
+    marks: &mut Marks,
+    best: Option<Front>,
+    scene: &Scene,
+    ray: &Ray,
+    number: u32,
+) -> Result<Option<Front>, Memory>
+    requires sound { All (λ w. IsSegment w.seg) segments.old.items }
+    requires best { ForSome best (λ b. IsInRange b.start) }
+    requires number { number < length scene.now }
+    requires origin { IsWithin WORLD ray.now.origin }
+    ensures taken { IfOk result (IsTaken scene.now ray.now number best) }
+    ensures segments { IfOk result (λ _. segments.new.items ≡ segments.old.items ++ own_no scene.now ray.now number) }
+    ensures sound { IfOk result (λ _. All (λ w. IsSegment w.seg) segments.new.items) }
+{
+    let from = segments.len();
+    let first = scene.first(number);
+    let body = scene.regions()[number as usize].body();
+    add_segments(segments, first, body.solids(), ray)?;
+    if body.air() != 0 {
+        return Ok(best);
+    }
+    let start = first_start(marks, &segments[from..], first, body)?;
+    Ok(better(best, start, number))
+}
+
+/// Where the regions of these numbers, in whatever order, claim first without air.
+pub(crate) fn front_of(
+    segments: &mut Vec<Woven>,
+    marks: &mut Marks,
+    scene: &Scene,
+    ray: &Ray,
+    order: &[u32],
+) -> Result<Option<Front>, Memory>
+    requires order { All (λ n. n < length scene.now) order.now }
+    requires origin { IsWithin WORLD ray.now.origin }
+    ensures front { IfOk result (IsFront scene.now ray.now order.now (length order.now)) }
+{
+    segments.clear();
+    let mut best = None;
+    for i in 0..order.len() {
+        best = take_region(segments, marks, best, scene, ray, order[i])?;
+    }
+    Ok(best)
+}

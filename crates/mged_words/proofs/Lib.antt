@@ -6,9 +6,8 @@ pub mod PlaceLaws
 pub mod LineLaws
 pub mod ScriptLaws
 pub mod TextLaws
-pub mod MemberLaws
 pub mod PutLaws
 pub mod PlainLaws
-pub mod WrittenLaws
 pub mod OrderLaws
 pub mod OneLineLaws
+pub mod NumberLines

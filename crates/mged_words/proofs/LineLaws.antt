@@ -14,18 +14,18 @@ use Rattle.command_set.specs.declared.command.Command.{Command}
 use Rattle.command_set.specs.declared.refusal.Refusal.{Refusal}
 use Rattle.word_values.specs.Solids.{number_count}
 use Rattle.word_values.specs.Atoms.{solid_number, view_number}
-use Rattle.mged_words.specs.Commands.{unless_refused, kind_command, solid_command, number_fault, in_command, nirt_command, shot_command, direction_of}
+use Rattle.mged_words.specs.Commands.{unless_refused, kind_command, solid_command, numbers_fault, in_command, nirt_command, shot_command, direction_of}
 use Rattle.command_set.specs.declared.command.Command.TheVariants.{Bad}
 use Rattle.command_set.specs.declared.refusal.Refusal.TheVariants.{Syntax}
 
 -- one number more
 pub next_fault : (f : List ℕ → Option ℤ) (atoms : List (Bor (List ℕ))) (word i : ℕ) (d : Bor (List ℕ)) (n : ℤ) → i < length atoms → Some n ≡ f (get_or atoms i d).now
-    → number_fault (word + (i + 1)) (map f (map (λ (a : Bor (List ℕ)). a.now) (drop (i + 1) atoms))) ≡ number_fault (word + i) (map f (map (λ (a : Bor (List ℕ)). a.now) (drop i atoms)))
+    → numbers_fault (word + (i + 1)) 1 (map f (map (λ (a : Bor (List ℕ)). a.now) (drop (i + 1) atoms))) ≡ numbers_fault (word + i) 1 (map f (map (λ (a : Bor (List ℕ)). a.now) (drop i atoms)))
 next_fault f atoms word i d n lt is =
     let rest : List (Option ℤ) = map f (map (λ (a : Bor (List ℕ)). a.now) (drop (i + 1) atoms)) in
     let sum : word + (i + 1) ≡ (word + i) + 1 = omega arith in
-    ap (λ w. number_fault w rest) sum ∙ ap (λ o. number_fault (word + i) (o ∷ rest)) is
-    ∙ sym (ap (λ (xs : List (Bor (List ℕ))). number_fault (word + i) (map f (map (λ (a : Bor (List ℕ)). a.now) xs))) (drop_more atoms i d lt))
+    ap (λ w. numbers_fault w 1 rest) sum ∙ ap (λ o. numbers_fault (word + i) 1 (o ∷ rest)) is
+    ∙ sym (ap (λ (xs : List (Bor (List ℕ))). numbers_fault (word + i) 1 (map f (map (λ (a : Bor (List ℕ)). a.now) xs))) (drop_more atoms i d lt))
 
 pub next_read : (f : List ℕ → Option ℤ) (atoms : List (Bor (List ℕ))) (out : List ℤ) (i : ℕ) (d : Bor (List ℕ)) (n : ℤ) → i < length atoms → length out ≡ length atoms → Some n ≡ f (get_or atoms i d).now
     → map f (map (λ (a : Bor (List ℕ)). a.now) (take i atoms)) ≡ map (λ (m : ℤ). Some m) (take i out)

@@ -1,16 +1,12 @@
 -- A line of words that are parted by single blanks has these words, and so each command of names alone has a line.
-use Rattle.std.proofs.Common.{All, ◌≡◌, ◌+◌, ◌-◌, ◌==◌, ◌∙◌, ◌++◌, ℕ, zero, suc, Bool, true, false, not, cond, List, [], ◌∷◌, length, take, drop, map, flat_map, get_or, codes, Option, Some, None, Ok, arith, refl, ap, sym, subst, get_or-drop, drop-drop}
+use Rattle.std.proofs.Common.{◌≡◌, ◌+◌, ◌-◌, ◌==◌, ◌∙◌, ◌++◌, ℕ, zero, suc, Bool, true, false, not, cond, List, [], ◌∷◌, length, take, drop, map, flat_map, get_or, codes, Option, Some, None, Ok, arith, refl, ap, sym, subst, get_or-drop, drop-drop}
 use Rattle.std.specs.Prelude.{count_by, filter_map}
 use Rattle.std.specs.List.{AllByRecursion, cons_option, prefix_len, range_with_len, slice_range}
 use Rattle.std.specs.Option.{option_map}
 use Rattle.std.proofs.lemmas.Bool.{eq-eqb}
-use Rattle.std.proofs.lemmas.Bool.Decides.{nat_tests}
-use Rattle.std.proofs.lemmas.List.Elements.{All-head, All-tail}
 use Rattle.std.proofs.lemmas.List.Sums.{sum_by-cons}
-use Rattle.name_core.specs.NameText.{IsName, is_first_byte, is_next_byte}
+use Rattle.name_core.specs.NameText.{IsName}
 use Rattle.name_core.proofs.NameLaws.{accepted}
-use Rattle.tcl_words.specs.Bytes.{is_atom}
-use Rattle.tcl_words.specs.Faults.{is_bad_at}
 use Rattle.tcl_words.specs.Pieces.{pieces, written_after}
 use Rattle.tcl_words.specs.Reading.{reading, words_of}
 use Rattle.tcl_words.specs.Tokens.{token, tokens_of}
@@ -20,7 +16,7 @@ use Rattle.tcl_words.specs.declared.token.Token.{Token}
 use Rattle.tcl_words.specs.declared.token.Word.{Word}
 use Rattle.tcl_words.proofs.Fine.{fine_words}
 use Rattle.tcl_words.proofs.Scan.{Piece, scanned}
-use Rattle.tcl_words.proofs.Written.{Again, AtomBytes, Good, GoodPiece, read_again}
+use Rattle.tcl_words.proofs.Written.{Again, Good, GoodPiece, read_again}
 use Rattle.tree_forms.specs.declared.Op.{Op}
 use Rattle.tree_forms.specs.declared.Op.TheVariants.{U, N, Minus}
 use Rattle.comb_tree.specs.Changes.{names_of}
@@ -32,35 +28,20 @@ use Rattle.command_set.specs.declared.command.Edit.TheVariants.{Region, Group, R
 use Rattle.command_set.specs.declared.command.Query.TheVariants.{List as Lines, Names, Tree, Save}
 use Rattle.command_set.specs.declared.refusal.Refusal.{Refusal}
 use Rattle.command_set.specs.declared.refusal.Refusal.TheVariants.{Name}
+use Rattle.put_form.proofs.NameWords.{name_word, word_good}
 use Rattle.mged_words.specs.Commands.{unless_refused, name_fault, names_fault, operator_of, entry_of, entry_before, entries_of, region_command, atom_command, with_atoms, named_command, worded_command, command_of_words, command_read, command_of}
 use Rattle.mged_words.specs.OneLine.{AreNames, line_of, operator_word, Member, AreMembers, member_words, new_entry}
 
 -- ---- names and operators are atoms
 
-byte_atom : (b : ℕ) → is_next_byte b ≡ true → is_atom b ≡ true
-byte_atom b is = grind (arith, nat_tests)
-
-byte_good : (b : ℕ) → is_next_byte b ≡ true → is_bad_at b 0 ≡ false
-byte_good b is = grind (arith, nat_tests)
-
-first_next : (b : ℕ) → is_first_byte b ≡ true → is_next_byte b ≡ true
-first_next b is = cc
-
-bytes_good : (bs : List ℕ) → All (λ b. is_next_byte b ≡ true) bs → AtomBytes 0 bs
-bytes_good [] all = tt
-bytes_good (b ∷ bs) all =
-    let here : is_next_byte b ≡ true = All-head (λ x. is_next_byte x ≡ true) b bs all in
-    (byte_atom b here, byte_good b here, bytes_good bs (All-tail (λ x. is_next_byte x ≡ true) b bs all))
-
 -- a word that is an atom
-abbrev IsAtomWord : List ℕ → Type 0
+abbrev pub IsAtomWord : List ℕ → Type 0
 IsAtomWord word = GoodPiece Atom word 0
 
-name_good : (name : List ℕ) → IsName name → IsAtomWord name
-name_good [] is = absurd (omega (arith, is.some))
-name_good (b ∷ bs) is = let here : is_next_byte b ≡ true = first_next b is.first in (omega arith, (byte_atom b here, byte_good b here, bytes_good bs is.rest))
+pub name_good : (name : List ℕ) → IsName name → IsAtomWord name
+name_good name is = word_good name 0 (name_word name is)
 
-names_good : (names : List (List ℕ)) → AreNames names → AllByRecursion IsAtomWord names
+pub names_good : (names : List (List ℕ)) → AreNames names → AllByRecursion IsAtomWord names
 names_good [] are = tt
 names_good (name ∷ names) are = (name_good name are.0, names_good names are.1)
 
@@ -75,7 +56,7 @@ members_good (m ∷ members) are = (operator_good m.0, (name_good m.1 are.0, mem
 
 -- ---- such a line is read
 
-abbrev atoms : List (List ℕ) → List Piece
+abbrev pub atoms : List (List ℕ) → List Piece
 atoms words = map (λ (w : List ℕ). (Atom, w)) words
 
 all_good : (words : List (List ℕ)) → AllByRecursion IsAtomWord words → Good 0 (atoms words)
@@ -86,15 +67,15 @@ behind_is : (words : List (List ℕ)) → flat_map (λ (other : List ℕ). 32 �
 behind_is [] = refl
 behind_is (w ∷ words) = ap (λ (xs : List ℕ). 32 ∷ (w ++ xs)) (behind_is words)
 
-line_is : (word : List ℕ) (others : List (List ℕ)) → line_of word others ≡ written_after Open (atoms (word ∷ others))
+pub line_is : (word : List ℕ) (others : List (List ℕ)) → line_of word others ≡ written_after Open (atoms (word ∷ others))
 line_is word others = ap (λ (xs : List ℕ). word ++ xs) (behind_is others)
 
-record HasAtoms (line : List ℕ) (words : List (List ℕ)) : Type 0 where
-  tokens : List Token
-  read : words_of line ≡ Ok tokens
-  are : pieces line tokens ≡ atoms words
+pub record HasAtoms (line : List ℕ) (words : List (List ℕ)) : Type 0 where
+  pub tokens : List Token
+  pub read : words_of line ≡ Ok tokens
+  pub are : pieces line tokens ≡ atoms words
 
-line_read : (line : List ℕ) (words : List (List ℕ)) → line ≡ written_after Open (atoms words) → AllByRecursion IsAtomWord words → HasAtoms line words
+pub line_read : (line : List ℕ) (words : List (List ℕ)) → line ≡ written_after Open (atoms words) → AllByRecursion IsAtomWord words → HasAtoms line words
 line_read line words is good =
     let again : Again 32 0 line (atoms words) = subst (λ (text : List ℕ). Again 32 0 text (atoms words)) (sym is) (read_again Open 32 0 (atoms words) (refl, refl) (all_good words good)) in
     record { tokens = tokens_of line; read = ap (λ f. reading f (tokens_of line)) (fine_words line again.0); are = scanned line ∙ again.1 }
@@ -107,10 +88,10 @@ no_piece = (Open, [])
 kind_here : (line : List ℕ) (t : Token) (ts : List Token) (w : List ℕ) (words : List (List ℕ)) → pieces line (t ∷ ts) ≡ atoms (w ∷ words) → t.kind ≡ Atom
 kind_here line t ts w words are = ap (λ (ps : List Piece). (get_or ps 0 no_piece).0) are
 
-text_here : (line : List ℕ) (t : Token) (ts : List Token) (w : List ℕ) (words : List (List ℕ)) → pieces line (t ∷ ts) ≡ atoms (w ∷ words) → slice_range line t.start t.end ≡ w
+pub text_here : (line : List ℕ) (t : Token) (ts : List Token) (w : List ℕ) (words : List (List ℕ)) → pieces line (t ∷ ts) ≡ atoms (w ∷ words) → slice_range line t.start t.end ≡ w
 text_here line t ts w words are = ap (λ (ps : List Piece). (get_or ps 0 no_piece).1) are
 
-rest_here : (line : List ℕ) (t : Token) (ts : List Token) (w : List ℕ) (words : List (List ℕ)) → pieces line (t ∷ ts) ≡ atoms (w ∷ words) → pieces line ts ≡ atoms words
+pub rest_here : (line : List ℕ) (t : Token) (ts : List Token) (w : List ℕ) (words : List (List ℕ)) → pieces line (t ∷ ts) ≡ atoms (w ∷ words) → pieces line ts ≡ atoms words
 rest_here line t ts w words are = ap (λ (ps : List Piece). drop 1 ps) are
 
 none_open : (line : List ℕ) (ts : List Token) (words : List (List ℕ)) (i : ℕ) → pieces line ts ≡ atoms words → count_by opens (take i ts) ≡ 0
@@ -129,10 +110,10 @@ no_longer : (p : ℕ → Bool) (xs : List ℕ) → ((x : ℕ) → p x ≡ false)
 no_longer p [] h = refl
 no_longer p (x ∷ xs) h = ap (λ (b : Bool). cond b (1 + prefix_len p xs) 0) (h x)
 
-abbrev one_word : ℕ → Word
+abbrev pub one_word : ℕ → Word
 one_word i = record { first = i; last = i }
 
-word_here : (line : List ℕ) (ts : List Token) (words : List (List ℕ)) (i : ℕ) → pieces line ts ≡ atoms words → word_at ts i ≡ Some (one_word i)
+pub word_here : (line : List ℕ) (ts : List Token) (words : List (List ℕ)) (i : ℕ) → pieces line ts ≡ atoms words → word_at ts i ≡ Some (one_word i)
 word_here line ts words i are =
     let last : word_last ts i ≡ i = ap (λ (n : ℕ). i + n) (no_longer (λ j. not (level ts (j + 1) == 0)) (range_with_len i (length ts - i)) (λ j. ap (λ (n : ℕ). not (n == 0)) (level_none line ts words (j + 1) are))) ∙ (let e : i + 0 ≡ i = omega arith in e) in
     ap (λ (n : ℕ). cond (n == 0) (Some (record { first = i; last = word_last ts i })) None) (level_none line ts words i are) ∙ ap (λ (n : ℕ). Some (record { first = i; last = n })) last
@@ -146,7 +127,7 @@ atom_here line ts i t rest is =
     ap (λ (b : Bool). option_map (λ (u : Token). slice_range line u.start u.end) (cond b (Some (nth ts i)) (cond (i == i + 2) (Some (nth ts (i + 1))) None))) same
     ∙ ap (λ (u : Token). Some (slice_range line u.start u.end)) (token_here ts i t rest is)
 
-atoms_from : (line : List ℕ) (all ts : List Token) (every words : List (List ℕ)) (i : ℕ) → pieces line all ≡ atoms every → drop i all ≡ ts → pieces line ts ≡ atoms words
+pub atoms_from : (line : List ℕ) (all ts : List Token) (every words : List (List ℕ)) (i : ℕ) → pieces line all ≡ atoms every → drop i all ≡ ts → pieces line ts ≡ atoms words
     → map (atom_of line all) (filter_map (word_at all) (range_with_len i (length ts))) ≡ map (λ (w : List ℕ). Some w) words
 atoms_from line all [] every [] i whole is are = refl
 atoms_from line all [] every (w ∷ words) i whole is are = absurd cc
@@ -158,7 +139,7 @@ atoms_from line all (t ∷ ts) every (w ∷ words) i whole is are =
     ∙ ap (λ (o : Option (List ℕ)). o ∷ map (atom_of line all) others) (atom_here line all i t ts is ∙ ap (λ (x : List ℕ). Some x) (text_here line t ts w words are))
     ∙ ap (λ (os : List (Option (List ℕ))). Some w ∷ os) (atoms_from line all ts every words (i + 1) whole next (rest_here line t ts w words are))
 
-all_there : (words : List (List ℕ)) → all_atoms (map (λ (w : List ℕ). Some w) words) ≡ Some words
+pub all_there : (words : List (List ℕ)) → all_atoms (map (λ (w : List ℕ). Some w) words) ≡ Some words
 all_there [] = refl
 all_there (w ∷ words) = ap (option_map (λ (others : List (List ℕ)). w ∷ others)) (all_there words)
 
@@ -177,7 +158,7 @@ by_words line tokens (w ∷ ws) word others plain are =
     ∙ ap (λ (os : List (Option (List ℕ))). with_atoms (atom_command word) (all_atoms os)) rest
     ∙ ap (with_atoms (atom_command word)) (all_there others)
 
-line_command : (word : List ℕ) (others : List (List ℕ)) → IsPlainWord word → IsAtomWord word → AllByRecursion IsAtomWord others → command_of (line_of word others) ≡ atom_command word others
+pub line_command : (word : List ℕ) (others : List (List ℕ)) → IsPlainWord word → IsAtomWord word → AllByRecursion IsAtomWord others → command_of (line_of word others) ≡ atom_command word others
 line_command word others plain first good =
     let line : List ℕ = line_of word others in
     let had : HasAtoms line (word ∷ others) = line_read line (word ∷ others) (line_is word others) (first, good) in
@@ -186,12 +167,12 @@ line_command word others plain first good =
 
 -- ---- names that are names are not refused
 
-fine_names : (word step : ℕ) (names : List (List ℕ)) → AreNames names → names_fault word step names ≡ None
+pub fine_names : (word step : ℕ) (names : List (List ℕ)) → AreNames names → names_fault word step names ≡ None
 fine_names word step [] are = refl
 fine_names word step (name ∷ names) are =
     ap (λ (t : Bool). cond t (names_fault (word + step) step names) (Some (Name word))) ((accepted name).1 are.0) ∙ fine_names (word + step) step names are.1
 
-unless_none : (fault : Option Refusal) (command : Command) → fault ≡ None → unless_refused (fault ∷ []) command ≡ command
+pub unless_none : (fault : Option Refusal) (command : Command) → fault ≡ None → unless_refused (fault ∷ []) command ≡ command
 unless_none fault command h = ap (λ (o : Option Refusal). unless_refused (o ∷ []) command) h
 
 pub kill_line : (name : List ℕ) (names : List (List ℕ)) → AreNames (name ∷ names) → command_of (line_of (codes "kill") (name ∷ names)) ≡ Edit (Kill (name ∷ names))
@@ -252,7 +233,7 @@ fine_members word [] are = refl
 fine_members word (m ∷ members) are =
     ap (λ (t : Bool). cond t (names_fault (word + 2) 2 (names_of (map new_entry members))) (Some (Name word))) ((accepted m.1).1 are.0) ∙ fine_members (word + 2) members are.1
 
-unless_both : (one two : Option Refusal) (command : Command) → one ≡ None → two ≡ None → unless_refused (one ∷ two ∷ []) command ≡ command
+pub unless_both : (one two : Option Refusal) (command : Command) → one ≡ None → two ≡ None → unless_refused (one ∷ two ∷ []) command ≡ command
 unless_both one two command h k = ap (λ (o : Option Refusal). unless_refused (o ∷ two ∷ []) command) h ∙ unless_none two command k
 
 pub r_line : (name : List ℕ) (m : Member) (members : List Member) → IsName name → AreMembers (m ∷ members) → command_of (line_of (codes "r") (name ∷ member_words (m ∷ members))) ≡ Edit (Region name (map new_entry (m ∷ members)))

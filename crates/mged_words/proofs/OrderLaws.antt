@@ -1,7 +1,10 @@
--- A line is told of its first word that is to be a name and is none.
-use Rattle.std.proofs.Common.{◌≡◌, inl, inr, ◌+◌, ◌-◌, ◌++◌, ◌==◌, ◌&&◌, ◌∙◌, ℕ, ℤ, Bool, true, false, not, cond, find, nat_lt, List, [], ◌∷◌, Option, Some, None, is_none, is_some, Result, Ok, Err, is_ok, length, map, take, drop, codes, bytes_eq, ap, refl, sym}
-use Rattle.std.specs.List.{AllByRecursion, list_all, slice_range}
+-- A line is told of the first of what is looked at in it that is refused: a name, a number, its ray, its solid.
+use Rattle.std.proofs.Common.{◌≡◌, inl, inr, ◌+◌, ◌-◌, ◌++◌, ◌==◌, ◌&&◌, ◌∙◌, ℕ, ℤ, Bool, true, false, not, cond, find, nat_lt, List, [], ◌∷◌, Option, Some, None, is_none, is_some, Result, Ok, Err, is_ok, length, map, take, codes, bytes_eq, ap, refl, sym}
+use Rattle.std.specs.List.{list_all, slice_range}
 use Rattle.std.specs.Prelude.{unwrap_or}
+use Rattle.std.specs.Option.{option_map}
+use Rattle.lattice_core.specs.declared.vector.V3.{V3}
+use Rattle.command_set.specs.declared.refusal.ViewFault.{ViewFault}
 use Rattle.lattice_core.specs.declared.ray.Dir.{Dir}
 use Rattle.lattice_core.specs.declared.placement.Placement.{Placement}
 use Rattle.name_core.specs.NameText.{read_name}
@@ -22,9 +25,9 @@ use Rattle.plane_geom.specs.declared.fault.ShapeFault.{ShapeFault}
 use Rattle.solid_set.specs.declared.solid.Solid.{Solid}
 use Rattle.object_set.specs.declared.kept.KeptAttr.{KeptAttr}
 use Rattle.object_set.specs.declared.object.Body.TheVariants as bodies
-use Rattle.word_values.specs.Atoms.{all_numbers, atoms_in, solid_number, value_of, view_number}
+use Rattle.word_values.specs.Atoms.{atoms_in, solid_number, value_of, view_number}
 use Rattle.word_values.specs.Groups.{words_of_tokens}
-use Rattle.word_values.specs.Matrices.{placement_read}
+use Rattle.word_values.specs.Matrices.{placement_read, identity}
 use Rattle.word_values.specs.Solids.{kind_of, number_count, solid_made, vector_at}
 use Rattle.word_values.specs.Trees.{Given, given_leaves, has_name, has_placement, members_in, most_leaves, tree_if, tree_of, tree_in as tree_spelled}
 use Rattle.word_values.specs.declared.solid.SolidKind.{SolidKind}
@@ -44,101 +47,116 @@ use Rattle.put_form.specs.declared.kind.Kind.TheVariants as kinds
 use Rattle.put_form.specs.declared.kind.SolidForm.{SolidForm}
 use Rattle.command_set.specs.declared.command.Command.{Command}
 use Rattle.command_set.specs.declared.command.Command.TheVariants.{Bad, Edit, Query}
-use Rattle.command_set.specs.declared.command.Edit.TheVariants.{Region, Group, Remove, Kill, RenameAll, Title, Keep, Set}
+use Rattle.command_set.specs.declared.command.Edit.TheVariants.{Region, Group, Remove, Kill, RenameAll, Place, Title, Keep, Set}
 use Rattle.command_set.specs.declared.command.Query.TheVariants.{List as Lines, Tree as Listing, Save, Shot}
 use Rattle.command_set.specs.declared.refusal.Refusal.{Refusal}
-use Rattle.command_set.specs.declared.refusal.Refusal.TheVariants.{Syntax, Name, Number, View}
+use Rattle.command_set.specs.declared.refusal.Refusal.TheVariants.{Syntax, Name, Number, View, Shape}
 use Rattle.command_set.specs.declared.refusal.ViewFault.TheVariants.{World}
-use Rattle.mged_words.specs.Commands.{unless_refused, name_fault, names_fault, number_fault, matrix_fault, setting_fault, make_command, solid_command, kind_command, in_command, direction_of, world_fault, is_from_world, ray_of, shot_command, nirt_command, operator_of, entry_of, entry_before, entries_of, region_command, r_command, g_command, rm_command, kill_command, mvall_command, save_command, ls_command, placement_or, placement_given, placed_command, matrix_command, matrix_words, place_with, place_command, set_with, cattr_command, with_atoms, atom_command, named_command, worded_command, put_made, put_command, title_command, kept_command, keep_command, is_set, attr_command, l_command, tree_command, command_of_words, command_read, command_of}
-use Rattle.mged_words.specs.Order.{numbered, first_unnamed, every_second, name_at, names_behind, names_in_atoms, place_names, cattr_names, key_name, key_names, attr_names, spelled_leaves, leaf_names, tree_names, member_names, put_names, names_after, names_worded, names_of_words, names_read, names_of_line, told_name, TellsNames}
+use Rattle.mged_words.specs.Commands.{unless_refused, name_fault, names_fault, numbers_fault, placement_fault, setting_fault, make_command, solid_command, kind_command, in_command, direction_of, world_fault, is_from_world, ray_of, shot_command, nirt_command, operator_of, entry_of, entry_before, entries_of, region_command, r_command, g_command, rm_command, kill_command, mvall_command, save_command, ls_command, sixteen_command, matrix_command, matrix_step, matrix_words, place_with, place_command, set_with, cattr_command, with_atoms, atom_command, named_command, worded_command, refusal_of_put, put_made, put_command, title_command, kept_command, keep_command, is_set, attr_command, l_command, tree_command, command_of_words, command_read, command_of}
+use Rattle.mged_words.specs.Order.{numbered, ranged, Wanted, names_alone, nothing, every_second, name_at, shape_fault, solid_wanted, in_wanted, shot_wanted, nirt_wanted, wanted_behind, wanted_of_atoms, matrix_numbers, with_numbers, place_wanted, setting_at, cattr_wanted, key_name, key_names, attr_wanted, spelled_leaves, leaf_names, tree_names, value_numbers, given_shape, object_wanted, put_wanted, wanted_after, wanted_worded, wanted_of_words, wanted_read, wanted_of_line, names_of_line, first_unnamed, first_out, or_else, first_of, first_refusal, told, TellsFirst, told_name, TellsNames}
 
--- refusals that tell of no name
-abbrev Silent : Option Refusal → Type 0
-Silent None = Unit {0}
-Silent (Some refusal) = told_name (Bad refusal) ≡ None
+-- ---- lists of refusals
 
-silent_rest : (more : List (Option Refusal)) (command : Command) → AllByRecursion Silent more → told_name command ≡ None → told_name (unless_refused more command) ≡ None
-silent_rest [] command h k = k
-silent_rest (Some refusal ∷ rest) command h k = h.0
-silent_rest (None ∷ rest) command h k = silent_rest rest command h.1 k
+or_both : {a b x y : Option Refusal} → a ≡ b → x ≡ y → or_else a x ≡ or_else b y
+or_both {a} {b} {x} {y} h k = ap (λ (o : Option Refusal). or_else o x) h ∙ ap (or_else b) k
 
-silent_number : (word : ℕ) (numbers : List (Option ℤ)) → Silent (number_fault word numbers)
-silent_number word [] = tt
-silent_number word (None ∷ rest) = refl
-silent_number word (Some n ∷ rest) = silent_number (word + 1) rest
+-- what a command is told is the first of its list, or what is told after it
+told_list : (faults : List (Option Refusal)) (command : Command) → told (unless_refused faults command) ≡ first_of (faults ++ told command ∷ [])
+told_list [] (Bad refusal) = refl
+told_list [] (Edit edit) = refl
+told_list [] (Query query) = refl
+told_list (None ∷ rest) command = told_list rest command
+told_list (Some refusal ∷ rest) command = refl
 
-silent_if : (t : Bool) (refusal : Refusal) → told_name (Bad refusal) ≡ None → Silent (cond t None (Some refusal))
-silent_if true refusal h = tt
-silent_if false refusal h = h
+-- a word that is no name
+name_first : (t : Bool) (word : ℕ) (bad : Option ℕ) → or_else (cond t None (Some (Name word))) (option_map Name bad) ≡ option_map Name (cond t bad (Some word))
+name_first true word bad = refl
+name_first false word bad = refl
 
--- the refusal of a word that is no name
-abbrev refusal_at : Option ℕ → Option Refusal
-refusal_at None = None
-refusal_at (Some word) = Some (Name word)
-
-told_first : (bad : Option ℕ) (more : List (Option Refusal)) (command : Command) → told_name (unless_refused more command) ≡ None → told_name (unless_refused (refusal_at bad ∷ more) command) ≡ bad
-told_first None more command h = h
-told_first (Some word) more command h = refl
-
-told_second : (t : Bool) (word : ℕ) (bad : Option ℕ) (more : List (Option Refusal)) (command : Command) → told_name (unless_refused more command) ≡ None
-    → told_name (unless_refused (cond t None (Some (Name word)) ∷ refusal_at bad ∷ more) command) ≡ cond t bad (Some word)
-told_second true word bad more command h = told_first bad more command h
-told_second false word bad more command h = refl
-
-name_step : (t : Bool) (word : ℕ) (fault : Option Refusal) (bad : Option ℕ) → fault ≡ refusal_at bad → cond t fault (Some (Name word)) ≡ refusal_at (cond t bad (Some word))
+name_step : (t : Bool) (word : ℕ) (fault : Option Refusal) (bad : Option ℕ) → fault ≡ option_map Name bad → cond t fault (Some (Name word)) ≡ option_map Name (cond t bad (Some word))
 name_step true word fault bad h = h
 name_step false word fault bad h = refl
 
-fault_is : (word step : ℕ) (atoms : List (List ℕ)) → names_fault word step atoms ≡ refusal_at (first_unnamed (numbered word step atoms))
-fault_is word step [] = refl
-fault_is word step (atom ∷ rest) = name_step (is_ok (read_name atom)) word (names_fault (word + step) step rest) (first_unnamed (numbered (word + step) step rest)) (fault_is (word + step) step rest)
+names_are : (word step : ℕ) (atoms : List (List ℕ)) → names_fault word step atoms ≡ option_map Name (first_unnamed (numbered word step atoms))
+names_are word step [] = refl
+names_are word step (atom ∷ rest) = name_step (is_ok (read_name atom)) word (names_fault (word + step) step rest) (first_unnamed (numbered (word + step) step rest)) (names_are (word + step) step rest)
 
--- names that stand before all else that is looked at
-names_told : (word step : ℕ) (atoms : List (List ℕ)) (more : List (Option Refusal)) (command : Command) → told_name (unless_refused more command) ≡ None
-    → TellsNames (unless_refused (names_fault word step atoms ∷ more) command) (numbered word step atoms)
-names_told word step atoms more command h =
-    inr (ap (λ (o : Option Refusal). told_name (unless_refused (o ∷ more) command)) (fault_is word step atoms) ∙ told_first (first_unnamed (numbered word step atoms)) more command h)
+-- one name
+name_is : (word : ℕ) (atom : List ℕ) → name_fault word atom ≡ option_map Name (first_unnamed ((word, atom) ∷ []))
+name_is word atom = name_step (is_ok (read_name atom)) word None None refl
 
--- a form that a line has or has not
-if_told : (t : Bool) (command : Command) (names : List (ℕ × List ℕ)) → TellsNames command names → TellsNames (cond t command (Bad Syntax)) names
-if_told true command names h = h
-if_told false command names h = inl refl
+-- numbers, and then what else is asked of their words
+numbers_then : (word step : ℕ) (numbers : List (Option ℤ)) (more : List (ℕ × Bool)) (rest : Option Refusal)
+    → or_else (numbers_fault word step numbers) (or_else (option_map Number (first_out more)) rest) ≡ or_else (option_map Number (first_out (ranged word step numbers ++ more))) rest
+numbers_then word step [] more rest = refl
+numbers_then word step (None ∷ numbers) more rest = refl
+numbers_then word step (Some n ∷ numbers) more rest = numbers_then (word + step) step numbers more rest
 
-unless_told : (t : Bool) (command : Command) (names : List (ℕ × List ℕ)) → TellsNames command names → TellsNames (cond t (Bad Syntax) command) names
-unless_told true command names h = inl refl
-unless_told false command names h = h
+numbers_are : (word step : ℕ) (numbers : List (Option ℤ)) → numbers_fault word step numbers ≡ option_map Number (first_out (ranged word step numbers))
+numbers_are word step [] = refl
+numbers_are word step (None ∷ numbers) = refl
+numbers_are word step (Some n ∷ numbers) = numbers_are (word + step) step numbers
 
-made_silent : (name : List ℕ) (made : Result Solid ShapeFault) → told_name (make_command name made) ≡ None
-made_silent name (Ok solid) = refl
-made_silent name (Err fault) = refl
+-- ---- forms that a line has or has not
 
-kind_told : (name : List ℕ) (kind : Option SolidKind) (atoms : List (List ℕ)) → TellsNames (kind_command name kind atoms) (numbered 2 1 (name ∷ []))
-kind_told name None atoms = inl refl
-kind_told name (Some kind) atoms =
-    let numbers : List (Option ℤ) = map solid_number atoms in
-    if_told (length atoms == number_count kind) (solid_command name kind numbers) (numbered 2 1 (name ∷ []))
-    (names_told 2 1 (name ∷ []) (number_fault 4 numbers ∷ []) (make_command name (solid_made kind numbers))
-    (silent_rest (number_fault 4 numbers ∷ []) (make_command name (solid_made kind numbers)) (silent_number 4 numbers, tt) (made_silent name (solid_made kind numbers))))
+if_told : (t : Bool) (command : Command) (w : Wanted) → TellsFirst command w → TellsFirst (cond t command (Bad Syntax)) w
+if_told true command w h = h
+if_told false command w h = inl refl
 
-in_told : (atoms : List (List ℕ)) → TellsNames (in_command atoms) (numbered 2 1 (take 1 atoms))
-in_told [] = inl refl
-in_told (a ∷ []) = inl refl
-in_told (name ∷ kind ∷ atoms) = kind_told name (kind_of kind) atoms
+unless_told : (t : Bool) (command : Command) (w : Wanted) → TellsFirst command w → TellsFirst (cond t (Bad Syntax) command) w
+unless_told true command w h = inl refl
+unless_told false command w h = h
 
-shot_told : (numbers : List (Option ℤ)) (dir : Option Dir) (names : List (List ℕ)) → TellsNames (shot_command numbers dir names) (numbered 6 1 names)
-shot_told numbers None names = inl refl
-shot_told numbers (Some dir) names =
-    let more : List (Option Refusal) = number_fault 2 numbers ∷ world_fault (vector_at numbers 0) ∷ [] in
-    let shot : Command = Query (Shot (ray_of (vector_at numbers 0) dir) names) in
-    names_told 6 1 names more shot (silent_rest more shot (silent_number 2 numbers, (silent_if (is_from_world (vector_at numbers 0)) (View World) refl, tt)) refl)
+-- a word that has this meaning or another
+both_told : (t : Bool) (x y : Command) (v w : Wanted) → TellsFirst x v → TellsFirst y w → TellsFirst (cond t x y) (cond t v w)
+both_told true x y v w h k = h
+both_told false x y v w h k = k
 
-nirt_told : (atoms : List (List ℕ)) → TellsNames (nirt_command atoms) (numbered 6 1 (drop 4 atoms))
-nirt_told [] = inl refl
-nirt_told (a ∷ []) = inl refl
-nirt_told (a ∷ b ∷ []) = inl refl
-nirt_told (a ∷ b ∷ c ∷ []) = inl refl
-nirt_told (a ∷ b ∷ c ∷ d ∷ []) = inl refl
-nirt_told (x ∷ y ∷ z ∷ dir ∷ name ∷ rest) = shot_told (map view_number (x ∷ y ∷ z ∷ [])) (direction_of dir) (name ∷ rest)
+either_told : (t : Bool) (x y : Command) (w : Wanted) → TellsFirst x w → TellsFirst y w → TellsFirst (cond t x y) w
+either_told true x y w h k = h
+either_told false x y w h k = k
+
+-- ---- commands that are names alone
+
+named_told : (word step : ℕ) (atoms : List (List ℕ)) (command : Command) → told command ≡ None → TellsFirst (unless_refused (names_fault word step atoms ∷ []) command) (names_alone (numbered word step atoms))
+named_told word step atoms command h = inr (told_list (names_fault word step atoms ∷ []) command ∙ or_both (names_are word step atoms) (ap (λ (o : Option Refusal). or_else o None) h))
+
+g_told : (atoms : List (List ℕ)) → TellsFirst (g_command atoms) (names_alone (numbered 2 1 atoms))
+g_told [] = inl refl
+g_told (a ∷ []) = inl refl
+g_told (name ∷ member ∷ rest) = named_told 2 1 (name ∷ member ∷ rest) (Edit (Group name (map (entry_of U) (member ∷ rest)))) refl
+
+rm_told : (atoms : List (List ℕ)) → TellsFirst (rm_command atoms) (names_alone (numbered 2 1 atoms))
+rm_told [] = inl refl
+rm_told (a ∷ []) = inl refl
+rm_told (comb ∷ member ∷ rest) = named_told 2 1 (comb ∷ member ∷ rest) (Edit (Remove comb (member ∷ rest))) refl
+
+kill_told : (atoms : List (List ℕ)) → TellsFirst (kill_command atoms) (names_alone (numbered 2 1 atoms))
+kill_told [] = inl refl
+kill_told (name ∷ rest) = named_told 2 1 (name ∷ rest) (Edit (Kill (name ∷ rest))) refl
+
+mvall_told : (atoms : List (List ℕ)) → TellsFirst (mvall_command atoms) (names_alone (numbered 2 1 atoms))
+mvall_told [] = inl refl
+mvall_told (a ∷ []) = inl refl
+mvall_told (old ∷ new ∷ []) = named_told 2 1 (old ∷ new ∷ []) (Edit (RenameAll old new)) refl
+mvall_told (a ∷ b ∷ c ∷ rest) = inl refl
+
+save_told : (atoms : List (List ℕ)) → TellsFirst (save_command atoms) (names_alone (numbered 2 1 atoms))
+save_told [] = inl refl
+save_told (file ∷ []) = named_told 2 1 (file ∷ []) (Query (Save file)) refl
+save_told (a ∷ b ∷ rest) = inl refl
+
+ls_told : (atoms : List (List ℕ)) → TellsFirst (ls_command atoms) (names_alone (numbered 2 1 atoms))
+ls_told [] = inr refl
+ls_told (a ∷ rest) = inl refl
+
+l_told : (atoms : List (List ℕ)) → TellsFirst (l_command atoms) (names_alone (numbered 2 1 atoms))
+l_told [] = inl refl
+l_told (name ∷ rest) = named_told 2 1 (name ∷ rest) (Query (Lines (name ∷ rest))) refl
+
+tree_told : (atoms : List (List ℕ)) → TellsFirst (tree_command atoms) (names_alone (numbered 2 1 atoms))
+tree_told [] = inl refl
+tree_told (name ∷ rest) = named_told 2 1 (name ∷ rest) (Query (Listing (name ∷ rest))) refl
 
 -- the names of a list are its second words
 entry_step : (name member : List ℕ) (op : Option Op) (rest : List (List ℕ)) (others : Option (List ListEntry)) (es : List ListEntry)
@@ -154,133 +172,138 @@ list_names name [] (e ∷ es) h = absurd cc
 list_names name (op ∷ []) es h = absurd cc
 list_names name (op ∷ member ∷ rest) es h = entry_step name member (operator_of op) rest (entries_of rest) es (λ more e. list_names member rest more e) h
 
-region_told : (name : List ℕ) (rest : List (List ℕ)) (entries : Option (List ListEntry)) → entries_of rest ≡ entries → TellsNames (region_command name entries) (numbered 2 2 (every_second (name ∷ rest)))
+region_told : (name : List ℕ) (rest : List (List ℕ)) (entries : Option (List ListEntry)) → entries_of rest ≡ entries → TellsFirst (region_command name entries) (names_alone (numbered 2 2 (every_second (name ∷ rest))))
 region_told name rest None h = inl refl
 region_told name rest (Some []) h = inl refl
 region_told name rest (Some (e ∷ es)) h =
     let members : List (List ℕ) = names_of (e ∷ es) in
-    let region : Command = Edit (Region name (e ∷ es)) in
-    inr (ap (λ (o : Option Refusal). told_name (unless_refused (name_fault 2 name ∷ o ∷ []) region)) (fault_is 4 2 members)
-    ∙ told_second (is_ok (read_name name)) 2 (first_unnamed (numbered 4 2 members)) [] region refl
-    ∙ sym (ap (λ (ns : List (List ℕ)). first_unnamed (numbered 2 2 ns)) (list_names name rest (e ∷ es) h)))
+    let bad : Option ℕ = first_unnamed (numbered 4 2 members) in
+    inr (told_list (name_fault 2 name ∷ names_fault 4 2 members ∷ []) (Edit (Region name (e ∷ es)))
+    ∙ ap (λ (o : Option Refusal). or_else (name_fault 2 name) (or_else o None)) (names_are 4 2 members)
+    ∙ region_names (is_ok (read_name name)) bad
+    ∙ sym (ap (λ (ns : List (List ℕ)). or_else (option_map Name (first_unnamed (numbered 2 2 ns))) None) (list_names name rest (e ∷ es) h)))
+  where
+    region_names : (t : Bool) (b : Option ℕ) → or_else (cond t None (Some (Name 2))) (or_else (option_map Name b) None) ≡ or_else (option_map Name (cond t b (Some 2))) None
+    region_names true b = refl
+    region_names false b = refl
 
-r_told : (atoms : List (List ℕ)) → TellsNames (r_command atoms) (numbered 2 2 (every_second atoms))
+r_told : (atoms : List (List ℕ)) → TellsFirst (r_command atoms) (names_alone (numbered 2 2 (every_second atoms)))
 r_told [] = inl refl
 r_told (name ∷ rest) = region_told name rest (entries_of rest) refl
 
--- commands that are names alone
-g_told : (atoms : List (List ℕ)) → TellsNames (g_command atoms) (numbered 2 1 atoms)
-g_told [] = inl refl
-g_told (a ∷ []) = inl refl
-g_told (name ∷ member ∷ rest) = names_told 2 1 (name ∷ member ∷ rest) [] (Edit (Group name (map (entry_of U) (member ∷ rest)))) refl
+-- ---- solids and rays
 
-rm_told : (atoms : List (List ℕ)) → TellsNames (rm_command atoms) (numbered 2 1 atoms)
-rm_told [] = inl refl
-rm_told (a ∷ []) = inl refl
-rm_told (comb ∷ member ∷ rest) = names_told 2 1 (comb ∷ member ∷ rest) [] (Edit (Remove comb (member ∷ rest))) refl
+made_told : (name : List ℕ) (made : Result Solid ShapeFault) → told (make_command name made) ≡ option_map Shape (shape_fault made)
+made_told name (Ok solid) = refl
+made_told name (Err fault) = refl
 
-kill_told : (atoms : List (List ℕ)) → TellsNames (kill_command atoms) (numbered 2 1 atoms)
-kill_told [] = inl refl
-kill_told (name ∷ rest) = names_told 2 1 (name ∷ rest) [] (Edit (Kill (name ∷ rest))) refl
+kind_told : (name : List ℕ) (kind : Option SolidKind) (atoms : List (List ℕ)) → TellsFirst (kind_command name kind atoms) (solid_wanted name kind (map solid_number atoms))
+kind_told name None atoms = inl refl
+kind_told name (Some kind) atoms =
+    let numbers : List (Option ℤ) = map solid_number atoms in
+    if_told (length atoms == number_count kind) (solid_command name kind numbers) (solid_wanted name (Some kind) numbers)
+    (inr (told_list (name_fault 2 name ∷ numbers_fault 4 1 numbers ∷ []) (make_command name (solid_made kind numbers))
+    ∙ or_both (name_is 2 name) (or_both (numbers_are 4 1 numbers) (ap (λ (o : Option Refusal). or_else o None) (made_told name (solid_made kind numbers))))))
 
-mvall_told : (atoms : List (List ℕ)) → TellsNames (mvall_command atoms) (numbered 2 1 atoms)
-mvall_told [] = inl refl
-mvall_told (a ∷ []) = inl refl
-mvall_told (old ∷ new ∷ []) = names_told 2 1 (old ∷ new ∷ []) [] (Edit (RenameAll old new)) refl
-mvall_told (a ∷ b ∷ c ∷ rest) = inl refl
+in_told : (atoms : List (List ℕ)) → TellsFirst (in_command atoms) (in_wanted atoms)
+in_told [] = inl refl
+in_told (a ∷ []) = inl refl
+in_told (name ∷ kind ∷ atoms) = kind_told name (kind_of kind) atoms
 
-save_told : (atoms : List (List ℕ)) → TellsNames (save_command atoms) (numbered 2 1 atoms)
-save_told [] = inl refl
-save_told (file ∷ []) = names_told 2 1 (file ∷ []) [] (Query (Save file)) refl
-save_told (a ∷ b ∷ rest) = inl refl
+world_told : (t : Bool) → or_else (cond t None (Some (View World))) None ≡ or_else (option_map View (cond t None (Some World))) None
+world_told true = refl
+world_told false = refl
 
-ls_told : (atoms : List (List ℕ)) → TellsNames (ls_command atoms) (numbered 2 1 atoms)
-ls_told [] = inr refl
-ls_told (a ∷ rest) = inl refl
+shot_told : (numbers : List (Option ℤ)) (dir : Option Dir) (names : List (List ℕ)) → TellsFirst (shot_command numbers dir names) (shot_wanted numbers names)
+shot_told numbers None names = inl refl
+shot_told numbers (Some dir) names =
+    let origin : V3 = vector_at numbers 0 in
+    inr (told_list (names_fault 6 1 names ∷ numbers_fault 2 1 numbers ∷ world_fault origin ∷ []) (Query (Shot (ray_of origin dir) names))
+    ∙ or_both (names_are 6 1 names) (or_both (numbers_are 2 1 numbers) (world_told (is_from_world origin))))
 
-l_told : (atoms : List (List ℕ)) → TellsNames (l_command atoms) (numbered 2 1 atoms)
-l_told [] = inl refl
-l_told (name ∷ rest) = names_told 2 1 (name ∷ rest) [] (Query (Lines (name ∷ rest))) refl
+nirt_told : (atoms : List (List ℕ)) → TellsFirst (nirt_command atoms) (nirt_wanted atoms)
+nirt_told [] = inl refl
+nirt_told (a ∷ []) = inl refl
+nirt_told (a ∷ b ∷ []) = inl refl
+nirt_told (a ∷ b ∷ c ∷ []) = inl refl
+nirt_told (a ∷ b ∷ c ∷ d ∷ []) = inl refl
+nirt_told (x ∷ y ∷ z ∷ dir ∷ name ∷ rest) = shot_told (map view_number (x ∷ y ∷ z ∷ [])) (direction_of dir) (name ∷ rest)
 
-tree_told : (atoms : List (List ℕ)) → TellsNames (tree_command atoms) (numbered 2 1 atoms)
-tree_told [] = inl refl
-tree_told (name ∷ rest) = names_told 2 1 (name ∷ rest) [] (Query (Listing (name ∷ rest))) refl
-
--- a word that has this meaning or another
-both_told : (t : Bool) (x y : Command) (xs ys : List (ℕ × List ℕ)) → TellsNames x xs → TellsNames y ys → TellsNames (cond t x y) (cond t xs ys)
-both_told true x y xs ys h k = h
-both_told false x y xs ys h k = k
-
-either_told : (t : Bool) (x y : Command) (names : List (ℕ × List ℕ)) → TellsNames x names → TellsNames y names → TellsNames (cond t x y) names
-either_told true x y names h k = h
-either_told false x y names h k = k
-
-atom_told : (word : List ℕ) (atoms : List (List ℕ)) → TellsNames (atom_command word atoms) (names_behind word atoms)
+atom_told : (word : List ℕ) (atoms : List (List ℕ)) → TellsFirst (atom_command word atoms) (wanted_behind word atoms)
 atom_told word atoms =
-    both_told (bytes_eq word (codes "in")) (in_command atoms) _ (numbered 2 1 (take 1 atoms)) _ (in_told atoms)
-    (both_told (bytes_eq word (codes "nirt")) (nirt_command atoms) _ (numbered 6 1 (drop 4 atoms)) _ (nirt_told atoms)
-    (both_told (bytes_eq word (codes "r")) (r_command atoms) _ (numbered 2 2 (every_second atoms)) (numbered 2 1 atoms) (r_told atoms)
-    (either_told (bytes_eq word (codes "g")) (g_command atoms) _ (numbered 2 1 atoms) (g_told atoms)
-    (either_told (bytes_eq word (codes "rm")) (rm_command atoms) _ (numbered 2 1 atoms) (rm_told atoms)
-    (either_told (bytes_eq word (codes "kill")) (kill_command atoms) _ (numbered 2 1 atoms) (kill_told atoms)
-    (either_told (bytes_eq word (codes "mvall")) (mvall_command atoms) _ (numbered 2 1 atoms) (mvall_told atoms)
-    (either_told (bytes_eq word (codes "ls")) (ls_command atoms) _ (numbered 2 1 atoms) (ls_told atoms)
-    (either_told (bytes_eq word (codes "l")) (l_command atoms) _ (numbered 2 1 atoms) (l_told atoms)
-    (either_told (bytes_eq word (codes "tree")) (tree_command atoms) _ (numbered 2 1 atoms) (tree_told atoms)
-    (if_told (bytes_eq word (codes "save")) (save_command atoms) (numbered 2 1 atoms) (save_told atoms)))))))))))
+    let names : Wanted = names_alone (numbered 2 1 atoms) in
+    both_told (bytes_eq word (codes "in")) (in_command atoms) _ (in_wanted atoms) _ (in_told atoms)
+    (both_told (bytes_eq word (codes "nirt")) (nirt_command atoms) _ (nirt_wanted atoms) _ (nirt_told atoms)
+    (both_told (bytes_eq word (codes "r")) (r_command atoms) _ (names_alone (numbered 2 2 (every_second atoms))) names (r_told atoms)
+    (either_told (bytes_eq word (codes "g")) (g_command atoms) _ names (g_told atoms)
+    (either_told (bytes_eq word (codes "rm")) (rm_command atoms) _ names (rm_told atoms)
+    (either_told (bytes_eq word (codes "kill")) (kill_command atoms) _ names (kill_told atoms)
+    (either_told (bytes_eq word (codes "mvall")) (mvall_command atoms) _ names (mvall_told atoms)
+    (either_told (bytes_eq word (codes "ls")) (ls_command atoms) _ names (ls_told atoms)
+    (either_told (bytes_eq word (codes "l")) (l_command atoms) _ names (l_told atoms)
+    (either_told (bytes_eq word (codes "tree")) (tree_command atoms) _ names (tree_told atoms)
+    (if_told (bytes_eq word (codes "save")) (save_command atoms) names (save_told atoms)))))))))))
 
-atoms_told : (word : List ℕ) (atoms : Option (List (List ℕ))) → TellsNames (with_atoms (atom_command word) atoms) (names_in_atoms word atoms)
+atoms_told : (word : List ℕ) (atoms : Option (List (List ℕ))) → TellsFirst (with_atoms (atom_command word) atoms) (wanted_of_atoms word atoms)
 atoms_told word None = inl refl
 atoms_told word (Some atoms) = atom_told word atoms
 
--- a placement
-placed_silent : (comb member : List ℕ) (fault : Option Refusal) (placement : Option Placement) → Silent fault → told_name (placed_command comb member (placement_or fault placement)) ≡ None
-placed_silent comb member (Some refusal) placement h = h
-placed_silent comb member None None h = refl
-placed_silent comb member None (Some placement) h = refl
+-- ---- a placement
 
-matrix_silent : (is_group : Bool) (numbers : List (Option ℤ)) → Silent (matrix_fault is_group numbers)
-matrix_silent true numbers = silent_if (is_some (all_numbers numbers)) (Number 4) refl
-matrix_silent false numbers = silent_number 4 numbers
+placement_told : (placement : Option Placement) → or_else (placement_fault 4 placement) None ≡ or_else (option_map Number (first_out ((4, is_some placement) ∷ []))) None
+placement_told None = refl
+placement_told (Some placement) = refl
 
-matrix_told : (comb member : List ℕ) (is_group : Bool) (atoms : Option (List (List ℕ))) → TellsNames (matrix_command comb member is_group atoms) (numbered 2 1 (comb ∷ member ∷ []))
-matrix_told comb member is_group None = inl refl
-matrix_told comb member is_group (Some atoms) =
-    let numbers : List (Option ℤ) = map view_number atoms in
-    let placed : Command = placed_command comb member (placement_given is_group numbers) in
-    if_told (length atoms == 16) (unless_refused (names_fault 2 1 (comb ∷ member ∷ []) ∷ []) placed) (numbered 2 1 (comb ∷ member ∷ []))
-    (names_told 2 1 (comb ∷ member ∷ []) [] placed (placed_silent comb member (matrix_fault is_group numbers) (placement_read numbers) (matrix_silent is_group numbers)))
+matrix_told : (comb member : List ℕ) (step : ℕ) (numbers : List (Option ℤ))
+    → TellsFirst (matrix_command comb member step numbers) (with_numbers (numbered 2 1 (comb ∷ member ∷ [])) (ranged 4 step numbers ++ (4, is_some (placement_read numbers)) ∷ []))
+matrix_told comb member step numbers =
+    let placed : Option Placement = placement_read numbers in
+    inr (told_list (names_fault 2 1 (comb ∷ member ∷ []) ∷ numbers_fault 4 step numbers ∷ placement_fault 4 placed ∷ []) (Edit (Place comb member (unwrap_or placed identity)))
+    ∙ or_both (names_are 2 1 (comb ∷ member ∷ [])) (ap (or_else (numbers_fault 4 step numbers)) (placement_told placed) ∙ numbers_then 4 step numbers ((4, is_some placed) ∷ []) None))
 
-place_with_told : (line : List ℕ) (tokens : List Token) (words : List Word) (comb member : Option (List ℕ)) → TellsNames (place_with line tokens words comb member) (name_at 2 comb ++ name_at 3 member)
+sixteen_told : (comb member : List ℕ) (step : ℕ) (atoms : Option (List (List ℕ))) → TellsFirst (sixteen_command comb member step atoms) (with_numbers (numbered 2 1 (comb ∷ member ∷ [])) (matrix_numbers step atoms))
+sixteen_told comb member step None = inl refl
+sixteen_told comb member step (Some atoms) =
+    if_told (length atoms == 16) (matrix_command comb member step (map view_number atoms)) (with_numbers (numbered 2 1 (comb ∷ member ∷ [])) (matrix_numbers step (Some atoms))) (matrix_told comb member step (map view_number atoms))
+
+place_with_told : (line : List ℕ) (tokens : List Token) (words : List Word) (comb member : Option (List ℕ))
+    → TellsFirst (place_with line tokens words comb member) (with_numbers (name_at 2 comb ++ name_at 3 member) (matrix_numbers (matrix_step words) (matrix_words line tokens words)))
 place_with_told line tokens words None member = inl refl
 place_with_told line tokens words (Some comb) None = inl refl
-place_with_told line tokens words (Some comb) (Some member) = matrix_told comb member (length words == 1) (matrix_words line tokens words)
+place_with_told line tokens words (Some comb) (Some member) = sixteen_told comb member (matrix_step words) (matrix_words line tokens words)
 
-place_told : (line : List ℕ) (tokens : List Token) (words : List Word) → TellsNames (place_command line tokens words) (place_names line tokens words)
+place_told : (line : List ℕ) (tokens : List Token) (words : List Word) → TellsFirst (place_command line tokens words) (place_wanted line tokens words)
 place_told line tokens [] = inl refl
 place_told line tokens (a ∷ []) = inl refl
 place_told line tokens (comb ∷ member ∷ words) = place_with_told line tokens words (atom_of line tokens comb) (atom_of line tokens member)
 
--- an attribute
-set_told : (name key : Option (List ℕ)) (value : List ℕ) → TellsNames (set_with name key value) (name_at 2 name)
+-- ---- an attribute
+
+value_told : (t : Bool) (word : ℕ) → or_else (cond t None (Some (Number word))) None ≡ or_else (option_map Number (first_out ((word, t) ∷ []))) None
+value_told true word = refl
+value_told false word = refl
+
+set_told : (name key : Option (List ℕ)) (value : List ℕ) → TellsFirst (set_with name key value) (with_numbers (name_at 2 name) (setting_at 4 key value))
 set_told None key value = inl refl
 set_told (Some name) None value = inl refl
 set_told (Some name) (Some key) value =
     let setting : Command = Edit (Set name (record { key = key; value = value })) in
-    unless_told (is_none (key_of key)) (unless_refused (name_fault 2 name ∷ setting_fault 4 key value ∷ []) setting) (numbered 2 1 (name ∷ []))
-    (names_told 2 1 (name ∷ []) (setting_fault 4 key value ∷ []) setting (silent_rest (setting_fault 4 key value ∷ []) setting (silent_if (is_setting key value) (Number 4) refl, tt) refl))
+    let faults : List (Option Refusal) = name_fault 2 name ∷ setting_fault 4 key value ∷ [] in
+    unless_told (is_none (key_of key)) (unless_refused faults setting) (with_numbers (name_at 2 (Some name)) (setting_at 4 (Some key) value))
+    (inr (told_list faults setting ∙ or_both (name_is 2 name) (value_told (is_setting key value) 4)))
 
-cattr_told : (line : List ℕ) (tokens : List Token) (words : List Word) → TellsNames (cattr_command line tokens words) (cattr_names line tokens words)
+cattr_told : (line : List ℕ) (tokens : List Token) (words : List Word) → TellsFirst (cattr_command line tokens words) (cattr_wanted line tokens words)
 cattr_told line tokens [] = inl refl
 cattr_told line tokens (a ∷ []) = inl refl
 cattr_told line tokens (a ∷ b ∷ []) = inl refl
 cattr_told line tokens (name ∷ key ∷ value ∷ rest) = set_told (atom_of line tokens name) (atom_of line tokens key) (value_of line tokens value rest)
 
-title_told : (line : List ℕ) (tokens : List Token) (words : List Word) → TellsNames (title_command line tokens words) []
+title_told : (line : List ℕ) (tokens : List Token) (words : List Word) → TellsFirst (title_command line tokens words) nothing
 title_told line tokens [] = inl refl
-title_told line tokens (value ∷ rest) = if_told (is_text (value_of line tokens value rest)) (Edit (Title (value_of line tokens value rest))) [] (inr refl)
+title_told line tokens (value ∷ rest) = if_told (is_text (value_of line tokens value rest)) (Edit (Title (value_of line tokens value rest))) nothing (inr refl)
 
--- attributes to be kept
+-- ---- attributes to be kept
+
 abbrev key_place : Option Pair → Option ℕ
 key_place None = None
 key_place (Some p) = Some (p.place - 1)
@@ -294,32 +317,36 @@ keys_are [] = refl
 keys_are (p ∷ pairs) = key_step (is_named p) p (first_unnamed (map key_name pairs)) (find (λ (q : Pair). not (is_named q)) pairs) (keys_are pairs)
 
 found_told : (t : Bool) (name : List ℕ) (kept : List KeptAttr) (unnamed : Option Pair) → is_ok (read_name name) ≡ t
-    → told_name (kept_command name (kept_or (unnamed_at unnamed) kept)) ≡ cond t (key_place unnamed) (Some 3)
-found_told t name kept None h = ap (λ (u : Bool). told_name (unless_refused (cond u None (Some (Name 3)) ∷ None ∷ []) (Edit (Keep name kept)))) h ∙ told_second t 3 None [] (Edit (Keep name kept)) refl
-found_told t name kept (Some p) h = ap (λ (u : Bool). told_name (unless_refused (cond u None (Some (Name 3)) ∷ Some (Name (p.place - 1)) ∷ []) (Edit (Keep name [])))) h ∙ told_second t 3 (Some (p.place - 1)) [] (Edit (Keep name [])) refl
+    → told (kept_command name (kept_or (unnamed_at unnamed) kept)) ≡ or_else (option_map Name (cond t (key_place unnamed) (Some 3))) None
+found_told true name kept None h = ap (λ (u : Bool). told (unless_refused (cond u None (Some (Name 3)) ∷ None ∷ []) (Edit (Keep name kept)))) h
+found_told false name kept None h = ap (λ (u : Bool). told (unless_refused (cond u None (Some (Name 3)) ∷ None ∷ []) (Edit (Keep name kept)))) h
+found_told true name kept (Some p) h = ap (λ (u : Bool). told (unless_refused (cond u None (Some (Name 3)) ∷ Some (Name (p.place - 1)) ∷ []) (Edit (Keep name [])))) h
+found_told false name kept (Some p) h = ap (λ (u : Bool). told (unless_refused (cond u None (Some (Name 3)) ∷ Some (Name (p.place - 1)) ∷ []) (Edit (Keep name [])))) h
 
-form_told : (t : Bool) (name : List ℕ) (kept : Result (List KeptAttr) PutFault) (names : List (ℕ × List ℕ)) → TellsNames (kept_command name kept) names → TellsNames (kept_command name (cond t kept (Err put.Attr))) names
-form_told true name kept names h = h
-form_told false name kept names h = inl refl
+form_told : (t : Bool) (name : List ℕ) (kept : Result (List KeptAttr) PutFault) (w : Wanted) → TellsFirst (kept_command name kept) w → TellsFirst (kept_command name (cond t kept (Err put.Attr))) w
+form_told true name kept w h = h
+form_told false name kept w h = inl refl
 
-pairs_told : (line : List ℕ) (tokens : List Token) (name : List ℕ) (pairs : Option (List Pair)) → TellsNames (kept_command name (kept_of line tokens pairs)) ((3, name) ∷ key_names pairs)
+pairs_told : (line : List ℕ) (tokens : List Token) (name : List ℕ) (pairs : Option (List Pair)) → TellsFirst (kept_command name (kept_of line tokens pairs)) (names_alone ((3, name) ∷ key_names pairs))
 pairs_told line tokens name None = inl refl
 pairs_told line tokens name (Some pairs) =
     let unnamed : Option Pair = find (λ (p : Pair). not (is_named p)) pairs in
     let kept : List KeptAttr = map (kept_attr line tokens) pairs in
-    form_told (not (length pairs == 0) && list_all (has_form line tokens) pairs) name (kept_or (unnamed_at unnamed) kept) ((3, name) ∷ map key_name pairs)
-    (inr (found_told (is_ok (read_name name)) name kept unnamed refl ∙ ap (λ (o : Option ℕ). cond (is_ok (read_name name)) o (Some 3)) (sym (keys_are pairs))))
+    form_told (not (length pairs == 0) && list_all (has_form line tokens) pairs) name (kept_or (unnamed_at unnamed) kept) (names_alone ((3, name) ∷ map key_name pairs))
+    (inr (found_told (is_ok (read_name name)) name kept unnamed refl ∙ ap (λ (o : Option ℕ). or_else (option_map Name (cond (is_ok (read_name name)) o (Some 3))) None) (sym (keys_are pairs))))
 
-keep_told : (line : List ℕ) (tokens : List Token) (name : Option (List ℕ)) (pairs : Option (List Pair)) → TellsNames (keep_command name (kept_of line tokens pairs)) (name_at 3 name ++ key_names pairs)
+keep_told : (line : List ℕ) (tokens : List Token) (name : Option (List ℕ)) (pairs : Option (List Pair)) → TellsFirst (keep_command name (kept_of line tokens pairs)) (names_alone (name_at 3 name ++ key_names pairs))
 keep_told line tokens None pairs = inl refl
 keep_told line tokens (Some name) pairs = pairs_told line tokens name pairs
 
-attr_told : (line : List ℕ) (tokens : List Token) (words : List Word) → TellsNames (attr_command line tokens words) (attr_names line tokens words)
+attr_told : (line : List ℕ) (tokens : List Token) (words : List Word) → TellsFirst (attr_command line tokens words) (attr_wanted line tokens words)
 attr_told line tokens [] = inl refl
 attr_told line tokens (a ∷ []) = inl refl
 attr_told line tokens (set ∷ name ∷ rest) =
-    if_told (is_set (atom_of line tokens set)) (keep_command (atom_of line tokens name) (kept_of line tokens (pairs_of line tokens 4 rest))) (attr_names line tokens (set ∷ name ∷ rest))
+    if_told (is_set (atom_of line tokens set)) (keep_command (atom_of line tokens name) (kept_of line tokens (pairs_of line tokens 4 rest))) (attr_wanted line tokens (set ∷ name ∷ rest))
     (keep_told line tokens (atom_of line tokens name) (pairs_of line tokens 4 rest))
+
+-- ---- one object as words
 
 -- a tree that was read is told of its first name that is none
 abbrev TellsLeaves : Result Comb TreeFault → ℕ → List (ℕ × List ℕ) → Type 0
@@ -359,45 +386,70 @@ given_told line tokens (Some p) =
     let inner = words_of_tokens line (slice_range tokens ((p.value).first + 1) (p.value).last) in
     group_told ((p.value).first == (p.value).last) (tree_of inner) p.place (leaf_names p.place (spelled_leaves (tree_spelled inner))) (words_told p.place (tree_spelled inner))
 
--- one object as words
-number_silent : (pair : Option Pair) (made : Put) → told_name (put_made made) ≡ None → told_name (put_made (unless_fault (puts.number_fault pair ∷ []) made)) ≡ None
-number_silent None made h = h
-number_silent (Some p) made h = refl
+abbrev put_refusal : Option PutFault → Option Refusal
+put_refusal fault = option_map refusal_of_put fault
 
-name_silent : (t : Bool) (more : List (Option PutFault)) (made : Put) (bad : Option ℕ) → told_name (put_made (unless_fault more made)) ≡ bad
-    → told_name (put_made (unless_fault (when (not t) (put.Name 2) ∷ more) made)) ≡ cond t bad (Some 2)
-name_silent true more made bad h = h
-name_silent false more made bad h = refl
+put_list : (faults : List (Option PutFault)) (made : Put) → told (put_made (unless_fault faults made)) ≡ first_of (map put_refusal faults ++ told (put_made made) ∷ [])
+put_list [] (Ok made) = refl
+put_list [] (Err fault) = refl
+put_list (None ∷ rest) made = put_list rest made
+put_list (Some fault ∷ rest) made = refl
 
-solid_silent : (name : Option (List ℕ)) (made : Result Solid ShapeFault) → told_name (put_made (solid_put name made)) ≡ None
-solid_silent name (Ok solid) = refl
-solid_silent name (Err fault) = refl
+put_name : (t : Bool) → put_refusal (when (not t) (put.Name 2)) ≡ option_map Name (cond t None (Some 2))
+put_name true = refl
+put_name false = refl
+
+value_step : (t : Bool) (p : Pair) (rest : Option Pair) (out : Option ℕ) → put_refusal (puts.number_fault rest) ≡ option_map Number out
+    → put_refusal (puts.number_fault (cond (not t) (Some p) rest)) ≡ option_map Number (cond t out (Some p.place))
+value_step true p rest out h = h
+value_step false p rest out h = refl
+
+values_are : (good : Pair → Bool) (pairs : List Pair) → put_refusal (puts.number_fault (find (λ (p : Pair). not (good p)) pairs)) ≡ option_map Number (first_out (value_numbers good pairs))
+values_are good [] = refl
+values_are good (p ∷ pairs) = value_step (good p) p (find (λ (q : Pair). not (good q)) pairs) (first_out (value_numbers good pairs)) (values_are good pairs)
+
+solid_shape : (name : List ℕ) (made : Result Solid ShapeFault) → told (put_made (solid_put (Some name) made)) ≡ option_map Shape (shape_fault made)
+solid_shape name (Ok solid) = refl
+solid_shape name (Err fault) = refl
 
 solid_told : (line : List ℕ) (tokens : List Token) (form : SolidForm) (name : List ℕ) (pairs : List Pair) (numbers : Option (List (Option ℤ)))
-    → TellsNames (put_made (solid_with line tokens form (Some name) pairs numbers)) ((2, name) ∷ [])
+    → TellsFirst (put_made (solid_with line tokens form (Some name) pairs numbers))
+    (record { names = (2, name) ∷ []; numbers = value_numbers (solids.is_good line tokens form pairs) pairs; view = None; shape = given_shape form numbers })
 solid_told line tokens form name pairs None = inl refl
 solid_told line tokens form name pairs (Some numbers) =
     let made : Result Solid ShapeFault = solid_made (made_as form) (take (number_count (made_as form)) numbers) in
     let bad : Option Pair = solids.bad_pair line tokens form pairs in
-    inr (name_silent (is_ok (read_name name)) (puts.number_fault bad ∷ []) (solid_put (Some name) made) None (number_silent bad (solid_put (Some name) made) (solid_silent (Some name) made)))
+    inr (put_list (puts.name_fault (Some name) ∷ puts.number_fault bad ∷ []) (solid_put (Some name) made)
+    ∙ or_both (put_name (is_ok (read_name name))) (or_both (values_are (solids.is_good line tokens form pairs) pairs) (ap (λ (o : Option Refusal). or_else o None) (solid_shape name made))))
 
-keys_told : (t : Bool) (more : List (Option PutFault)) (made : Put) (names : List (ℕ × List ℕ)) → TellsNames (put_made (unless_fault more made)) names
-    → TellsNames (put_made (unless_fault (when (not t) put.Attr ∷ more) made)) names
-keys_told true more made names h = h
-keys_told false more made names h = inl refl
+keys_told : (t : Bool) (more : List (Option PutFault)) (made : Put) (w : Wanted) → TellsFirst (put_made (unless_fault more made)) w → TellsFirst (put_made (unless_fault (when (not t) put.Attr ∷ more) made)) w
+keys_told true more made w h = h
+keys_told false more made w h = inl refl
 
-members_told : (name : List ℕ) (found : Result Comb TreeFault) (word : ℕ) (bad : Option Pair) (made : Put) (names : List (ℕ × List ℕ)) → told_name (put_made made) ≡ None → TellsLeaves found word names
-    → TellsNames (put_made (unless_fault (puts.tree_fault found ∷ puts.name_fault (Some name) ∷ puts.member_fault found word ∷ puts.number_fault bad ∷ []) made)) ((2, name) ∷ names)
-members_told name (Err tree.Form) word bad made names h k = inl refl
-members_told name (Err tree.Name) word bad made names h k =
-    inr (name_silent (is_ok (read_name name)) (Some (put.Name word) ∷ puts.number_fault bad ∷ []) made (first_unnamed names) (sym k))
-members_told name (Err tree.Number) word bad made names h k =
-    inr (name_silent (is_ok (read_name name)) (None ∷ puts.number_fault bad ∷ []) made (first_unnamed names) (number_silent bad made h ∙ sym k))
-members_told name (Err TreeFault.Memory) word bad made names h k = absurd k
-members_told name (Ok comb) word bad made names h k =
-    inr (name_silent (is_ok (read_name name)) (None ∷ puts.number_fault bad ∷ []) made (first_unnamed names) (number_silent bad made h ∙ sym k))
+-- the object's name, those of its members, and then its numbers
+comb_step : (t : Bool) (members : Option PutFault) (names : Option ℕ) (rest : Option Refusal) → put_refusal members ≡ option_map Name names
+    → or_else (put_refusal (when (not t) (put.Name 2))) (or_else (put_refusal members) rest) ≡ or_else (option_map Name (cond t names (Some 2))) rest
+comb_step true members names rest h = ap (λ (o : Option Refusal). or_else o rest) h
+comb_step false members names rest h = refl
 
-kind_put_told : (line : List ℕ) (tokens : List Token) (name : List ℕ) (kind : Option Kind) (pairs : Option (List Pair)) → TellsNames (put_made (kind_put line tokens (Some name) kind pairs)) ((2, name) ∷ member_names line tokens kind pairs)
+members_by : (name : List ℕ) (members : Option PutFault) (bad : Option Pair) (made : Put) (names : List (ℕ × List ℕ)) (numbers : List (ℕ × Bool)) → told (put_made made) ≡ None
+    → put_refusal members ≡ option_map Name (first_unnamed names) → put_refusal (puts.number_fault bad) ≡ option_map Number (first_out numbers)
+    → told (put_made (unless_fault (puts.name_fault (Some name) ∷ members ∷ puts.number_fault bad ∷ []) made)) ≡ first_refusal (with_numbers ((2, name) ∷ names) numbers)
+members_by name members bad made names numbers h k n =
+    put_list (puts.name_fault (Some name) ∷ members ∷ puts.number_fault bad ∷ []) made
+    ∙ comb_step (is_ok (read_name name)) members (first_unnamed names) (or_else (put_refusal (puts.number_fault bad)) (or_else (told (put_made made)) None)) k
+    ∙ ap (or_else (option_map Name (first_unnamed ((2, name) ∷ names)))) (or_both n (ap (λ (o : Option Refusal). or_else o None) h))
+
+members_told : (name : List ℕ) (found : Result Comb TreeFault) (word : ℕ) (bad : Option Pair) (made : Put) (names : List (ℕ × List ℕ)) (numbers : List (ℕ × Bool)) → told (put_made made) ≡ None → TellsLeaves found word names
+    → put_refusal (puts.number_fault bad) ≡ option_map Number (first_out numbers)
+    → TellsFirst (put_made (unless_fault (puts.tree_fault found ∷ puts.name_fault (Some name) ∷ puts.member_fault found word ∷ puts.number_fault bad ∷ []) made)) (with_numbers ((2, name) ∷ names) numbers)
+members_told name (Err tree.Form) word bad made names numbers h k n = inl refl
+members_told name (Err TreeFault.Memory) word bad made names numbers h k n = absurd k
+members_told name (Err tree.Name) word bad made names numbers h k n = inr (members_by name (Some (put.Name word)) bad made names numbers h (ap (option_map Name) (sym k)) n)
+members_told name (Err tree.Number) word bad made names numbers h k n = inr (members_by name None bad made names numbers h (ap (option_map Name) (sym k)) n)
+members_told name (Ok comb) word bad made names numbers h k n = inr (members_by name None bad made names numbers h (ap (option_map Name) (sym k)) n)
+
+kind_put_told : (line : List ℕ) (tokens : List Token) (name : List ℕ) (kind : Option Kind) (pairs : Option (List Pair)) → TellsFirst (put_made (kind_put line tokens (Some name) kind pairs)) (object_wanted line tokens ((2, name) ∷ []) kind pairs)
 kind_put_told line tokens name None pairs = inl refl
 kind_put_told line tokens name (Some kind) None = inl refl
 kind_put_told line tokens name (Some (kinds.Solid form)) (Some pairs) = solid_told line tokens form name pairs (solids.numbers_of line tokens form pairs)
@@ -407,43 +459,72 @@ kind_put_told line tokens name (Some kinds.Comb) (Some pairs) =
     let bad : Option Pair = combs.bad_pair line tokens pairs in
     let made : Put = Ok (name, record { body = bodies.Comb (combs.attr_of line tokens pairs) (puts.tree_or_none found); kept = [] }) in
     let names : List (ℕ × List ℕ) = tree_names line tokens (combs.tree_pair pairs) in
-    keys_told (combs.has_keys pairs) (puts.tree_fault found ∷ puts.name_fault (Some name) ∷ puts.member_fault found word ∷ puts.number_fault bad ∷ []) made ((2, name) ∷ names)
-    (members_told name found word bad made names refl (given_told line tokens (combs.tree_pair pairs)))
+    let good : Pair → Bool = λ p. combs.has_value line tokens p.key p.value in
+    keys_told (combs.has_keys pairs) (puts.tree_fault found ∷ puts.name_fault (Some name) ∷ puts.member_fault found word ∷ puts.number_fault bad ∷ []) made (with_numbers ((2, name) ∷ names) (value_numbers good pairs))
+    (members_told name found word bad made names (value_numbers good pairs) refl (given_told line tokens (combs.tree_pair pairs)) (values_are good pairs))
 
-is_put_told : (t : Bool) (made : Put) (names : List (ℕ × List ℕ)) → TellsNames (put_made made) names → TellsNames (put_made (cond t made (Err put.NoType))) names
-is_put_told true made names h = h
-is_put_told false made names h = inl refl
+is_put_told : (t : Bool) (made : Put) (w : Wanted) → TellsFirst (put_made made) w → TellsFirst (put_made (cond t made (Err put.NoType))) w
+is_put_told true made w h = h
+is_put_told false made w h = inl refl
 
 named_put_told : (line : List ℕ) (tokens : List Token) (word : Option (List ℕ)) (name : Option (List ℕ)) (kind : Option Kind) (pairs : Option (List Pair))
-    → TellsNames (cond (is_none name) (Bad Syntax) (put_made (cond (is_put word) (kind_put line tokens name kind pairs) (Err put.NoType)))) (name_at 2 name ++ member_names line tokens kind pairs)
+    → TellsFirst (cond (is_none name) (Bad Syntax) (put_made (cond (is_put word) (kind_put line tokens name kind pairs) (Err put.NoType)))) (object_wanted line tokens (name_at 2 name) kind pairs)
 named_put_told line tokens word None kind pairs = inl refl
-named_put_told line tokens word (Some name) kind pairs = is_put_told (is_put word) (kind_put line tokens (Some name) kind pairs) ((2, name) ∷ member_names line tokens kind pairs) (kind_put_told line tokens name kind pairs)
+named_put_told line tokens word (Some name) kind pairs =
+    is_put_told (is_put word) (kind_put line tokens (Some name) kind pairs) (object_wanted line tokens ((2, name) ∷ []) kind pairs) (kind_put_told line tokens name kind pairs)
 
-put_told : (line : List ℕ) (tokens : List Token) (word : Word) (words : List Word) → TellsNames (put_command line tokens (word ∷ words)) (put_names line tokens words)
+put_told : (line : List ℕ) (tokens : List Token) (word : Word) (words : List Word) → TellsFirst (put_command line tokens (word ∷ words)) (put_wanted line tokens words)
 put_told line tokens word [] = inl refl
-put_told line tokens word (name ∷ []) = unless_told (is_none (atom_of line tokens name)) (Bad Syntax) [] (inl refl)
+put_told line tokens word (name ∷ []) = unless_told (is_none (atom_of line tokens name)) (Bad Syntax) nothing (inl refl)
 put_told line tokens word (name ∷ kind ∷ rest) = named_put_told line tokens (atom_of line tokens word) (atom_of line tokens name) (kind_named (atom_of line tokens kind)) (pairs_of line tokens 4 rest)
 
--- a line
-after_told : (line : List ℕ) (tokens : List Token) (word : Word) (words : List Word) (name : List ℕ) → TellsNames (named_command line tokens word words name) (names_after line tokens words name)
-after_told line tokens word words name =
-    both_told (bytes_eq name (codes "place")) (place_command line tokens words) _ (place_names line tokens words) _ (place_told line tokens words)
-    (both_told (bytes_eq name (codes "cattr")) (cattr_command line tokens words) _ (cattr_names line tokens words) _ (cattr_told line tokens words)
-    (both_told (bytes_eq name (codes "put")) (put_command line tokens (word ∷ words)) _ (put_names line tokens words) _ (put_told line tokens word words)
-    (both_told (bytes_eq name (codes "attr")) (attr_command line tokens words) _ (attr_names line tokens words) _ (attr_told line tokens words)
-    (both_told (bytes_eq name (codes "title")) (title_command line tokens words) (with_atoms (atom_command name) (atoms_in line tokens words)) [] (names_in_atoms name (atoms_in line tokens words)) (title_told line tokens words) (atoms_told name (atoms_in line tokens words))))))
+-- ---- a line
 
-worded_told : (line : List ℕ) (tokens : List Token) (word : Word) (words : List Word) (name : Option (List ℕ)) → TellsNames (worded_command line tokens word words name) (names_worded line tokens words name)
+after_told : (line : List ℕ) (tokens : List Token) (word : Word) (words : List Word) (name : List ℕ) → TellsFirst (named_command line tokens word words name) (wanted_after line tokens words name)
+after_told line tokens word words name =
+    both_told (bytes_eq name (codes "place")) (place_command line tokens words) _ (place_wanted line tokens words) _ (place_told line tokens words)
+    (both_told (bytes_eq name (codes "cattr")) (cattr_command line tokens words) _ (cattr_wanted line tokens words) _ (cattr_told line tokens words)
+    (both_told (bytes_eq name (codes "put")) (put_command line tokens (word ∷ words)) _ (put_wanted line tokens words) _ (put_told line tokens word words)
+    (both_told (bytes_eq name (codes "attr")) (attr_command line tokens words) _ (attr_wanted line tokens words) _ (attr_told line tokens words)
+    (both_told (bytes_eq name (codes "title")) (title_command line tokens words) (with_atoms (atom_command name) (atoms_in line tokens words)) nothing (wanted_of_atoms name (atoms_in line tokens words)) (title_told line tokens words) (atoms_told name (atoms_in line tokens words))))))
+
+worded_told : (line : List ℕ) (tokens : List Token) (word : Word) (words : List Word) (name : Option (List ℕ)) → TellsFirst (worded_command line tokens word words name) (wanted_worded line tokens words name)
 worded_told line tokens word words None = inl refl
 worded_told line tokens word words (Some name) = after_told line tokens word words name
 
-all_told : (line : List ℕ) (tokens : List Token) (words : List Word) → TellsNames (command_of_words line tokens words) (names_of_words line tokens words)
+all_told : (line : List ℕ) (tokens : List Token) (words : List Word) → TellsFirst (command_of_words line tokens words) (wanted_of_words line tokens words)
 all_told line tokens [] = inl refl
 all_told line tokens (word ∷ words) = worded_told line tokens word words (atom_of line tokens word)
 
-read_told : (line : List ℕ) (read : Result (List Token) WordFault) → TellsNames (command_read line read) (names_read line read)
+read_told : (line : List ℕ) (read : Result (List Token) WordFault) → TellsFirst (command_read line read) (wanted_read line read)
 read_told line (Err fault) = inl refl
 read_told line (Ok tokens) = all_told line tokens (top_words tokens)
 
-pub line_told : (line : List ℕ) → TellsNames (command_of line) (names_of_line line)
+pub line_told : (line : List ℕ) → TellsFirst (command_of line) (wanted_of_line line)
 line_told line = read_told line (words_of line)
+
+-- ---- names come first
+
+abbrev name_in : Option Refusal → Option ℕ
+name_in None = None
+name_in (Some refusal) = told_name (Bad refusal)
+
+same_name : (command : Command) → told_name command ≡ name_in (told command)
+same_name (Bad refusal) = refl
+same_name (Edit edit) = refl
+same_name (Query query) = refl
+
+first_name : (bad number : Option ℕ) (view : Option ViewFault) (shape : Option ShapeFault)
+    → name_in (first_of (option_map Name bad ∷ option_map Number number ∷ option_map View view ∷ option_map Shape shape ∷ [])) ≡ bad
+first_name (Some word) number view shape = refl
+first_name None (Some word) view shape = refl
+first_name None None (Some fault) shape = refl
+first_name None None None (Some fault) = refl
+first_name None None None None = refl
+
+names_told : (command : Command) (w : Wanted) → TellsFirst command w → TellsNames command w.names
+names_told command w (inl form) = inl form
+names_told command w (inr first) = inr (same_name command ∙ ap name_in first ∙ first_name (first_unnamed w.names) (first_out w.numbers) w.view w.shape)
+
+pub names_first : (line : List ℕ) → TellsNames (command_of line) (names_of_line line)
+names_first line = names_told (command_of line) (wanted_of_line line) (line_told line)

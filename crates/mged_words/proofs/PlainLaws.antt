@@ -1,10 +1,9 @@
 -- The command of a line has names and refusals that stand on one line.
-use Rattle.std.proofs.Common.{zero, suc, get_or, ◌/◌, ◌%◌, nat_lt, is_some, is_none, ◌≡◌, ◌<◌, ◌≤◌, ◌+◌, ◌++◌, ◌==◌, ◌&&◌, ℕ, ℤ, Bool, true, false, cond, List, [], ◌∷◌, All, Option, Some, None, Result, Ok, Err, is_ok, length, map, codes, decimal, bytes_eq, refl, arith}
+use Rattle.std.proofs.Common.{zero, suc, get_or, ◌/◌, ◌%◌, nat_lt, is_some, is_none, unwrap_or, ◌≡◌, ◌<◌, ◌≤◌, ◌+◌, ◌++◌, ◌==◌, ◌&&◌, ℕ, ℤ, Bool, true, false, cond, List, [], ◌∷◌, All, Option, Some, None, Result, Ok, Err, is_ok, length, map, codes, decimal, bytes_eq, refl, arith}
 use Rattle.std.proofs.lemmas.Bool.{and_parts, leb-true}
 use Rattle.std.proofs.lemmas.Int.{ints}
 use Rattle.std.specs.Int.RustNames.{unsigned_abs}
 use Rattle.std.specs.List.{AllByRecursion}
-use Rattle.std.specs.Fmt.{digits, digits_onto, digit_glyph}
 use Rattle.std.proofs.lemmas.List.Elements.{All-append}
 use Rattle.lattice_core.specs.declared.ray.Dir.{Dir}
 use Rattle.lattice_core.specs.declared.vector.V3.{V3}
@@ -16,9 +15,9 @@ use Rattle.transcript.specs.Merge.{Entry, entry}
 use Rattle.transcript.specs.Lines.{Lacks}
 use Rattle.transcript.proofs.LineLaws.{lacks_append}
 use Rattle.transcript.proofs.TranscriptLaws.{computed}
-use Rattle.word_values.specs.Atoms.{all_numbers, atoms_in, solid_number, value_of, view_number}
-use Rattle.mged_words.specs.Commands.{unless_refused, name_fault, names_fault, members_fault, number_fault, matrix_fault, setting_fault, make_command, solid_command, kind_command, in_command, direction_of, world_fault, is_from_world, is_in_world, ray_of, shot_command, nirt_command, entry_of, entries_of, region_command, r_command, g_command, rm_command, kill_command, mvall_command, save_command, ls_command, placement_or, placement_given, placed_command, sixteen_command, matrix_command, matrix_words, place_with, place_command, set_command, set_with, cattr_command, with_atoms, atom_command, named_command, worded_command, refusal_of_put, put_made, put_command, title_command, keep_fault, pairs_or_none, kept_command, keep_command, is_set, attr_command, l_command, tree_command, command_of_words, command_read, command_of}
-use Rattle.word_values.specs.Matrices.{placement_read}
+use Rattle.word_values.specs.Atoms.{atoms_in, solid_number, value_of, view_number}
+use Rattle.mged_words.specs.Commands.{unless_refused, name_fault, names_fault, members_fault, numbers_fault, placement_fault, setting_fault, make_command, solid_command, kind_command, in_command, direction_of, world_fault, is_from_world, is_in_world, ray_of, shot_command, nirt_command, entry_of, entries_of, region_command, r_command, g_command, rm_command, kill_command, mvall_command, save_command, ls_command, sixteen_command, matrix_command, matrix_step, matrix_words, place_with, place_command, set_command, set_with, cattr_command, with_atoms, atom_command, named_command, worded_command, refusal_of_put, put_made, put_command, title_command, keep_fault, pairs_or_none, kept_command, keep_command, is_set, attr_command, l_command, tree_command, command_of_words, command_read, command_of}
+use Rattle.word_values.specs.Matrices.{placement_read, identity}
 use Rattle.mged_words.specs.Readable.{ArePlain, ArePlainPairs, IsPlain, IsPlainRefusal, IsReadable}
 use Rattle.plane_geom.specs.declared.fault.ShapeFault.{ShapeFault}
 use Rattle.plane_geom.specs.declared.fault.ShapeFault.TheVariants.{Flat, NotPlanar, NotConvex, Radius, ZeroNormal}
@@ -29,7 +28,7 @@ use Rattle.command_set.specs.Refusals.{shape_text}
 use Rattle.command_set.specs.declared.refusal.ViewFault.TheVariants.{World}
 use Rattle.command_set.specs.declared.command.Command.{Command}
 use Rattle.command_set.specs.declared.command.Command.TheVariants.{Bad, Edit, Query}
-use Rattle.command_set.specs.declared.command.Edit.TheVariants.{Region, Group, Remove, Kill, RenameAll, Title, Keep, Set}
+use Rattle.command_set.specs.declared.command.Edit.TheVariants.{Region, Group, Remove, Kill, RenameAll, Place, Title, Keep, Set}
 use Rattle.tcl_words.specs.declared.token.Token.{Token}
 use Rattle.tcl_words.specs.declared.token.Word.{Word}
 use Rattle.tcl_words.specs.declared.fault.WordFault.{WordFault}
@@ -48,50 +47,28 @@ use Rattle.put_form.specs.Pairs.{pairs_of}
 use Rattle.put_form.specs.Puts.{Put as PutRead, put_of}
 use Rattle.put_form.specs.declared.fault.PutFault.{PutFault}
 use Rattle.put_form.specs.declared.fault.PutFault.TheVariants as put
-use Rattle.mged_words.proofs.PutLaws.{name_lacks, IsNamedPut, IsPlainKept, put_named, kept_plain as read_kept_plain}
+use Rattle.put_form.proofs.OneLine.{name_lacks, number_lacks}
+use Rattle.mged_words.proofs.PutLaws.{IsNamedPut, IsPlainKept, put_named, kept_plain as read_kept_plain}
 use Rattle.command_set.specs.declared.refusal.Refusal.{Refusal}
 use Rattle.command_set.specs.declared.refusal.Refusal.TheVariants.{Syntax, Name, Number, View, Shape}
-
--- decimals
-glyph_lacks : (r : ℕ) → digit_glyph false r ≡ 10 → ⊥
-glyph_lacks r e = by_test (nat_lt r 10) r e
-  where
-    by_test : (t : Bool) (r : ℕ) → cond t (48 + r) (87 + r) ≡ 10 → ⊥
-    by_test true r e = omega (arith, e)
-    by_test false r e = omega (arith, e)
-
-step_lacks : (t : Bool) (xs ys : List ℕ) → Lacks 10 xs → Lacks 10 ys → Lacks 10 (cond t xs ys)
-step_lacks true xs ys h k = h
-step_lacks false xs ys h k = k
-
-onto_lacks : (k n : ℕ) (rest : List ℕ) → Lacks 10 rest → Lacks 10 (digits_onto k 10 false n rest)
-onto_lacks zero n rest h = h
-onto_lacks (suc k) n rest h =
-    let glyph : Lacks 10 (digit_glyph false (n % 10) ∷ rest) = (glyph_lacks (n % 10), h) in
-    step_lacks (n / 10 == 0) _ _ glyph (onto_lacks k (n / 10) _ glyph)
-
--- a decimal of any size
-pub decimal_one_line : (n : ℕ) → Lacks 10 (decimal n)
-unfolding digits
-decimal_one_line n = onto_lacks 64 n [] tt
 
 -- refusals
 plain_syntax : IsPlainRefusal Syntax
 plain_syntax = record { one_line = computed 10 (codes "syntax") refl; other = refl }
 
 plain_name : (word : ℕ) → IsPlainRefusal (Name word)
-plain_name word = record { one_line = lacks_append 10 (codes "name ") (decimal word) (computed 10 (codes "name ") refl) (decimal_one_line word); other = refl }
+plain_name word = record { one_line = lacks_append 10 (codes "name ") (decimal word) (computed 10 (codes "name ") refl) (number_lacks word); other = refl }
 
 plain_number : (word : ℕ) → IsPlainRefusal (Number word)
-plain_number word = record { one_line = lacks_append 10 (codes "number ") (decimal word) (computed 10 (codes "number ") refl) (decimal_one_line word); other = refl }
+plain_number word = record { one_line = lacks_append 10 (codes "number ") (decimal word) (computed 10 (codes "number ") refl) (number_lacks word); other = refl }
 
 plain_world : IsPlainRefusal (View World)
 plain_world = record { one_line = computed 10 (codes "view world") refl; other = refl }
 
 shape_one_line : (fault : ShapeFault) → Lacks 10 (shape_text fault)
 shape_one_line Flat = computed 10 (codes "flat") refl
-shape_one_line (NotPlanar face) = lacks_append 10 (codes "planar ") (decimal face) (computed 10 (codes "planar ") refl) (decimal_one_line face)
-shape_one_line (NotConvex face) = lacks_append 10 (codes "convex ") (decimal face) (computed 10 (codes "convex ") refl) (decimal_one_line face)
+shape_one_line (NotPlanar face) = lacks_append 10 (codes "planar ") (decimal face) (computed 10 (codes "planar ") refl) (number_lacks face)
+shape_one_line (NotConvex face) = lacks_append 10 (codes "convex ") (decimal face) (computed 10 (codes "convex ") refl) (number_lacks face)
 shape_one_line Radius = computed 10 (codes "radius") refl
 shape_one_line ZeroNormal = computed 10 (codes "normal") refl
 
@@ -116,10 +93,10 @@ may_unless : (t : Bool) (refusal : Refusal) → IsPlainRefusal refusal → MayBe
 may_unless true refusal h = h
 may_unless false refusal h = tt
 
-may_number : (word : ℕ) (numbers : List (Option ℤ)) → MayBePlain (number_fault word numbers)
-may_number word [] = tt
-may_number word (None ∷ rest) = plain_number word
-may_number word (Some n ∷ rest) = may_number (word + 1) rest
+may_number : (word step : ℕ) (numbers : List (Option ℤ)) → MayBePlain (numbers_fault word step numbers)
+may_number word step [] = tt
+may_number word step (None ∷ rest) = plain_number word
+may_number word step (Some n ∷ rest) = may_number (word + step) step rest
 
 may_pick : (t : Bool) (x y : Option Refusal) → MayBePlain x → MayBePlain y → MayBePlain (cond t x y)
 may_pick true x y h k = h
@@ -142,8 +119,8 @@ make_plain name (Err fault) h = plain_shape fault
 
 solid_plain : (name : List ℕ) (kind : SolidKind) (numbers : List (Option ℤ)) → IsPlain (solid_command name kind numbers)
 solid_plain name kind numbers =
-    unless_plain (name_fault 2 name ∷ number_fault 4 numbers ∷ []) (make_command name (solid_made kind numbers))
-    (may_if (is_ok (read_name name)) (Name 2) (plain_name 2), (may_number 4 numbers, tt))
+    unless_plain (name_fault 2 name ∷ numbers_fault 4 1 numbers ∷ []) (make_command name (solid_made kind numbers))
+    (may_if (is_ok (read_name name)) (Name 2) (plain_name 2), (may_number 4 1 numbers, tt))
     (λ all. make_plain name (solid_made kind numbers) (name_read 2 name all.0))
 
 in_range : (c : ℤ) → is_in_world c ≡ true → IsAtMost WORLD c
@@ -184,8 +161,8 @@ names_plain word step (atom ∷ rest) h =
 shot_plain : (numbers : List (Option ℤ)) (dir : Option Dir) (names : List (List ℕ)) → IsPlain (shot_command numbers dir names)
 shot_plain numbers None names = plain_syntax
 shot_plain numbers (Some dir) names =
-    unless_plain (names_fault 6 1 names ∷ number_fault 2 numbers ∷ world_fault (vector_at numbers 0) ∷ []) (Query (Shot (ray_of (vector_at numbers 0) dir) names))
-    (may_names 6 1 names, (may_number 2 numbers, (may_if (is_from_world (vector_at numbers 0)) (View World) plain_world, tt)))
+    unless_plain (names_fault 6 1 names ∷ numbers_fault 2 1 numbers ∷ world_fault (vector_at numbers 0) ∷ []) (Query (Shot (ray_of (vector_at numbers 0) dir) names))
+    (may_names 6 1 names, (may_number 2 1 numbers, (may_if (is_from_world (vector_at numbers 0)) (View World) plain_world, tt)))
     (λ all. record { one_line = names_plain 6 1 names all.0; in_world = world_read (vector_at numbers 0) all.1.1.0 })
 
 nirt_plain : (atoms : List (List ℕ)) → IsPlain (nirt_command atoms)
@@ -247,30 +224,26 @@ ls_plain : (atoms : List (List ℕ)) → IsPlain (ls_command atoms)
 ls_plain [] = tt
 ls_plain (a ∷ rest) = plain_syntax
 
-placed_plain : (comb member : List ℕ) (fault : Option Refusal) (placement : Option Placement) → MayBePlain fault → ArePlain (comb ∷ member ∷ []) → IsPlain (placed_command comb member (placement_or fault placement))
-placed_plain comb member (Some refusal) placement may names = may
-placed_plain comb member None None may names = plain_number 4
-placed_plain comb member None (Some placement) may names = (names.0, names.1.0)
+may_placement : (word : ℕ) (placement : Option Placement) → MayBePlain (placement_fault word placement)
+may_placement word None = plain_number word
+may_placement word (Some placement) = tt
 
-matrix_plain : (is_group : Bool) (numbers : List (Option ℤ)) → MayBePlain (matrix_fault is_group numbers)
-matrix_plain true numbers = may_if (is_some (all_numbers numbers)) (Number 4) (plain_number 4)
-matrix_plain false numbers = may_number 4 numbers
+matrix_plain : (comb member : List ℕ) (step : ℕ) (numbers : List (Option ℤ)) → IsPlain (matrix_command comb member step numbers)
+matrix_plain comb member step numbers =
+    let faults : List (Option Refusal) = names_fault 2 1 (comb ∷ member ∷ []) ∷ numbers_fault 4 step numbers ∷ placement_fault 4 (placement_read numbers) ∷ [] in
+    unless_plain faults (Edit (Place comb member (unwrap_or (placement_read numbers) identity)))
+    (may_names 2 1 (comb ∷ member ∷ []), (may_number 4 step numbers, (may_placement 4 (placement_read numbers), tt)))
+    (λ all. let fine = names_plain 2 1 (comb ∷ member ∷ []) all.0 in (fine.0, fine.1.0))
 
-sixteen_plain : (comb member : List ℕ) (is_group : Bool) (atoms : List (List ℕ)) → IsPlain (sixteen_command comb member is_group atoms)
-sixteen_plain comb member is_group atoms =
-    either_plain (length atoms == 16) (unless_refused (names_fault 2 1 (comb ∷ member ∷ []) ∷ []) (placed_command comb member (placement_given is_group (map view_number atoms)))) (Bad Syntax)
-    (unless_plain (names_fault 2 1 (comb ∷ member ∷ []) ∷ []) (placed_command comb member (placement_given is_group (map view_number atoms))) (may_names 2 1 (comb ∷ member ∷ []), tt)
-    (λ all. placed_plain comb member (matrix_fault is_group (map view_number atoms)) (placement_read (map view_number atoms)) (matrix_plain is_group (map view_number atoms)) (names_plain 2 1 (comb ∷ member ∷ []) all.0)))
-    plain_syntax
-
-words_plain : (comb member : List ℕ) (is_group : Bool) (atoms : Option (List (List ℕ))) → IsPlain (matrix_command comb member is_group atoms)
-words_plain comb member is_group None = plain_syntax
-words_plain comb member is_group (Some atoms) = sixteen_plain comb member is_group atoms
+sixteen_plain : (comb member : List ℕ) (step : ℕ) (atoms : Option (List (List ℕ))) → IsPlain (sixteen_command comb member step atoms)
+sixteen_plain comb member step None = plain_syntax
+sixteen_plain comb member step (Some atoms) =
+    either_plain (length atoms == 16) (matrix_command comb member step (map view_number atoms)) (Bad Syntax) (matrix_plain comb member step (map view_number atoms)) plain_syntax
 
 with_plain : (line : List ℕ) (tokens : List Token) (words : List Word) (comb member : Option (List ℕ)) → IsPlain (place_with line tokens words comb member)
 with_plain line tokens words None member = plain_syntax
 with_plain line tokens words (Some comb) None = plain_syntax
-with_plain line tokens words (Some comb) (Some member) = words_plain comb member (length words == 1) (matrix_words line tokens words)
+with_plain line tokens words (Some comb) (Some member) = sixteen_plain comb member (matrix_step words) (matrix_words line tokens words)
 
 place_plain : (line : List ℕ) (tokens : List Token) (words : List Word) → IsPlain (place_command line tokens words)
 place_plain line tokens [] = plain_syntax

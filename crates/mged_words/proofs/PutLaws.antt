@@ -1,9 +1,9 @@
 -- The name and the members of an object that was read, and the attributes that are kept, have no line feed.
-use Rattle.std.proofs.Common.{All, ◌≡◌, ◌≢◌, ◌==◌, ◌&&◌, ◌+◌, ◌∷◌, ◌++◌, [], ℕ, ℤ, Bool, true, false, not, cond, find, nat_lt, List, length, map, take, Option, Some, None, is_some, Result, Ok, Err, is_ok, arith, refl, sym, subst, true≢false}
+use Rattle.std.proofs.Common.{All, ◌≡◌, ◌≢◌, ◌==◌, ◌&&◌, ◌+◌, ◌∷◌, ◌++◌, [], ℕ, ℤ, Bool, true, false, not, cond, find, nat_lt, List, length, map, take, Option, Some, None, is_some, Result, Ok, Err, is_ok, refl}
 use Rattle.std.specs.List.{AllByRecursion, list_all, slice_range}
 use Rattle.std.proofs.lemmas.Bool.{and_parts}
 use Rattle.std.proofs.lemmas.List.Elements.{All-head, All-tail}
-use Rattle.name_core.specs.NameText.{IsName, is_first_byte, is_next_byte, read_name}
+use Rattle.name_core.specs.NameText.{read_name}
 use Rattle.name_core.proofs.NameLaws.{accepted}
 use Rattle.transcript.specs.Lines.{Lacks}
 use Rattle.tcl_words.specs.TopWords.{atom_of}
@@ -36,16 +36,8 @@ use Rattle.put_form.specs.declared.kind.SolidForm.{SolidForm}
 use Rattle.put_form.proofs.ListLaws.{both}
 use Rattle.put_form.proofs.KeepLaws.{text_value}
 use Rattle.mged_words.specs.Readable.{ArePlainPairs, IsPlainObject}
-use Rattle.mged_words.proofs.MemberLaws.{AreNamed, both_named}
-
--- a name has no line feed
-rest_lacks : (bytes : List ℕ) → All (λ b. is_next_byte b ≡ true) bytes → Lacks 10 bytes
-rest_lacks [] h = tt
-rest_lacks (b ∷ bs) h = (λ e. true≢false (sym (subst (λ x. is_next_byte x ≡ true) e (All-head (λ x. is_next_byte x ≡ true) b bs h))), rest_lacks bs (All-tail (λ x. is_next_byte x ≡ true) b bs h))
-
-pub name_lacks : (bytes : List ℕ) → IsName bytes → Lacks 10 bytes
-name_lacks [] h = absurd (omega (arith, h.some))
-name_lacks (b ∷ bs) h = (λ e. true≢false (sym (subst (λ x. is_first_byte x ≡ true) e h.first)), rest_lacks bs h.rest)
+use Rattle.put_form.proofs.MemberLaws.{AreNamed, both_named}
+use Rattle.put_form.proofs.OneLine.{name_lacks}
 
 -- the names in a tree that was read are names
 abbrev IsNamedTree : Result Comb TreeFault → Type 0

@@ -1,6 +1,6 @@
 -- Which command a line is, or the refusal that it is answered as it stands. All of a line's form is looked at first, then
 -- its names, its numbers, the ray, and the solid.
-use Rattle.std.specs.Prelude.{ℕ, ℤ, Bool, false, ◌&&◌, ◌==◌, ◌+◌, List, [], ◌∷◌, Option, Some, None, Result, Ok, Err, is_ok, is_some, is_none, map, length, codes, bytes_eq, nat_le, if◌then◌else◌}
+use Rattle.std.specs.Prelude.{ℕ, ℤ, Bool, false, ◌&&◌, ◌==◌, ◌+◌, List, [], ◌∷◌, Option, Some, None, Result, Ok, Err, is_ok, is_none, unwrap_or, map, length, codes, bytes_eq, nat_le, if◌then◌else◌}
 use Rattle.std.specs.Option.{option_map}
 use Rattle.std.specs.Int.RustNames.{unsigned_abs}
 use Rattle.lattice_core.specs.declared.limit.TheConstants.{WORLD}
@@ -33,7 +33,7 @@ use Rattle.command_set.specs.declared.refusal.Refusal.{Refusal}
 use Rattle.command_set.specs.declared.refusal.Refusal.TheVariants.{Syntax, Name, Number, View, Shape}
 use Rattle.command_set.specs.declared.refusal.ViewFault.TheVariants.{World}
 use Rattle.word_values.specs.declared.solid.SolidKind.{SolidKind}
-use Rattle.word_values.specs.Atoms.{atoms_in, words_in, solid_number, view_number, all_numbers, value_of}
+use Rattle.word_values.specs.Atoms.{atoms_in, words_in, solid_number, view_number, value_of}
 use Rattle.word_values.specs.Solids.{kind_of, number_count, solid_made, vector_at}
 use Rattle.word_values.specs.Matrices.{placement_read, identity}
 use Rattle.object_set.specs.declared.kept.KeptAttr.{KeptAttr}
@@ -58,12 +58,13 @@ abbrev pub names_fault : ℕ → ℕ → List (List ℕ) → Option Refusal
 names_fault word step [] = None
 names_fault word step (atom ∷ rest) = if is_ok (read_name atom) then names_fault (word + step) step rest else Some (Name word)
 
--- the first of the words, counted from this one, that is no number in its range
-abbrev pub number_fault : ℕ → List (Option ℤ) → Option Refusal
-number_fault word [] = None
-number_fault word (None ∷ rest) = Some (Number word)
-number_fault word (Some n ∷ rest) = number_fault (word + 1) rest
+-- the first of the words that is no number in its range, where they are counted from one number on, by steps
+abbrev pub numbers_fault : ℕ → ℕ → List (Option ℤ) → Option Refusal
+numbers_fault word step [] = None
+numbers_fault word step (None ∷ rest) = Some (Number word)
+numbers_fault word step (Some n ∷ rest) = numbers_fault (word + step) step rest
 
+-- a solid as a new object
 abbrev pub solid_object : Solid → Parts
 solid_object solid = record { body = bodies.Solid solid; kept = [] }
 
@@ -73,12 +74,12 @@ make_command name (Err fault) = Bad (Shape fault)
 
 -- the numbers of a solid, after its name was read
 abbrev pub numbers_command : List ℕ → SolidKind → List (Option ℤ) → Command
-numbers_command name kind numbers = unless_refused (number_fault 4 numbers ∷ []) (make_command name (solid_made kind numbers))
+numbers_command name kind numbers = unless_refused (numbers_fault 4 1 numbers ∷ []) (make_command name (solid_made kind numbers))
 
 -- `in NAME KIND` and the numbers of that kind
 abbrev pub solid_command : List ℕ → SolidKind → List (Option ℤ) → Command
 solid_command name kind numbers =
-    unless_refused (name_fault 2 name ∷ number_fault 4 numbers ∷ []) (make_command name (solid_made kind numbers))
+    unless_refused (name_fault 2 name ∷ numbers_fault 4 1 numbers ∷ []) (make_command name (solid_made kind numbers))
 
 abbrev pub kind_command : List ℕ → Option SolidKind → List (List ℕ) → Command
 kind_command name None atoms = Bad Syntax
@@ -108,6 +109,7 @@ is_from_world origin = is_in_world origin.x && is_in_world origin.y && is_in_wor
 abbrev pub world_fault : V3 → Option Refusal
 world_fault origin = if is_from_world origin then None else Some (View World)
 
+-- the ray from an origin in a direction
 abbrev pub ray_of : V3 → Dir → Ray
 ray_of origin dir = record { origin = origin; dir = dir }
 
@@ -118,7 +120,7 @@ shot_from origin dir names = unless_refused (world_fault origin ∷ []) (Query (
 abbrev pub shot_command : List (Option ℤ) → Option Dir → List (List ℕ) → Command
 shot_command numbers None names = Bad Syntax
 shot_command numbers (Some dir) names =
-    unless_refused (names_fault 6 1 names ∷ number_fault 2 numbers ∷ world_fault (vector_at numbers 0) ∷ []) (Query (Shot (ray_of (vector_at numbers 0) dir) names))
+    unless_refused (names_fault 6 1 names ∷ numbers_fault 2 1 numbers ∷ world_fault (vector_at numbers 0) ∷ []) (Query (Shot (ray_of (vector_at numbers 0) dir) names))
 
 abbrev pub nirt_command : List (List ℕ) → Command
 nirt_command (x ∷ y ∷ z ∷ dir ∷ name ∷ rest) = shot_command (map view_number (x ∷ y ∷ z ∷ [])) (direction_of dir) (name ∷ rest)
@@ -130,7 +132,7 @@ operator_of word =
     else (if bytes_eq word (codes "+") then Some N
     else (if bytes_eq word (codes "-") then Some Minus else None))
 
--- new members stand where they were made
+-- a new member as an entry of a list, placed where it was made
 abbrev pub entry_of : Op → List ℕ → ListEntry
 entry_of op name = record { op = op; name = name; placement = identity }
 
@@ -191,46 +193,34 @@ abbrev pub ls_command : List (List ℕ) → Command
 ls_command [] = Query Names
 ls_command _ = Bad Syntax
 
--- the refusal of numbers that all stand in one word
-abbrev pub group_fault : ℕ → List (Option ℤ) → Option Refusal
-group_fault word numbers = if is_some (all_numbers numbers) then None else Some (Number word)
+-- numbers that are no placement, or one with a shift too far
+abbrev pub placement_fault : ℕ → Option Placement → Option Refusal
+placement_fault word None = Some (Number word)
+placement_fault word (Some placement) = None
 
--- the first number of a matrix that is none; all numbers of a group have its word
-abbrev pub matrix_fault : Bool → List (Option ℤ) → Option Refusal
-matrix_fault is_group numbers = if is_group then group_fault 4 numbers else number_fault 4 numbers
+-- the sixteen numbers of a matrix, where the first is word 4, and the others are counted by steps
+abbrev pub matrix_command : List ℕ → List ℕ → ℕ → List (Option ℤ) → Command
+matrix_command comb member step numbers =
+    unless_refused (names_fault 2 1 (comb ∷ member ∷ []) ∷ numbers_fault 4 step numbers ∷ placement_fault 4 (placement_read numbers) ∷ [])
+    (Edit (Place comb member (unwrap_or (placement_read numbers) identity)))
 
--- numbers that are no placement, or one with a shift too far, are named by their first word
-abbrev pub placement_or : Option Refusal → Option Placement → Result Placement Refusal
-placement_or (Some refusal) placement = Err refusal
-placement_or None None = Err (Number 4)
-placement_or None (Some placement) = Ok placement
-
-abbrev pub placement_given : Bool → List (Option ℤ) → Result Placement Refusal
-placement_given is_group numbers = placement_or (matrix_fault is_group numbers) (placement_read numbers)
-
-abbrev pub placed_command : List ℕ → List ℕ → Result Placement Refusal → Command
-placed_command comb member (Ok placement) = Edit (Place comb member placement)
-placed_command comb member (Err refusal) = Bad refusal
-
--- sixteen numbers, each a word or all in one group
-abbrev pub sixteen_command : List ℕ → List ℕ → Bool → List (List ℕ) → Command
-sixteen_command comb member is_group atoms =
-    if length atoms == 16 then unless_refused (names_fault 2 1 (comb ∷ member ∷ []) ∷ []) (placed_command comb member (placement_given is_group (map view_number atoms)))
-    else Bad Syntax
-
-abbrev pub matrix_command : List ℕ → List ℕ → Bool → Option (List (List ℕ)) → Command
-matrix_command comb member is_group None = Bad Syntax
-matrix_command comb member is_group (Some atoms) = sixteen_command comb member is_group atoms
+abbrev pub sixteen_command : List ℕ → List ℕ → ℕ → Option (List (List ℕ)) → Command
+sixteen_command comb member step None = Bad Syntax
+sixteen_command comb member step (Some atoms) = if length atoms == 16 then matrix_command comb member step (map view_number atoms) else Bad Syntax
 
 -- the words of a matrix: those in a single group, or the words themselves
 abbrev pub matrix_words : List ℕ → List Token → List Word → Option (List (List ℕ))
 matrix_words line tokens (w ∷ []) = words_in line tokens w
 matrix_words line tokens words = atoms_in line tokens words
 
+-- a group is one word, and so all its numbers have this one
+abbrev pub matrix_step : List Word → ℕ
+matrix_step words = if length words == 1 then 0 else 1
+
 abbrev pub place_with : List ℕ → List Token → List Word → Option (List ℕ) → Option (List ℕ) → Command
 place_with line tokens words None member = Bad Syntax
 place_with line tokens words (Some comb) None = Bad Syntax
-place_with line tokens words (Some comb) (Some member) = matrix_command comb member (length words == 1) (matrix_words line tokens words)
+place_with line tokens words (Some comb) (Some member) = sixteen_command comb member (matrix_step words) (matrix_words line tokens words)
 
 -- `place COMB MEMBER` and 16 numbers, or one group of them
 abbrev pub place_command : List ℕ → List Token → List Word → Command

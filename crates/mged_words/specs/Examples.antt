@@ -1,5 +1,5 @@
 -- Small scripts and lines, and what the definitions make of them.
-use Rattle.std.specs.Prelude.{◌≡◌, refl, pos, [], ◌∷◌, Ok, Err, codes}
+use Rattle.std.specs.Prelude.{◌≡◌, refl, pos, [], ◌∷◌, true, false, Some, Ok, Err, codes}
 use Rattle.lattice_core.specs.declared.ray.Dir.TheVariants.{MinusX}
 use Rattle.plane_geom.specs.declared.fault.ShapeFault.TheVariants.{Flat, NotPlanar, NotConvex, Radius, ZeroNormal}
 use Rattle.tree_forms.specs.declared.Op.TheVariants.{U, Minus}
@@ -14,7 +14,7 @@ use Rattle.mged_words.specs.declared.script.ScriptFlaw.TheVariants as flaws
 use Rattle.mged_words.specs.Commands.{command_of, entry_of, ray_of, solid_object}
 use Rattle.word_values.specs.Matrices.{identity}
 use Rattle.mged_words.specs.OneLine.{line_of, member_words}
-use Rattle.mged_words.specs.Order.{names_of_line}
+use Rattle.mged_words.specs.Order.{first_refusal, names_of_line, numbers_of_line, wanted_of_line}
 use Rattle.mged_words.specs.Scripts.{script_of, line_numbers}
 use Rattle.solid_set.specs.Rpps.{vector}
 
@@ -427,6 +427,18 @@ names_of_a_combination = refl
 
 pub names_of_kept_attributes : names_of_line (codes "attr set c/ k v") ≡ (3, codes "c/") ∷ (4, codes "k") ∷ []
 names_of_kept_attributes = refl
+
+-- the words that are to be numbers, and whether each is one in its range
+pub numbers_of_a_shot : numbers_of_line (codes "nirt 0 x 524289 +x s/") ≡ (2, true) ∷ (3, false) ∷ (4, true) ∷ []
+numbers_of_a_shot = refl
+
+-- each value of a combination has the number of its word; one that is no value is told by it
+pub values_of_a_combination : numbers_of_line (codes "put c comb id x los 5 region {yes}") ≡ (5, false) ∷ (7, true) ∷ (9, true) ∷ []
+values_of_a_combination = refl
+
+-- the ray is looked at last, and only there
+pub ray_of_a_shot : first_refusal (wanted_of_line (codes "nirt 0 0 524289 +x s")) ≡ Some (View World)
+ray_of_a_shot = refl
 
 -- the line of a command
 pub a_line : line_of (codes "kill") (codes "a" ∷ codes "b" ∷ []) ≡ codes "kill a b"

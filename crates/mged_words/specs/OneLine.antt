@@ -1,12 +1,19 @@
 -- Lines of words that are parted by single blanks.
-use Rattle.std.specs.Prelude.{ℕ, List, ◌∷◌, [], ◌++◌, flat_map, codes}
+use Rattle.std.specs.Prelude.{◌≡◌, ◌<◌, ℕ, ℤ, true, false, List, ◌∷◌, [], ◌++◌, Option, Some, map, flat_map, length, codes}
 use Rattle.std.specs.List.{AllByRecursion}
+use Rattle.lattice_core.specs.declared.ray.Dir.{Dir}
+use Rattle.lattice_core.specs.declared.ray.Dir.TheVariants.{PlusX, MinusX, PlusY, MinusY, PlusZ, MinusZ}
 use Rattle.name_core.specs.NameText.{IsName}
+use Rattle.tcl_words.specs.Bytes.{is_atom}
+use Rattle.tcl_words.specs.Faults.{is_bad_at}
+use Rattle.word_values.specs.declared.solid.SolidKind.{SolidKind}
+use Rattle.word_values.specs.declared.solid.SolidKind.TheVariants.{Half, Rpp, Arb8, Sphere}
 use Rattle.tree_forms.specs.declared.Op.{Op}
 use Rattle.tree_forms.specs.declared.Op.TheVariants.{U, N, Minus}
 use Rattle.comb_tree.specs.declared.node.ListEntry.{ListEntry}
 use Rattle.mged_words.specs.Commands.{entry_of}
 
+-- each of the words is a name
 abbrev pub AreNames : List (List ℕ) → Type 0
 AreNames names = AllByRecursion IsName names
 
@@ -26,11 +33,43 @@ Member = Op × List ℕ
 abbrev pub HasMemberName : Member → Type 0
 HasMemberName m = IsName m.1
 
+-- each member's name is one
 abbrev pub AreMembers : List Member → Type 0
 AreMembers members = AllByRecursion HasMemberName members
 
+-- the words of a list: each member's operator and name
 abbrev pub member_words : List Member → List (List ℕ)
 member_words members = flat_map (λ (m : Member). operator_word m.0 ∷ m.1 ∷ []) members
 
+-- a member as a new entry of a list, where it stands
 abbrev pub new_entry : Member → ListEntry
 new_entry m = entry_of m.0 m.1
+
+-- the word of a kind of solid
+abbrev pub kind_word : SolidKind → List ℕ
+kind_word Half = codes "half"
+kind_word Rpp = codes "rpp"
+kind_word Arb8 = codes "arb8"
+kind_word Sphere = codes "sph"
+
+-- the word of a direction
+abbrev pub direction_word : Dir → List ℕ
+direction_word PlusX = codes "+x"
+direction_word MinusX = codes "-x"
+direction_word PlusY = codes "+y"
+direction_word MinusY = codes "-y"
+direction_word PlusZ = codes "+z"
+direction_word MinusZ = codes "-z"
+
+-- a byte of an atom outside all groups
+abbrev pub IsAtomByte : ℕ → Type 0
+IsAtomByte b = (is_atom b ≡ true) × (is_bad_at b 0 ≡ false)
+
+-- a word that is an atom
+pub record IsAtom (word : List ℕ) : Type 0 where
+  pub some : 0 < length word
+  pub bytes : AllByRecursion IsAtomByte word
+
+-- words that are read as these numbers
+abbrev pub AreNumbers : (List ℕ → Option ℤ) → List (List ℕ) → List ℤ → Type 0
+AreNumbers read words numbers = map read words ≡ map (λ (n : ℤ). Some n) numbers

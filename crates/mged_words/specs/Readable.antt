@@ -67,5 +67,6 @@ IsPlain (Bad refusal) = IsPlainRefusal refusal
 IsPlain (IsEdit edit) = IsPlainEdit edit
 IsPlain (IsQuery query) = IsPlainQuery query
 
+-- an entry whose command has a line that reads as it
 abbrev pub IsReadable : Entry Command → Type 0
 IsReadable e = IsPlain e.item

@@ -1,5 +1,7 @@
 -- What reading names, lines and a script gave.
-use Rattle.std.specs.Prelude.{◌≡◌, ℕ, List, Option, Some, None, Result, Ok, Err, map, is_none, true, false}
+use Rattle.std.specs.Prelude.{◌≡◌, ℕ, ℤ, List, [], ◌∷◌, Option, Some, None, Result, Ok, Err, map, is_none, unwrap_or, true, false}
+use Rattle.lattice_core.specs.declared.placement.Placement.{Placement}
+use Rattle.word_values.specs.Matrices.{placement_read, identity}
 use Rattle.region_attr.specs.Attrs.{is_setting}
 use Rattle.region_attr.specs.Keys.{key_of}
 use Rattle.region_attr.specs.declared.attr.AttrFault.{AttrFault}
@@ -9,7 +11,7 @@ use Rattle.command_set.specs.declared.command.Command.{Command}
 use Rattle.command_set.specs.declared.command.Command.TheVariants.{Bad}
 use Rattle.command_set.specs.declared.refusal.Refusal.{Refusal}
 use Rattle.put_form.specs.declared.fault.PutFault.{PutFault}
-use Rattle.mged_words.specs.Commands.{refusal_of_put}
+use Rattle.mged_words.specs.Commands.{refusal_of_put, numbers_fault, placement_fault}
 use Rattle.mged_words.specs.Entries.{command_entry}
 use Rattle.mged_words.specs.Scripts.{script_of}
 use Rattle.mged_words.specs.declared.command.ScriptCommand.{ScriptCommand}
@@ -34,6 +36,16 @@ abbrev pub IsRead : Result Command LineFault → Command → Type 0
 IsRead (Ok made) command = made ≡ command
 IsRead (Err (line.Refused refusal)) command = Bad refusal ≡ command
 IsRead (Err line.Memory) command = Unit {0}
+
+-- the first refusal that holds, else what was read
+abbrev pub or_refused : {T : Type 0} → List (Option Refusal) → T → Result T Refusal
+or_refused [] value = Ok value
+or_refused (Some refusal ∷ rest) value = Err refusal
+or_refused (None ∷ rest) value = or_refused rest value
+
+-- the placement of sixteen numbers, after the names before them were read
+abbrev pub matrix_read : ℕ → List (Option ℤ) → Result Placement Refusal
+matrix_read step numbers = or_refused (numbers_fault 4 step numbers ∷ placement_fault 4 (placement_read numbers) ∷ []) (unwrap_or (placement_read numbers) identity)
 
 -- what a call gave is the setting of a key and a value, or why there is none
 abbrev pub IsSettingRead : Result KeyAndValue AttrFault → List ℕ → List ℕ → Type 0

@@ -18,7 +18,7 @@ pub(crate) fn read_numbers(
     requires room { length out.old ≡ length atoms.now }
     requires few { word + length atoms.now < 2 ^ 32 }
     requires most { most < 2 ^ 62 }
-    ensures fault { result ≡ commands.number_fault word (map (values.number_to most) (map (λ a. a.now) atoms.now)) }
+    ensures fault { result ≡ commands.numbers_fault word 1 (map (values.number_to most) (map (λ a. a.now) atoms.now)) }
     ensures within { IfNone result (All (λ n. unsigned_abs n ≤ most) out.new) }
     ensures read { IfNone result (map (values.number_to most) (map (λ a. a.now) atoms.now) ≡ map (λ n. Some n) out.new) }
 {

@@ -20,6 +20,6 @@ mod shot;
 mod title;
 
 pub use command::ScriptCommand;
-pub use laws::{each_has_a_line, limit_laws, order_laws};
+pub use laws::{each_has_a_line, each_with_numbers_has_a_line, limit_laws, order_laws};
 pub use line::read_line;
 pub use script::{LINE_COUNT, LINE_SIZE, SCRIPT_SIZE, ScriptFault, ScriptFlaw, read_script};

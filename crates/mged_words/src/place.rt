@@ -1,10 +1,10 @@
 //! Reads the command that places the members of a combination.
-ghost use Rattle.std.specs.Prelude.{All, ◌≡◌, ◌==◌, cond, length, map, IfOk};
+ghost use Rattle.std.specs.Prelude.{All, ◌≡◌, Some, cond, length, map, IfOk};
 ghost use Rattle.std.specs.Option.{option_map};
 ghost use Rattle.tcl_words.specs.TopWords.{AreTokensIn, IsWordOf};
 ghost use Rattle.word_values.specs.Atoms.{view_number};
 ghost use Rattle.mged_words.specs.Commands as commands;
-ghost use Rattle.mged_words.specs.Readings.{IsRead};
+ghost use Rattle.mged_words.specs.Readings.{IsRead, matrix_read};
 
 use crate::atoms::read_numbers;
 use crate::fault::LineFault;
@@ -30,7 +30,7 @@ fn matrix_refusal(is_group: bool, refusal: Refusal) -> Refusal
 /// Reads the placement of sixteen numbers. Those of a group all have its number.
 fn read_placement(is_group: bool, atoms: &[&[u8]]) -> Result<NearPlacement, Refusal>
     requires { length atoms.now ≡ 16 }
-    ensures { result ≡ commands.placement_given is_group (map view_number (map (λ a. a.now) atoms.now)) }
+    ensures { result ≡ matrix_read (cond is_group 0 1) (map view_number (map (λ a. a.now) atoms.now)) }
 {
     let mut numbers = [0; 16];
     if let Some(refusal) = read_numbers(atoms, 4, VIEW_NUMBER, &mut numbers) {
@@ -49,7 +49,7 @@ fn sixteen_command(
     is_group: bool,
     atoms: &[&[u8]],
 ) -> Result<Command, LineFault>
-    ensures { IsRead result (commands.sixteen_command comb.now member.now is_group (map (λ a. a.now) atoms.now)) }
+    ensures { IsRead result (commands.sixteen_command comb.now member.now (cond is_group 0 1) (Some (map (λ a. a.now) atoms.now))) }
 {
     if atoms.len() != 16 {
         return Err(LineFault::Refused(Refusal::Syntax));
@@ -92,7 +92,7 @@ fn place_with(
 ) -> Result<Command, LineFault>
     requires tokens { AreTokensIn (length line.now) tokens.now }
     requires words { All (IsWordOf tokens.now) words.now }
-    ensures { IsRead result (commands.matrix_command comb.now member.now (length words.now == 1) (commands.matrix_words line.now tokens.now words.now)) }
+    ensures { IsRead result (commands.sixteen_command comb.now member.now (commands.matrix_step words.now) (commands.matrix_words line.now tokens.now words.now)) }
 {
     match matrix_words(alloc, line, tokens, words)? {
         Some(atoms) => sixteen_command(comb, member, words.len() == 1, &atoms),

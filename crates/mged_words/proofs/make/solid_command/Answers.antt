@@ -1,7 +1,7 @@
 use Rattle.std.proofs.Common.{◌∙◌, sym, ap, map, List, ℤ, Option, [], ◌∷◌, is_ok}
 use Rattle.name_core.specs.NameText.{read_name}
 use Rattle.word_values.specs.Atoms.{solid_number}
-use Rattle.mged_words.specs.Commands.{numbers_command, number_fault, make_command}
+use Rattle.mged_words.specs.Commands.{numbers_command, numbers_fault, make_command}
 use Rattle.word_values.specs.Solids.{solid_made}
 use Rattle.command_set.specs.declared.refusal.Refusal.TheVariants.{Name}
 use Rattle.mged_words.proofs.LineLaws.{past_fault, read_same}
@@ -13,4 +13,4 @@ returns-in-Ok c =
     let read = sym c.read.ensures.exact ∙ c.in-Ok.is in
     c.numbers_command.ensures
     ∙ ap (λ name. numbers_command name c.args.kind numbers) (read_same c.args.name.now c.in-Ok.name read)
-    ∙ sym (past_fault (is_ok (read_name c.args.name.now)) (Name 2) (number_fault 4 numbers ∷ []) (make_command c.args.name.now (solid_made c.args.kind numbers)) (ap is_ok read))
+    ∙ sym (past_fault (is_ok (read_name c.args.name.now)) (Name 2) (numbers_fault 4 1 numbers ∷ []) (make_command c.args.name.now (solid_made c.args.kind numbers)) (ap is_ok read))

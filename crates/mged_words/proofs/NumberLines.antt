@@ -1,0 +1,321 @@
+-- A line of names and numbers that are parted by single blanks is read as its command.
+use Rattle.std.proofs.Common.{◌≡◌, ◌<◌, ◌+◌, ◌++◌, ◌==◌, ◌&&◌, ◌||◌, ◌∙◌, ℕ, ℤ, suc, Bool, true, false, cond, List, [], ◌∷◌, length, drop, map, get_or, codes, Option, Some, None, is_none, is_ok, unwrap_or, Ok, IsTrue, arith, refl, ap, sym, subst, length-append, eqb-true}
+use Rattle.std.specs.List.{AllByRecursion, list_all, cons_option, range_with_len, slice_range}
+use Rattle.std.specs.Prelude.{filter_map}
+use Rattle.std.specs.Option.{option_map}
+use Rattle.std.specs.Char.{is_ascii_digit}
+use Rattle.std.specs.Int.RustNames.{unsigned_abs}
+use Rattle.std.proofs.lemmas.Bool.{and_parts, cond-true, cond-false, eq-eqb, ne_eqb, le-leb}
+use Rattle.std.proofs.lemmas.Bool.Decides.{nat_tests}
+use Rattle.std.proofs.lemmas.Int.{ints}
+use Rattle.std.proofs.lemmas.List.{length-map}
+use Rattle.lattice_core.specs.Limits.{IsAtMost, IsWithin}
+use Rattle.lattice_core.specs.declared.limit.TheConstants.{WORLD}
+use Rattle.lattice_core.specs.declared.placement.Placement.{Placement}
+use Rattle.lattice_core.specs.declared.ray.Dir.{Dir}
+use Rattle.lattice_core.specs.declared.ray.Dir.TheVariants.{PlusX, MinusX, PlusY, MinusY, PlusZ, MinusZ}
+use Rattle.lattice_core.specs.declared.vector.V3.{V3}
+use Rattle.name_core.specs.NameText.{IsName, read_name}
+use Rattle.name_core.proofs.NameLaws.{accepted}
+use Rattle.tcl_words.specs.Bytes.{is_atom}
+use Rattle.tcl_words.specs.Faults.{is_bad_at}
+use Rattle.tcl_words.specs.Numbers.{AreDigits, is_tail, is_zero, number_of}
+use Rattle.tcl_words.specs.NumberForm.{Sign, NoSign, Plus, Minus, sign_text, IsNumber}
+use Rattle.tcl_words.specs.Pieces.{pieces}
+use Rattle.tcl_words.specs.TopWords.{atom_of, top_words, word_at}
+use Rattle.tcl_words.specs.declared.token.Token.{Token}
+use Rattle.tcl_words.specs.declared.token.Word.{Word}
+use Rattle.tcl_words.proofs.Forms.{read_form}
+use Rattle.tcl_words.proofs.Written.{AtomBytes}
+use Rattle.region_attr.specs.Attrs.{is_setting, known_takes}
+use Rattle.region_attr.specs.Keys.{key_of}
+use Rattle.region_attr.specs.declared.key.Key.{Key}
+use Rattle.solid_set.specs.declared.solid.Solid.{Solid}
+use Rattle.word_values.specs.Atoms.{all_atoms, all_numbers, kept_to, number_to, solid_number, view_number}
+use Rattle.word_values.specs.Matrices.{placement_in, placement_of_all, placement_read, identity}
+use Rattle.word_values.specs.Solids.{kind_of, number_count, solid_made}
+use Rattle.word_values.specs.declared.solid.SolidKind.{SolidKind}
+use Rattle.word_values.specs.declared.solid.SolidKind.TheVariants.{Half, Rpp, Arb8, Sphere}
+use Rattle.command_set.specs.declared.command.Command.{Command}
+use Rattle.command_set.specs.declared.command.Command.TheVariants.{Bad, Edit, Query}
+use Rattle.command_set.specs.declared.command.Edit.TheVariants.{Make, Place, Set}
+use Rattle.command_set.specs.declared.command.Query.TheVariants.{Shot}
+use Rattle.command_set.specs.declared.refusal.Refusal.{Refusal}
+use Rattle.command_set.specs.declared.refusal.Refusal.TheVariants.{Syntax, Number, View}
+use Rattle.command_set.specs.declared.refusal.ViewFault.TheVariants.{World}
+use Rattle.mged_words.specs.Commands.{unless_refused, name_fault, names_fault, numbers_fault, solid_object, make_command, solid_command, kind_command, direction_of, is_in_world, is_from_world, world_fault, ray_of, shot_command, placement_fault, matrix_command, sixteen_command, matrix_words, matrix_step, place_with, setting_fault, set_command, set_with, worded_command, command_of_words, command_read, command_of}
+use Rattle.mged_words.specs.OneLine.{AreNames, AreNumbers, IsAtom, IsAtomByte, line_of, kind_word, direction_word}
+use Rattle.mged_words.proofs.SettingLaws.{no_key}
+use Rattle.mged_words.proofs.OneLineLaws.{IsAtomWord, HasAtoms, atoms, atoms_from, line_is, line_read, line_command, name_good, names_good, all_there, fine_names, one_word, word_here, text_here, rest_here, unless_both}
+
+-- ---- numbers are atoms
+
+digit_atom : (b : ℕ) → is_ascii_digit b ≡ true → is_atom b ≡ true
+digit_atom b is = grind (arith, nat_tests)
+
+digit_good : (b : ℕ) → is_ascii_digit b ≡ true → is_bad_at b 0 ≡ false
+digit_good b is = grind (arith, nat_tests)
+
+digits_good : (ds : List ℕ) → AreDigits ds → AtomBytes 0 ds
+digits_good [] are = tt
+digits_good (d ∷ ds) are =
+    let here : is_ascii_digit d ≡ true = are 0 (omega arith) in
+    (digit_atom d here, digit_good d here, digits_good ds (λ k below. are (suc k) (omega (arith, below))))
+
+zeros_good : (zs : List ℕ) → list_all is_zero zs ≡ true → AtomBytes 0 zs
+zeros_good [] all = tt
+zeros_good (z ∷ zs) all =
+    let both = and_parts (z == 48) (list_all is_zero zs) all in
+    let same : 48 ≡ z = sym (eqb-true z 48 both.0) in
+    (subst (λ b. is_atom b ≡ true) same refl, subst (λ b. is_bad_at b 0 ≡ false) same refl, zeros_good zs both.1)
+
+or_right : (a b : Bool) → (a || b) ≡ true → a ≡ false → b ≡ true
+or_right true b h k = absurd cc
+or_right false b h k = h
+
+tail_good : (tail : List ℕ) → is_tail tail ≡ true → AtomBytes 0 tail
+tail_good [] is = tt
+tail_good (b ∷ bs) is =
+    let both = and_parts (b == 46) (list_all is_zero bs) (or_right (suc (length bs) == 0) ((b == 46) && list_all is_zero bs) is (ne_eqb (suc (length bs)) 0 (λ e. omega (arith, e)))) in
+    let same : 46 ≡ b = sym (eqb-true b 46 both.0) in
+    (subst (λ x. is_atom x ≡ true) same refl, subst (λ x. is_bad_at x 0 ≡ false) same refl, zeros_good bs both.1)
+
+sign_good : (sign : Sign) → AtomBytes 0 (sign_text sign)
+sign_good NoSign = tt
+sign_good Plus = (refl, refl, tt)
+sign_good Minus = (refl, refl, tt)
+
+bytes_append : (xs ys : List ℕ) → AtomBytes 0 xs → AtomBytes 0 ys → AtomBytes 0 (xs ++ ys)
+bytes_append [] ys h k = k
+bytes_append (x ∷ xs) ys h k = (h.0, h.1, bytes_append xs ys h.2 k)
+
+number_word : (atom : List ℕ) (n : ℤ) → number_of atom ≡ Some n → IsAtomWord atom
+number_word atom n is =
+    let form : IsNumber atom n = read_form atom n is in
+    let rest : List ℕ = form.digits ++ form.tail in
+    let some : 0 < length (sign_text form.sign ++ rest) = omega (arith, length-append (sign_text form.sign) rest, length-append form.digits form.tail, form.some) in
+    let bytes : AtomBytes 0 (sign_text form.sign ++ rest) = bytes_append (sign_text form.sign) rest (sign_good form.sign) (bytes_append form.digits form.tail (digits_good form.digits form.are_digits) (tail_good form.tail form.zeros)) in
+    subst IsAtomWord (sym form.spelled) (some, bytes)
+
+kept_some : (most : ℕ) (o : Option ℤ) (n : ℤ) → kept_to most o ≡ Some n → (m : ℤ) × (o ≡ Some m)
+kept_some most None n h = absurd cc
+kept_some most (Some m) n h = (m, refl)
+
+ranged_word : (most : ℕ) (atom : List ℕ) (n : ℤ) → number_to most atom ≡ Some n → IsAtomWord atom
+ranged_word most atom n h = let found = kept_some most (number_of atom) n h in number_word atom found.0 found.1
+
+first_read : (o p : Option ℤ) (os ps : List (Option ℤ)) → o ∷ os ≡ p ∷ ps → o ≡ p
+first_read o p os ps h = ap (λ (xs : List (Option ℤ)). get_or xs 0 None) h
+
+rest_read : (o p : Option ℤ) (os ps : List (Option ℤ)) → o ∷ os ≡ p ∷ ps → os ≡ ps
+rest_read o p os ps h = ap (λ (xs : List (Option ℤ)). drop 1 xs) h
+
+numbers_words : (most : ℕ) (words : List (List ℕ)) (numbers : List ℤ) → map (number_to most) words ≡ map (λ (n : ℤ). Some n) numbers → AllByRecursion IsAtomWord words
+numbers_words most [] numbers h = tt
+numbers_words most (w ∷ ws) [] h = absurd cc
+numbers_words most (w ∷ ws) (n ∷ ns) h =
+    let some : List ℤ → List (Option ℤ) = map (λ (m : ℤ). Some m) in
+    (ranged_word most w n (first_read (number_to most w) (Some n) (map (number_to most) ws) (some ns) h), numbers_words most ws ns (rest_read (number_to most w) (Some n) (map (number_to most) ws) (some ns) h))
+
+-- ---- numbers that are numbers are not refused
+
+all_fine : (word step : ℕ) (numbers : List ℤ) → numbers_fault word step (map (λ (n : ℤ). Some n) numbers) ≡ None
+all_fine word step [] = refl
+all_fine word step (n ∷ ns) = all_fine (word + step) step ns
+
+unless_three : (one two three : Option Refusal) (command : Command) → one ≡ None → two ≡ None → three ≡ None → unless_refused (one ∷ two ∷ three ∷ []) command ≡ command
+unless_three one two three command h k l = ap (λ (o : Option Refusal). unless_refused (o ∷ two ∷ three ∷ []) command) h ∙ unless_both two three command k l
+
+-- ---- a solid
+
+kind_again : (kind : SolidKind) → kind_of (kind_word kind) ≡ Some kind
+kind_again Half = refl
+kind_again Rpp = refl
+kind_again Arb8 = refl
+kind_again Sphere = refl
+
+kind_good : (kind : SolidKind) → IsAtomWord (kind_word kind)
+kind_good Half = (omega arith, (refl, refl, (refl, refl, (refl, refl, (refl, refl, tt)))))
+kind_good Rpp = (omega arith, (refl, refl, (refl, refl, (refl, refl, tt))))
+kind_good Arb8 = (omega arith, (refl, refl, (refl, refl, (refl, refl, (refl, refl, tt)))))
+kind_good Sphere = (omega arith, (refl, refl, (refl, refl, (refl, refl, tt))))
+
+pub in_line : (name : List ℕ) (kind : SolidKind) (words : List (List ℕ)) (numbers : List ℤ) (solid : Solid) → IsName name → length words ≡ number_count kind → AreNumbers solid_number words numbers
+    → solid_made kind (map (λ (n : ℤ). Some n) numbers) ≡ Ok solid → command_of (line_of (codes "in") (name ∷ kind_word kind ∷ words)) ≡ Edit (Make name (solid_object solid))
+in_line name kind words numbers solid is len are made =
+    let read : List (Option ℤ) = map (λ (n : ℤ). Some n) numbers in
+    let named : AreNames (name ∷ []) = (is, tt) in
+    line_command (codes "in") (name ∷ kind_word kind ∷ words) (λ line tokens w rest. refl) (omega arith, (refl, refl, (refl, refl, tt))) (name_good name is, (kind_good kind, numbers_words 16384 words numbers are))
+    ∙ ap (λ (o : Option SolidKind). kind_command name o words) (kind_again kind)
+    ∙ cond-true (length words == number_count kind) (solid_command name kind (map solid_number words)) (Bad Syntax) (eq-eqb _ _ len)
+    ∙ ap (solid_command name kind) are
+    ∙ unless_both (name_fault 2 name) (numbers_fault 4 1 read) (make_command name (solid_made kind read)) (fine_names 2 1 (name ∷ []) named) (all_fine 4 1 numbers)
+    ∙ ap (make_command name) made
+
+-- ---- a ray
+
+direction_again : (dir : Dir) → direction_of (direction_word dir) ≡ Some dir
+direction_again PlusX = refl
+direction_again MinusX = refl
+direction_again PlusY = refl
+direction_again MinusY = refl
+direction_again PlusZ = refl
+direction_again MinusZ = refl
+
+direction_good : (dir : Dir) → IsAtomWord (direction_word dir)
+direction_good PlusX = (omega arith, (refl, refl, (refl, refl, tt)))
+direction_good MinusX = (omega arith, (refl, refl, (refl, refl, tt)))
+direction_good PlusY = (omega arith, (refl, refl, (refl, refl, tt)))
+direction_good MinusY = (omega arith, (refl, refl, (refl, refl, tt)))
+direction_good PlusZ = (omega arith, (refl, refl, (refl, refl, tt)))
+direction_good MinusZ = (omega arith, (refl, refl, (refl, refl, tt)))
+
+inside : (c : ℤ) → IsAtMost WORLD c → is_in_world c ≡ true
+inside c h = le-leb (unsigned_abs c) (unsigned_abs WORLD) (omega (arith, ints, h.0, h.1))
+
+from_world : (origin : V3) → IsWithin WORLD origin → is_from_world origin ≡ true
+from_world origin h =
+    ap (λ (t : Bool). t && is_in_world origin.y && is_in_world origin.z) (inside origin.x h.x)
+    ∙ ap (λ (t : Bool). t && is_in_world origin.z) (inside origin.y h.y)
+    ∙ inside origin.z h.z
+
+pub nirt_line : (x y z : List ℕ) (origin : V3) (dir : Dir) (first : List ℕ) (rest : List (List ℕ)) → AreNumbers view_number (x ∷ y ∷ z ∷ []) (origin.x ∷ origin.y ∷ origin.z ∷ []) → IsWithin WORLD origin
+    → AreNames (first ∷ rest) → command_of (line_of (codes "nirt") (x ∷ y ∷ z ∷ direction_word dir ∷ first ∷ rest)) ≡ Query (Shot (ray_of origin dir) (first ∷ rest))
+nirt_line x y z origin dir first rest are within named =
+    let numbers : List ℤ = origin.x ∷ origin.y ∷ origin.z ∷ [] in
+    let read : List (Option ℤ) = map (λ (n : ℤ). Some n) numbers in
+    let good = numbers_words 999999999 (x ∷ y ∷ z ∷ []) numbers are in
+    line_command (codes "nirt") (x ∷ y ∷ z ∷ direction_word dir ∷ first ∷ rest) (λ line tokens w others. refl) (omega arith, (refl, refl, (refl, refl, (refl, refl, (refl, refl, tt)))))
+    (good.0, (good.1.0, (good.1.1.0, (direction_good dir, names_good (first ∷ rest) named))))
+    ∙ ap (λ (o : Option Dir). shot_command (map view_number (x ∷ y ∷ z ∷ [])) o (first ∷ rest)) (direction_again dir)
+    ∙ ap (λ (ns : List (Option ℤ)). shot_command ns (Some dir) (first ∷ rest)) are
+    ∙ unless_three (names_fault 6 1 (first ∷ rest)) (numbers_fault 2 1 read) (world_fault origin) (Query (Shot (ray_of origin dir) (first ∷ rest)))
+    (fine_names 6 1 (first ∷ rest) named) (all_fine 2 1 numbers) (cond-true (is_from_world origin) None (Some (View World)) (from_world origin within))
+
+-- ---- lines with words of other kinds
+
+-- what a line's words are, whatever its tokens
+words_line : (word : List ℕ) (others : List (List ℕ)) (command : Command) → IsAtomWord word → AllByRecursion IsAtomWord others
+    → ((tokens : List Token) → pieces (line_of word others) tokens ≡ atoms (word ∷ others) → command_of_words (line_of word others) tokens (top_words tokens) ≡ command) → command_of (line_of word others) ≡ command
+words_line word others command first good by =
+    let line : List ℕ = line_of word others in
+    let had : HasAtoms line (word ∷ others) = line_read line (word ∷ others) (line_is word others) (first, good) in
+    ap (command_read line) had.read ∙ by had.tokens had.are
+
+first_atom : (line : List ℕ) (tokens : List Token) (w : Word) (ws : List Word) (a : List ℕ) (others : List (List ℕ)) → map (atom_of line tokens) (w ∷ ws) ≡ map (λ (x : List ℕ). Some x) (a ∷ others) → atom_of line tokens w ≡ Some a
+first_atom line tokens w ws a others are = ap (λ (os : List (Option (List ℕ))). get_or os 0 None) are
+
+rest_atoms : (line : List ℕ) (tokens : List Token) (w : Word) (ws : List Word) (a : List ℕ) (others : List (List ℕ)) → map (atom_of line tokens) (w ∷ ws) ≡ map (λ (x : List ℕ). Some x) (a ∷ others)
+    → map (atom_of line tokens) ws ≡ map (λ (x : List ℕ). Some x) others
+rest_atoms line tokens w ws a others are = ap (λ (os : List (Option (List ℕ))). drop 1 os) are
+
+-- ---- a placement
+
+all_back : (os : List (Option ℤ)) (ns : List ℤ) → all_numbers os ≡ Some ns → os ≡ map (λ (n : ℤ). Some n) ns
+all_back [] ns h = let same : [] ≡ ns = cc in ap (map (λ (n : ℤ). Some n)) same
+all_back (None ∷ rest) ns h = absurd cc
+all_back (Some n ∷ rest) ns h = by (all_numbers rest) h (λ ms e. all_back rest ms e)
+  where
+    by : (o : Option (List ℤ)) → option_map (λ numbers. n ∷ numbers) o ≡ Some ns → ((ms : List ℤ) → o ≡ Some ms → rest ≡ map (λ (m : ℤ). Some m) ms) → Some n ∷ rest ≡ map (λ (m : ℤ). Some m) ns
+    by None e f = absurd cc
+    by (Some ms) e f = let same : n ∷ ms ≡ ns = cc in ap (λ (xs : List (Option ℤ)). Some n ∷ xs) (f ms refl) ∙ ap (map (λ (m : ℤ). Some m)) same
+
+sixteen_of : (ns : List ℤ) (p : Placement) (t : Bool) → (length ns == 16) ≡ t → cond t (placement_in ns) None ≡ Some p → length ns ≡ 16
+sixteen_of ns p true e h = eqb-true (length ns) 16 e
+sixteen_of ns p false e h = absurd cc
+
+whole_of : (o : Option (List ℤ)) (p : Placement) → placement_of_all o ≡ Some p → (ns : List ℤ) × (o ≡ Some ns) × (length ns ≡ 16)
+whole_of None p h = absurd cc
+whole_of (Some ns) p h = (ns, refl, sixteen_of ns p (length ns == 16) refl h)
+
+words_matrix : (line : List ℕ) (tokens : List Token) (ws : List Word) (words : List (List ℕ)) → map (atom_of line tokens) ws ≡ map (λ (x : List ℕ). Some x) words → length ws ≡ 16
+    → (matrix_words line tokens ws ≡ Some words) × (matrix_step ws ≡ 1)
+words_matrix line tokens [] words are len = absurd (omega (arith, len))
+words_matrix line tokens (w ∷ []) words are len = absurd (omega (arith, len))
+words_matrix line tokens (w ∷ v ∷ more) words are len =
+    (ap all_atoms are ∙ all_there words, cond-false (length (w ∷ v ∷ more) == 1) 0 1 (ne_eqb (length (w ∷ v ∷ more)) 1 (λ e. omega (arith, e))))
+
+placed_words : (line : List ℕ) (tokens : List Token) (ws : List Word) (comb member : List ℕ) (words : List (List ℕ)) → map (atom_of line tokens) ws ≡ map (λ (x : List ℕ). Some x) (codes "place" ∷ comb ∷ member ∷ words) → length words ≡ 16
+    → command_of_words line tokens ws ≡ matrix_command comb member 1 (map view_number words)
+placed_words line tokens [] comb member words are len = absurd cc
+placed_words line tokens (a ∷ []) comb member words are len = absurd cc
+placed_words line tokens (a ∷ b ∷ []) comb member words are len = absurd cc
+placed_words line tokens (a ∷ b ∷ c ∷ ws) comb member words are len =
+    let two = rest_atoms line tokens a (b ∷ c ∷ ws) (codes "place") (comb ∷ member ∷ words) are in
+    let three = rest_atoms line tokens b (c ∷ ws) comb (member ∷ words) two in
+    let four = rest_atoms line tokens c ws member words three in
+    let count : length ws ≡ 16 = sym (length-map ws (atom_of line tokens)) ∙ ap length four ∙ length-map words (λ (x : List ℕ). Some x) ∙ len in
+    let matrix = words_matrix line tokens ws words four count in
+    ap (worded_command line tokens a (b ∷ c ∷ ws)) (first_atom line tokens a (b ∷ c ∷ ws) (codes "place") (comb ∷ member ∷ words) are)
+    ∙ ap (λ (o : Option (List ℕ)). place_with line tokens ws o (atom_of line tokens c)) (first_atom line tokens b (c ∷ ws) comb (member ∷ words) two)
+    ∙ ap (place_with line tokens ws (Some comb)) (first_atom line tokens c ws member words three)
+    ∙ ap (λ (s : ℕ). sixteen_command comb member s (matrix_words line tokens ws)) matrix.1
+    ∙ ap (sixteen_command comb member 1) matrix.0
+    ∙ cond-true (length words == 16) (matrix_command comb member 1 (map view_number words)) (Bad Syntax) (eq-eqb _ _ len)
+
+pub place_line : (comb member : List ℕ) (words : List (List ℕ)) (placement : Placement) → IsName comb → IsName member → placement_read (map view_number words) ≡ Some placement
+    → command_of (line_of (codes "place") (comb ∷ member ∷ words)) ≡ Edit (Place comb member placement)
+place_line comb member words placement h k read =
+    let whole = whole_of (all_numbers (map view_number words)) placement read in
+    let numbers : List ℤ = whole.0 in
+    let are : map view_number words ≡ map (λ (n : ℤ). Some n) numbers = all_back (map view_number words) numbers whole.1 in
+    let len : length words ≡ 16 = sym (length-map words view_number) ∙ ap length are ∙ length-map numbers (λ (n : ℤ). Some n) ∙ whole.2 in
+    let named : AreNames (comb ∷ member ∷ []) = (h, (k, tt)) in
+    let line : List ℕ = line_of (codes "place") (comb ∷ member ∷ words) in
+    let every : List (List ℕ) = codes "place" ∷ comb ∷ member ∷ words in
+    words_line (codes "place") (comb ∷ member ∷ words) (matrix_command comb member 1 (map view_number words)) (omega arith, (refl, refl, (refl, refl, (refl, refl, (refl, refl, (refl, refl, tt))))))
+    (name_good comb h, (name_good member k, numbers_words 999999999 words numbers are))
+    (λ tokens pieces_are. placed_words line tokens (top_words tokens) comb member words (atoms_from line tokens tokens every every 0 pieces_are refl pieces_are) len)
+    ∙ unless_three (names_fault 2 1 (comb ∷ member ∷ [])) (numbers_fault 4 1 (map view_number words)) (placement_fault 4 (placement_read (map view_number words))) (Edit (Place comb member (unwrap_or (placement_read (map view_number words)) identity)))
+    (fine_names 2 1 (comb ∷ member ∷ []) named) (ap (numbers_fault 4 1) are ∙ all_fine 4 1 numbers) (ap (placement_fault 4) read)
+    ∙ ap (λ (o : Option Placement). Edit (Place comb member (unwrap_or o identity))) read
+
+-- ---- an attribute
+
+atom_bytes : (bytes : List ℕ) → AllByRecursion IsAtomByte bytes → AtomBytes 0 bytes
+atom_bytes [] h = tt
+atom_bytes (b ∷ bs) h = (h.0.0, h.0.1, atom_bytes bs h.1)
+
+known_key : (o : Option Key) (value : List ℕ) → known_takes o value ≡ true → is_none o ≡ false
+known_key None value h = absurd cc
+known_key (Some key) value h = refl
+
+key_good : (key value : List ℕ) (t : Bool) → is_setting key value ≡ true → is_ok (read_name key) ≡ t → IsAtomWord key
+key_good key value true h e = name_good key ((accepted key).0 e)
+key_good key value false h e = let known : is_none (key_of key) ≡ false = known_key (key_of key) value h in let unknown : is_none (key_of key) ≡ true = no_key key e in absurd cc
+
+words_from : (line : List ℕ) (all ts : List Token) (every : List (List ℕ)) (i : ℕ) → pieces line all ≡ atoms every → filter_map (word_at all) (range_with_len i (length ts)) ≡ map one_word (range_with_len i (length ts))
+words_from line all [] every i whole = refl
+words_from line all (t ∷ ts) every i whole =
+    ap (λ (o : Option Word). cons_option o (filter_map (word_at all) (range_with_len (i + 1) (length ts)))) (word_here line all every i whole)
+    ∙ ap (λ (ws : List Word). one_word i ∷ ws) (words_from line all ts every (i + 1) whole)
+
+set_words : (line : List ℕ) (ts : List Token) (name key value : List ℕ) → pieces line ts ≡ atoms (codes "cattr" ∷ name ∷ key ∷ value ∷ []) → command_of_words line ts (top_words ts) ≡ set_command name key value
+set_words line [] name key value are = absurd cc
+set_words line (a ∷ []) name key value are = absurd cc
+set_words line (a ∷ b ∷ []) name key value are = absurd cc
+set_words line (a ∷ b ∷ c ∷ []) name key value are = absurd cc
+set_words line (a ∷ b ∷ c ∷ d ∷ e ∷ more) name key value are = absurd cc
+set_words line (a ∷ b ∷ c ∷ d ∷ []) name key value are =
+    let ts : List Token = a ∷ b ∷ c ∷ d ∷ [] in
+    let two = rest_here line a (b ∷ c ∷ d ∷ []) (codes "cattr") (name ∷ key ∷ value ∷ []) are in
+    let three = rest_here line b (c ∷ d ∷ []) name (key ∷ value ∷ []) two in
+    let four = rest_here line c (d ∷ []) key (value ∷ []) three in
+    let behind : List Word = one_word 1 ∷ one_word 2 ∷ one_word 3 ∷ [] in
+    ap (command_of_words line ts) (words_from line ts ts (codes "cattr" ∷ name ∷ key ∷ value ∷ []) 0 are)
+    ∙ ap (λ (x : List ℕ). worded_command line ts (one_word 0) behind (Some x)) (text_here line a (b ∷ c ∷ d ∷ []) (codes "cattr") (name ∷ key ∷ value ∷ []) are)
+    ∙ ap (λ (x : List ℕ). set_with (Some x) (Some (slice_range line c.start c.end)) (slice_range line d.start d.end)) (text_here line b (c ∷ d ∷ []) name (key ∷ value ∷ []) two)
+    ∙ ap (λ (x : List ℕ). set_with (Some name) (Some x) (slice_range line d.start d.end)) (text_here line c (d ∷ []) key (value ∷ []) three)
+    ∙ ap (λ (x : List ℕ). set_with (Some name) (Some key) x) (text_here line d [] value [] four)
+
+pub cattr_line : (name key value : List ℕ) → IsName name → IsTrue (is_setting key value) → IsAtom value → command_of (line_of (codes "cattr") (name ∷ key ∷ value ∷ [])) ≡ Edit (Set name (record { key = key; value = value }))
+cattr_line name key value h set atom =
+    let named : AreNames (name ∷ []) = (h, tt) in
+    let line : List ℕ = line_of (codes "cattr") (name ∷ key ∷ value ∷ []) in
+    let setting : Command = Edit (Set name (record { key = key; value = value })) in
+    let faults : List (Option Refusal) = name_fault 2 name ∷ setting_fault 4 key value ∷ [] in
+    words_line (codes "cattr") (name ∷ key ∷ value ∷ []) (set_command name key value) (omega arith, (refl, refl, (refl, refl, (refl, refl, (refl, refl, (refl, refl, tt))))))
+    (name_good name h, (key_good key value (is_ok (read_name key)) set refl, ((atom.some, atom_bytes value atom.bytes), tt)))
+    (λ tokens are. set_words line tokens name key value are)
+    ∙ cond-false (is_none (key_of key)) (Bad Syntax) (unless_refused faults setting) (known_key (key_of key) value set)
+    ∙ unless_both (name_fault 2 name) (setting_fault 4 key value) setting (fine_names 2 1 (name ∷ []) named) (cond-true (is_setting key value) None (Some (Number 4)) set)

@@ -1,0 +1,14 @@
+use Rattle.mged_words.proofs.NumberLines.{in_line, nirt_line, place_line, cattr_line}
+use Rattle.mged_words.proofs.laws.each_with_numbers_has_a_line.Goals as goal
+
+pub returns-clause-make : goal.returns-clause-make
+returns-clause-make c = in_line
+
+pub returns-clause-shot : goal.returns-clause-shot
+returns-clause-shot c = nirt_line
+
+pub returns-clause-place : goal.returns-clause-place
+returns-clause-place c = place_line
+
+pub returns-clause-set : goal.returns-clause-set
+returns-clause-set c = cattr_line

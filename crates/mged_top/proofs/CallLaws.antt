@@ -1,5 +1,5 @@
 -- What a call says, put together from what its stages give.
-use Rattle.std.proofs.Common.{◌≡◌, ◌≢◌, ◌∙◌, ◌⊎◌, inl, inr, ℕ, Bool, true, false, List, [], ◌++◌, Option, Some, None, IfSome, Result, Ok, Err, is_some, take, refl, ap, ap₂, sym, subst}
+use Rattle.std.proofs.Common.{◌≡◌, ◌≢◌, ◌∙◌, ◌⊎◌, inl, inr, ℕ, Bool, true, false, List, [], Option, Some, None, IfSome, Result, Ok, Err, is_some, take, refl, ap, ap₂, sym, subst}
 use Rattle.std.specs.Option.{option_and_then}
 use Rattle.std.specs.Io.KnownBytes.{Keeps}
 use Rattle.name_core.specs.declared.name.Name.{Name}
@@ -11,10 +11,10 @@ use Rattle.command_set.specs.declared.command.Command.{Command}
 use Rattle.directory.specs.Listing.{Listing}
 use Rattle.option_words.specs.Grammar.{Asked, asked_of}
 use Rattle.mged_words.specs.declared.script.ScriptFlaw.{ScriptFlaw}
-use Rattle.mged_top.specs.Calls.{IsRefused, IsSourceFault, IsLoadingFault, IsReadFault, AreFilesCut, IsWriteFault, IsWantOfMemory, Explains, ComesTo, IsRunStatus, IsComplete, AreUnderstood}
+use Rattle.mged_top.specs.Calls.{IsRefused, IsSourceFault, IsLoadingFault, IsReadFault, AreFilesCut, IsWriteFault, IsWantOfMemory, Explains, ComesTo, IsRunStatus, IsComplete}
 use Rattle.mged_top.specs.Courses.{Course, Stops, Runs, course_of, course_asked, course_with, course_from, loaded}
 use Rattle.mged_top.specs.Outcomes.{AreTold, Ran, IsWritten}
-use Rattle.mged_top.specs.Outside.{Outside, outside, IsQuiet, IsFaultless, IsUnwritten, Added}
+use Rattle.mged_top.specs.Outside.{Outside, outside, IsQuiet, IsFaultless, IsUnwritten}
 use Rattle.mged_top.specs.Stages.{CanLoad, CanRead, WasRead, IsLoad, IsRead, load_status, script_status, IsRun, IsWhole, IsTextShort, AreFilesShort, Writes, files_among}
 use Rattle.mged_top.specs.declared.load.LoadStop.{LoadStop}
 use Rattle.mged_top.specs.declared.load.LoadStop.TheVariants as load
@@ -25,6 +25,7 @@ use Rattle.mged_words.specs.declared.command.ScriptCommand.{ScriptCommand}
 use Rattle.mged_top.specs.declared.status.Status.{Status}
 use Rattle.mged_top.specs.declared.status.Status.TheVariants.{Done, SomeRefused, Usage, LoadRefused, ScriptRefused, ReadFault, WriteFault, Memory}
 use Rattle.session_run.specs.declared.answer.Answer.{Answer}
+use Rattle.mged_top.proofs.ShelfLaws.{grown_after}
 
 -- what is told, or anything where nothing is
 abbrev known : {T : Type 0} → T → Option T → T
@@ -73,19 +74,20 @@ script_refused words before after load start flaw asked can read unwritten quiet
   quiet = quiet;
 }
 
-understood : (words : List (List ℕ)) (asked : Asked) → asked_of words ≡ Some asked → AreUnderstood words
-understood words asked is = ap is_some is
-
-pub source_failed : (words : List (List ℕ)) (before after : Outside) (asked : Asked) → asked_of words ≡ Some asked → Rose before.reads after.reads → after.calls ≡ before.calls → after.writes ≡ before.writes
+pub source_failed : (words : List (List ℕ)) (before after : Outside) (asked : Asked) (start : Listing) → asked_of words ≡ Some asked → CanLoad before.files asked.load (Ok start) → Rose before.reads after.reads → after.calls ≡ before.calls → after.writes ≡ before.writes
     → IsUnwritten before after → IsReadFault words before after
-source_failed words before after asked is rose calls writes unwritten =
-    record { cause = inl (record { understood = understood words asked is; rose = rose; calls = calls }); writes = writes; unwritten = unwritten }
+source_failed words before after asked start is can rose calls writes unwritten =
+    record {
+      cause = inl (record { asked = asked; understood = is; files = can.files; told = can.as_told; start = start; loads = can.gives; rose = rose; calls = calls });
+      writes = writes;
+      unwritten = unwritten;
+    }
 
 pub loading_failed : (words : List (List ℕ)) (before after : Outside) (load : Option Name) → asked_of words ≡ Some (record { load = load }) → is_some load ≡ true → Rose before.calls after.calls
-    → after.reads ≡ before.reads → after.writes ≡ before.writes → IsUnwritten before after → IsReadFault words before after
-loading_failed words before after load is some rose reads writes unwritten =
+    → Keeps before.left after.left → after.reads ≡ before.reads → after.writes ≡ before.writes → IsUnwritten before after → IsReadFault words before after
+loading_failed words before after load is some rose unread reads writes unwritten =
     record {
-      cause = inr (record { asked = ap (λ (a : Option Asked). is_some (option_and_then (λ (asked : Asked). asked.load) a)) is ∙ some; rose = rose; reads = reads });
+      cause = inr (record { asked = ap (λ (a : Option Asked). is_some (option_and_then (λ (asked : Asked). asked.load) a)) is ∙ some; unread = unread; rose = rose; reads = reads });
       writes = writes;
       unwritten = unwritten;
     }
@@ -116,7 +118,7 @@ pub load_stopped : (stop : LoadStop) (words : List (List ℕ)) (left held : Opti
 load_stopped (load.Refused fault) words left held files files' puts puts' reads writes calls calls' name asked is f p steady rose =
     load_refused words _ _ name fault asked is (record { left = advances_none left; held = keeps_none held; files = f; puts = p }) (record { reads = refl; writes = refl; calls = steady (λ e. absurd cc) })
 load_stopped load.Failed words left held files files' puts puts' reads writes calls calls' name asked is f p steady rose =
-    loading_failed words _ _ name asked is (rose refl) refl refl (record { left = advances_none left; held = keeps_none held; files = f; puts = p })
+    loading_failed words _ _ name asked is (rose refl) (keeps_none left) refl refl (record { left = advances_none left; held = keeps_none held; files = f; puts = p })
 load_stopped LoadStop.Memory words left held files files' puts puts' reads writes calls calls' name asked is f p steady rose =
     (record { reads = refl; writes = refl; calls = steady (λ e. absurd cc) }, inl (record { left = advances_none left; held = keeps_none held; files = f; puts = p }))
 
@@ -128,7 +130,7 @@ pub script_stopped : (stop : ScriptStop) (words : List (List ℕ)) (left left' h
 script_stopped (script.Refused flaw) words left left' held files files' puts puts' reads reads' writes calls calls' name start asked can is advances f p same steady rose =
     script_refused words _ _ name start flaw asked can is (record { left = advances; held = keeps_none held; files = f; puts = p }) (record { reads = steady (λ e. absurd cc); writes = refl; calls = same })
 script_stopped script.Failed words left left' held files files' puts puts' reads reads' writes calls calls' name start asked can is advances f p same steady rose =
-    source_failed words _ _ (record { load = name }) asked (rose refl) same refl (record { left = advances; held = keeps_none held; files = f; puts = p })
+    source_failed words _ _ (record { load = name }) start asked can (rose refl) same refl (record { left = advances; held = keeps_none held; files = f; puts = p })
 script_stopped ScriptStop.Memory words left left' held files files' puts puts' reads reads' writes calls calls' name start asked can is advances f p same steady rose =
     (record { reads = steady (λ e. absurd cc); writes = refl; calls = same }, inl (record { left = advances; held = keeps_none held; files = f; puts = p }))
 
@@ -163,10 +165,6 @@ stays_both : {T : Type 0} (a b c : Option T) → Stays a b → Stays b c → Sta
 stays_both None b c h k = tt
 stays_both (Some told) b c h k = subst (λ m. Stays m c → c ≡ Some told) (sym h) (λ e. e) k
 
-added_from : (a b c : Option (List File)) (files : List File) → Stays a b → Added b c files → Added a c files
-added_from None b c files h k = tt
-added_from (Some told) b c files h k = subst (λ (m : Option (List File)). Added m c files → c ≡ Some (told ++ files)) (sym h) (λ e. e) k
-
 module _ (held held' : Option (List ℕ)) (shelf loaded shelf' puts puts' puts'' : Option (List File)) (writes writes' calls calls' calls'' : ℕ) (bytes : List ℕ) (files : List File)
     (stay : Stays shelf loaded) (puts_stay : Stays puts puts') (same : calls' ≡ calls) where
   abbrev loaded_before : Outside
@@ -179,12 +177,12 @@ module _ (held held' : Option (List ℕ)) (shelf loaded shelf' puts puts' puts''
   last_after = outside None held' shelf' puts'' 0 writes' calls''
 
   whole_from : IsWhole bytes files loaded_before last_after → IsWhole bytes files first_before last_after
-  whole_from w = record { written = w.written; added = added_from puts puts' puts'' files puts_stay w.added; writes = w.writes; calls = w.calls ∙ same }
+  whole_from w = record { written = w.written; grown = grown_after shelf loaded shelf' puts puts' puts'' files stay puts_stay w.grown; writes = w.writes; calls = w.calls ∙ same }
 
   short_from : AreFilesShort bytes files loaded_before last_after → AreFilesShort bytes files first_before last_after
   short_from w = record {
     written = w.written;
-    cut_short = record { count = w.cut_short.count; short = w.cut_short.short; front = added_from puts puts' puts'' (take w.cut_short.count files) puts_stay w.cut_short.front };
+    cut_short = record { count = w.cut_short.count; short = w.cut_short.short; front = grown_after shelf loaded shelf' puts puts' puts'' (take w.cut_short.count files) stay puts_stay w.cut_short.front };
     writes = w.writes;
   }
 
@@ -230,7 +228,7 @@ module _ (words : List (List ℕ)) (left left' held held' : Option (List ℕ)) (
     files = files;
     ran = subst (λ (t : Bool). Ran words all_before all_after bytes files t) is r;
     written = w.written;
-    added = w.added;
+    grown = w.grown;
     quiet = record { reads = same; writes = w.writes; calls = w.calls };
   }
 

@@ -1,8 +1,8 @@
 -- The transcript and the files of a script that is run in the order of its lines.
-use Rattle.std.proofs.Common.{◌≡◌, ◌≢◌, ℕ, zero, suc, ◌<◌, ◌≤◌, ◌+◌, ◌-◌, ◌^◌, ◌==◌, ◌||◌, Bool, true, false, cond, List, [], ◌∷◌, ◌++◌, All, map, length, append_assoc, replicate, get_or, set, eqb-true, refl, ap, ap₂, sym, ◌∙◌, subst, arith, Ok, Err, is_err}
+use Rattle.std.proofs.Common.{◌≡◌, ℕ, zero, suc, ◌<◌, ◌≤◌, ◌+◌, ◌-◌, ◌^◌, ◌==◌, ◌||◌, Bool, true, false, cond, List, [], ◌∷◌, ◌++◌, All, map, length, append_assoc, replicate, get_or, set, eqb-true, refl, ap, ap₂, sym, ◌∙◌, subst, arith, Ok, Err, is_err}
 use Rattle.std.specs.List.{AllByRecursion, list_any}
 use Rattle.std.proofs.lemmas.Bool.{eqb-false}
-use Rattle.std.proofs.lemmas.List.{length-map}
+use Rattle.std.proofs.lemmas.List.{length-map, get_or-set_same, get_or-set_other}
 use Rattle.std.proofs.lemmas.List.Elements.{All-head, All-tail, All-map}
 use mathlib.Core.Path.{fun_ext}
 use Rattle.outside_core.specs.declared.traits.File.{File}
@@ -26,31 +26,20 @@ use Rattle.session_run.proofs.CoreLaws.{Any_own, keeps}
 use Rattle.session_run.proofs.EditLaws.{IsPlainListing}
 use Rattle.mged_top.specs.Answers.{marked_entry, core_answers, answers_at, own_at, is_refused}
 use Rattle.mged_top.specs.Stages.{IsRun, files_among}
+use Rattle.mged_top.proofs.PutLaws.{same_past}
 
 -- what the sessions have of their own, after that of one is made anew
 pub own_one : (owns : List Own) (session place : ℕ) (v : Own) (f : Own → Own) → 1 ≤ session → place ≡ session - 1 → place < length owns → v ≡ f (get_or owns place nothing_used)
     → own_at (set owns place v) ≡ (λ k. cond (session == k) (f (own_at owns k)) (own_at owns k))
 own_one owns session place v f some here lt is = fun_ext (λ k. own_step owns session place v f k some here lt is)
   where
-    set_here : (owns : List Own) (i : ℕ) (v : Own) → i < length owns → get_or (set owns i v) i nothing_used ≡ v
-    set_here [] i v lt = absurd (omega (arith, lt))
-    set_here (x ∷ xs) zero v lt = refl
-    set_here (x ∷ xs) (suc i) v lt = set_here xs i v (omega (arith, lt))
-
-    set_away : (owns : List Own) (i j : ℕ) (v : Own) → i ≢ j → get_or (set owns i v) j nothing_used ≡ get_or owns j nothing_used
-    set_away [] i j v ne = refl
-    set_away (x ∷ xs) zero zero v ne = absurd (ne refl)
-    set_away (x ∷ xs) zero (suc j) v ne = refl
-    set_away (x ∷ xs) (suc i) zero v ne = refl
-    set_away (x ∷ xs) (suc i) (suc j) v ne = set_away xs i j v (λ e. ne (ap suc e))
-
     by_session : (t : Bool) (owns : List Own) (i : ℕ) (v : Own) (f : Own → Own) (k : ℕ) → t ≡ (suc i == k) → i < length owns → v ≡ f (get_or owns i nothing_used)
         → own_at (set owns i v) k ≡ cond t (f (own_at owns k)) (own_at owns k)
     by_session true owns i v f k t lt is =
         let same : suc i ≡ k = eqb-true (suc i) k (sym t) in
-        subst (λ n. own_at (set owns i v) n ≡ f (own_at owns n)) same (set_here owns i v lt ∙ is)
+        subst (λ n. own_at (set owns i v) n ≡ f (own_at owns n)) same (get_or-set_same owns i v nothing_used lt ∙ is)
     by_session false owns i v f zero t lt is = refl
-    by_session false owns i v f (suc k) t lt is = set_away owns i k v (λ e. eqb-false (suc i) (suc k) (sym t) (ap suc e))
+    by_session false owns i v f (suc k) t lt is = get_or-set_other owns i k v nothing_used (λ e. eqb-false (suc i) (suc k) (sym t) (ap suc (sym e)))
 
     own_step : (owns : List Own) (session place : ℕ) (v : Own) (f : Own → Own) (k : ℕ) → 1 ≤ session → place ≡ session - 1 → place < length owns → v ≡ f (get_or owns place nothing_used)
         → own_at (set owns place v) k ≡ cond (session == k) (f (own_at owns k)) (own_at owns k)
@@ -64,20 +53,9 @@ own_one owns session place v f some here lt is = fun_ext (λ k. own_step owns se
 pub none_used : (owns : List Own) → owns ≡ replicate 8 nothing_used → ◌≡◌ {A = ℕ → Own} (own_at owns) (λ k. nothing_used)
 none_used owns is = ap own_at is ∙ fun_ext zero_at
   where
-    zero_past : (n : ℕ) → get_or {A = Own} (replicate 8 nothing_used) n nothing_used ≡ nothing_used
-    zero_past zero = refl
-    zero_past (suc zero) = refl
-    zero_past (suc (suc zero)) = refl
-    zero_past (suc (suc (suc zero))) = refl
-    zero_past (suc (suc (suc (suc zero)))) = refl
-    zero_past (suc (suc (suc (suc (suc zero))))) = refl
-    zero_past (suc (suc (suc (suc (suc (suc zero)))))) = refl
-    zero_past (suc (suc (suc (suc (suc (suc (suc zero))))))) = refl
-    zero_past (suc (suc (suc (suc (suc (suc (suc (suc n)))))))) = refl
-
     zero_at : (k : ℕ) → own_at (replicate 8 nothing_used) k ≡ nothing_used
     zero_at zero = refl
-    zero_at (suc n) = zero_past n
+    zero_at (suc n) = same_past 8 nothing_used n
 
 pub start_is : (d : Listing) (owns : List Own) → owns ≡ replicate 8 nothing_used
     → ◌≡◌ {A = State Listing Own} (record { book = record { directory = d; version = 0 }; own = own_at owns }) (start_from d)
@@ -212,8 +190,3 @@ few_answers d script none lists no_lists answers i =
     answers (suc i) ∙ ap (λ (n : List (List Answer)). core_answers n (suc i) ++ lane (run_of core_rules start entries) (suc i)) no_lists
     ∙ ap (λ (l : List Answer). map core_answer l ++ lane (run_of core_rules start entries) (suc i)) (no_answer 8 (suc i)) in
     omega (arith, ap length same, length-map (get_or lists i []) core_answer, lane_no_longer (run_of core_rules start entries) (suc i), run_length core_rules IsPlainListing Any_own IsPlain keeps start entries, length-map script marked_entry)
-
-pub any_default : {X : Type 0} (xs : List X) (i : ℕ) (d e : X) → i < length xs → get_or xs i d ≡ get_or xs i e
-any_default [] i d e lt = absurd (omega (arith, lt))
-any_default (x ∷ xs) zero d e lt = refl
-any_default (x ∷ xs) (suc i) d e lt = any_default xs i d e (omega (arith, lt))

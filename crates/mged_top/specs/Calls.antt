@@ -1,13 +1,14 @@
 -- What each status says of a call, and which status comes.
-use Rattle.std.specs.Prelude.{◌≡◌, ◌⊎◌, ℕ, Bool, true, false, List, Some, is_some}
+use Rattle.std.specs.Prelude.{◌≡◌, ◌⊎◌, ℕ, Bool, true, false, List, Some, IfSome, Ok, is_some}
 use Rattle.std.specs.Option.{option_and_then}
-use Rattle.std.specs.Io.KnownBytes.{Appends}
+use Rattle.std.specs.Io.KnownBytes.{Appends, Keeps}
 use Rattle.outside_core.specs.Faults.{Rose}
 use Rattle.outside_core.specs.Told.{Stays}
 use Rattle.outside_core.specs.Transfers.{IsCutShort}
 use Rattle.outside_core.specs.declared.traits.File.{File}
-use Rattle.option_words.specs.Grammar.{asked_of}
-use Rattle.mged_top.specs.Courses.{Course, Stops, Runs, course_of}
+use Rattle.directory.specs.Listing.{Listing}
+use Rattle.option_words.specs.Grammar.{Asked, asked_of}
+use Rattle.mged_top.specs.Courses.{Course, Stops, Runs, course_of, loaded}
 use Rattle.mged_top.specs.Outcomes.{AreTold, Ran, IsWritten}
 use Rattle.mged_top.specs.Outside.{Outside, IsQuiet, IsFaultless, IsUnwritten, AreCutShort}
 use Rattle.mged_top.specs.declared.status.Status.{Status}
@@ -22,23 +23,25 @@ pub record IsRefused (words : List (List ℕ)) (before after : Outside) (status 
   pub unwritten : IsUnwritten before after
   pub quiet : IsQuiet before after
 
--- the words are in the grammar
-abbrev pub AreUnderstood : List (List ℕ) → Type 0
-AreUnderstood words = is_some (asked_of words) ≡ true
-
 -- the words ask for a load file
 abbrev pub AskForFile : List (List ℕ) → Type 0
 AskForFile words = is_some (option_and_then (λ asked. asked.load) (asked_of words)) ≡ true
 
--- a read of the source failed
+-- a read of the source failed; the words are in the grammar, and the load file, where they ask for one, has a directory
 pub record IsSourceFault (words : List (List ℕ)) (before after : Outside) : Type 0 where
-  pub understood : AreUnderstood words
+  pub asked : Asked
+  pub understood : asked_of words ≡ Some asked
+  pub files : List File
+  pub told : IfSome before.files (λ known. files ≡ known)
+  pub start : Listing
+  pub loads : loaded asked.load files ≡ Ok start
   pub rose : Rose before.reads after.reads
   pub calls : after.calls ≡ before.calls
 
--- the read of a load file failed
+-- the read of a load file failed, and the source is not read
 pub record IsLoadingFault (words : List (List ℕ)) (before after : Outside) : Type 0 where
   pub asked : AskForFile words
+  pub unread : Keeps before.left after.left
   pub rose : Rose before.calls after.calls
   pub reads : after.reads ≡ before.reads
 
@@ -61,14 +64,14 @@ pub record IsTextCut (words : List (List ℕ)) (before after : Outside) : Type 0
   pub reads : after.reads ≡ before.reads
   pub calls : after.calls ≡ before.calls
 
--- the sink has grown by the run's bytes, and the puts by first files of the run, not by all
+-- the sink has grown by the run's bytes, and the shelf by first files of the run, not by all
 pub record AreFilesCut (words : List (List ℕ)) (before after : Outside) : Type 0 where
   pub bytes : List ℕ
   pub files : List File
   pub some_refused : Bool
   pub ran : Ran words before after bytes files some_refused
   pub written : Appends before.held after.held bytes
-  pub cut_short : AreCutShort before.puts after.puts files
+  pub cut_short : AreCutShort before.files after.files before.puts after.puts files
   pub reads : after.reads ≡ before.reads
   pub writes : after.writes ≡ before.writes
 

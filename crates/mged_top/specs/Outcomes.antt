@@ -11,7 +11,7 @@ use Rattle.directory.specs.Listing.{Listing}
 use Rattle.mged_words.specs.Entries.{session_of}
 use Rattle.session_run.specs.Replies.{core_rules, start_from}
 use Rattle.mged_top.specs.Courses.{Runs, course_of}
-use Rattle.mged_top.specs.Outside.{Outside, IsQuiet, Added}
+use Rattle.mged_top.specs.Outside.{Outside, IsQuiet, HasGrown}
 
 -- the files are those of the shelf and the script is what the source had left, where they are told
 pub record AreTold (before : Outside) (files : List File) (script : List ℕ) : Type 0 where
@@ -42,11 +42,11 @@ pub record Ran (words : List (List ℕ)) (before after : Outside) (bytes : List 
   pub outcome : IsOutcome core_rules (start_from start) (lane commands) bytes files some_refused
   pub in_line_order : IsInLineOrder commands bytes
 
--- the run is written whole: the sink has grown by its bytes, and the puts by its files
+-- the run is written whole: the sink has grown by its bytes, and the shelf by its files
 pub record IsWritten (words : List (List ℕ)) (before after : Outside) (some_refused : Bool) : Type 0 where
   pub bytes : List ℕ
   pub files : List File
   pub ran : Ran words before after bytes files some_refused
   pub written : Appends before.held after.held bytes
-  pub added : Added before.puts after.puts files
+  pub grown : HasGrown before.files after.files before.puts after.puts files
   pub quiet : IsQuiet before after

@@ -3,6 +3,7 @@
 use Rattle.std.specs.Prelude.{◌≡◌, ◌++◌, ◌<◌, ℕ, List, Option, Some, IfSome, length, take}
 use Rattle.std.specs.Io.KnownBytes.{Keeps}
 use Rattle.outside_core.specs.Faults.{Rose}
+use Rattle.outside_core.specs.Files.{bytes_in}
 use Rattle.outside_core.specs.Told.{Advances, Stays}
 use Rattle.outside_core.specs.declared.traits.File.{File}
 
@@ -45,8 +46,17 @@ pub record IsUnwritten (before after : Outside) : Type 0 where
 abbrev pub Added : Option (List File) → Option (List File) → List File → Type 0
 Added puts puts' files = IfSome puts (λ told. puts' ≡ Some (told ++ files))
 
--- the puts have grown by some of these files, from the first on, and not by all
-pub record AreCutShort (puts puts' : Option (List File)) (files : List File) : Type 0 where
+-- each name has the bytes of the last file of that name among those that there were and, behind them, these
+abbrev pub AreSet : Option (List File) → Option (List File) → List File → Type 0
+AreSet files files' set = IfSome files (λ told. (after : List File) × (files' ≡ Some after) × ((name : List ℕ) → bytes_in after name ≡ bytes_in (told ++ set) name))
+
+-- these files are put one after the other: the list of puts has grown by them, and each is the file of its name
+pub record HasGrown (files files' puts puts' : Option (List File)) (put : List File) : Type 0 where
+  pub added : Added puts puts' put
+  pub set : AreSet files files' put
+
+-- some of these files are put, from the first on, and not all
+pub record AreCutShort (files files' puts puts' : Option (List File)) (all : List File) : Type 0 where
   pub count : ℕ
-  pub short : count < length files
-  pub front : Added puts puts' (take count files)
+  pub short : count < length all
+  pub front : HasGrown files files' puts puts' (take count all)

@@ -17,11 +17,14 @@ use Rattle.mged_words.specs.Entries.{command_entry}
 use Rattle.mged_words.specs.declared.command.ScriptCommand.{ScriptCommand}
 use Rattle.session_run.specs.Replies.{core_rules, start_from}
 use Rattle.session_run.specs.Answers.{core_answer}
+use Rattle.session_run.specs.Kept.{IsCurrent}
 use Rattle.session_run.specs.declared.answer.Answer.{Answer}
+use Rattle.session_run.specs.declared.answer.Book.{Book}
+use Rattle.session_run.specs.declared.keep.Keep.{Keep}
 use Rattle.mged_top.specs.Answers.{core_answers}
 use Rattle.mged_top.specs.Courses.{loaded, model_in}
 use Rattle.mged_top.specs.Outcomes.{IsInLineOrder}
-use Rattle.mged_top.specs.Outside.{Outside, Added, AreCutShort}
+use Rattle.mged_top.specs.Outside.{Outside, HasGrown, AreCutShort}
 use Rattle.mged_top.specs.declared.load.LoadStop.{LoadStop}
 use Rattle.mged_top.specs.declared.load.LoadStop.TheVariants as load
 use Rattle.mged_top.specs.declared.read.ScriptStop.{ScriptStop}
@@ -99,15 +102,15 @@ abbrev pub files_left : List ℕ → List ℕ → List (List Answer) → List Fi
 files_left order taken lists = files_of (merged order (λ session. map core_answer (left_at taken lists session)))
 
 -- files of which some are put, and these are left
-pub record ArePut (puts puts' : Option (List File)) (all rest : List File) : Type 0 where
+pub record ArePut (files files' puts puts' : Option (List File)) (all rest : List File) : Type 0 where
   pub done : List File
-  pub added : Added puts puts' done
+  pub grown : HasGrown files files' puts puts' done
   pub whole : all ≡ done ++ rest
 
 -- the same, unless the put of the first of them failed
-abbrev pub ArePutBy : Result (Unit {0}) ShelfFault → Option (List File) → Option (List File) → List File → List File → Type 0
-ArePutBy (Ok done) puts puts' all rest = ArePut puts puts' all rest
-ArePutBy (Err fault) puts puts' all rest = Stays puts puts' × (0 < length all)
+abbrev pub ArePutBy : Result (Unit {0}) ShelfFault → Option (List File) → Option (List File) → Option (List File) → Option (List File) → List File → List File → Type 0
+ArePutBy (Ok done) files files' puts puts' all rest = ArePut files files' puts puts' all rest
+ArePutBy (Err fault) files files' puts puts' all rest = Stays files files' × Stays puts puts' × (0 < length all)
 
 -- a run of these commands from this directory: its bytes, its files in an order of the sessions, and whether one is refused
 pub record IsRun (start : Listing) (commands : List (Entry Command)) (bytes order : List ℕ) (lists : List (List Answer)) (some_refused : Bool) : Type 0 where
@@ -118,7 +121,7 @@ pub record IsRun (start : Listing) (commands : List (Entry Command)) (bytes orde
 -- the bytes are written, and the files are put
 pub record IsWhole (bytes : List ℕ) (files : List File) (before after : Outside) : Type 0 where
   pub written : Appends before.held after.held bytes
-  pub added : Added before.puts after.puts files
+  pub grown : HasGrown before.files after.files before.puts after.puts files
   pub writes : after.writes ≡ before.writes
   pub calls : after.calls ≡ before.calls
 
@@ -133,7 +136,7 @@ pub record IsTextShort (bytes : List ℕ) (before after : Outside) : Type 0 wher
 -- the bytes are written, and not all files are put
 pub record AreFilesShort (bytes : List ℕ) (files : List File) (before after : Outside) : Type 0 where
   pub written : Appends before.held after.held bytes
-  pub cut_short : AreCutShort before.puts after.puts files
+  pub cut_short : AreCutShort before.files after.files before.puts after.puts files
   pub writes : after.writes ≡ before.writes
 
 -- what writing a run with these bytes and files did
@@ -146,3 +149,7 @@ Writes (ScriptRefused flaw) bytes files some_refused before after = ⊥
 Writes ReadFault bytes files some_refused before after = ⊥
 Writes WriteFault bytes files some_refused before after = IsTextShort bytes before after ⊎ (AreFilesShort bytes files before after × Rose before.calls after.calls)
 Writes Memory bytes files some_refused before after = AreFilesShort bytes files before after × (after.calls ≡ before.calls)
+
+-- what each session keeps can be used with the book's directory
+abbrev pub AreCurrent : List Keep → Book → Type 0
+AreCurrent keeps book = All (λ keep. IsCurrent keep book.version book.directory.objects) keeps

@@ -9,6 +9,7 @@ use Rattle.mged_top.specs.declared.status.LoadFault.TheVariants as load
 use Rattle.mged_top.specs.declared.status.Status.{Status}
 use Rattle.mged_top.specs.declared.status.Status.TheVariants.{Done, SomeRefused, Usage, LoadRefused, ScriptRefused, ReadFault, WriteFault, Memory}
 
+-- the number with which the program ends
 abbrev pub exit_number : Status → ℕ
 exit_number Done = 0
 exit_number SomeRefused = 1
@@ -43,7 +44,7 @@ load_text (load.NoFile name) = codes "missing " ++ name
 load_text load.Size = codes "size"
 load_text (load.At line kind) = codes "line " ++ (decimal line ++ kind_text kind)
 
--- where a transcript is written there is no line
+-- the line of a status on the error stream; where a transcript is written there is none
 abbrev pub status_line : Status → List ℕ
 status_line Done = []
 status_line SomeRefused = []

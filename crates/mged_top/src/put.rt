@@ -5,7 +5,7 @@ ghost use Rattle.outside_core.specs.Told.{Stays};
 ghost use Rattle.outside_core.specs.declared.traits.ShelfFault.TheVariants as faults;
 ghost use Rattle.transcript.specs.Run.{file_in};
 ghost use Rattle.session_run.specs.Replies.{shown};
-ghost use Rattle.mged_top.specs.Outside.{Added, AreCutShort};
+ghost use Rattle.mged_top.specs.Outside.{HasGrown, AreCutShort};
 ghost use Rattle.mged_top.specs.Stages.{ArePutBy, files_among, files_left};
 
 use item_list::Items;
@@ -14,8 +14,9 @@ use session_run::Answer;
 
 /// Puts the file of an answer, where it has one.
 fn put_file<F: Shelf>(shelf: &mut F, answer: &Answer) -> Result<(), ShelfFault>
-    ensures added { OnOk result (Added (F.puts shelf.old) (F.puts shelf.new) (file_in (shown answer.now.outcome))) }
-    ensures stays { OnErr result (Stays (F.puts shelf.old) (F.puts shelf.new)) }
+    ensures grown { OnOk result (HasGrown (F.files shelf.old) (F.files shelf.new) (F.puts shelf.old) (F.puts shelf.new) (file_in (shown answer.now.outcome))) }
+    ensures files_stay { OnErr result (Stays (F.files shelf.old) (F.files shelf.new)) }
+    ensures puts_stay { OnErr result (Stays (F.puts shelf.old) (F.puts shelf.new)) }
     ensures some { OnErr result (0 < length (file_in (shown answer.now.outcome))) }
     ensures steady { result ≢ Err faults.Failed → F.faults shelf.new ≡ F.faults shelf.old }
     ensures rose { result ≡ Err faults.Failed → Rose (F.faults shelf.old) (F.faults shelf.new) }
@@ -40,7 +41,7 @@ fn put_next<F: Shelf>(
     requires numbers { length taken.old ≡ 8 }
     requires eight { length lists.now ≡ 8 }
     ensures numbers { length taken.new ≡ 8 }
-    ensures put { (rest : List ℕ) → ArePutBy result (F.puts shelf.old) (F.puts shelf.new) (files_left (session ∷ rest) taken.old lists.now) (files_left rest taken.new lists.now) }
+    ensures put { (rest : List ℕ) → ArePutBy result (F.files shelf.old) (F.files shelf.new) (F.puts shelf.old) (F.puts shelf.new) (files_left (session ∷ rest) taken.old lists.now) (files_left rest taken.new lists.now) }
     ensures steady { result ≢ Err faults.Failed → F.faults shelf.new ≡ F.faults shelf.old }
     ensures rose { result ≡ Err faults.Failed → Rose (F.faults shelf.old) (F.faults shelf.new) }
 {
@@ -63,8 +64,8 @@ pub(crate) fn put_files<F: Shelf>(
 ) -> Result<(), ShelfFault>
     requires sessions { All (λ d. (1 ≤ d) × (d ≤ 8)) order.now }
     requires eight { length lists.now ≡ 8 }
-    ensures added { OnOk result (Added (F.puts shelf.old) (F.puts shelf.new) (files_among order.now lists.now)) }
-    ensures cut_short { OnErr result (AreCutShort (F.puts shelf.old) (F.puts shelf.new) (files_among order.now lists.now)) }
+    ensures grown { OnOk result (HasGrown (F.files shelf.old) (F.files shelf.new) (F.puts shelf.old) (F.puts shelf.new) (files_among order.now lists.now)) }
+    ensures cut_short { OnErr result (AreCutShort (F.files shelf.old) (F.files shelf.new) (F.puts shelf.old) (F.puts shelf.new) (files_among order.now lists.now)) }
     ensures steady { result ≢ Err faults.Failed → F.faults shelf.new ≡ F.faults shelf.old }
     ensures rose { result ≡ Err faults.Failed → Rose (F.faults shelf.old) (F.faults shelf.new) }
 {

@@ -8,7 +8,8 @@ ghost use Rattle.transcript.specs.Transcript.{answer_lines, session_lines, trans
 ghost use Rattle.mged_words.specs.Entries.{HasSession, command_entry, session_of};
 ghost use Rattle.mged_words.specs.Readable.{IsReadable};
 ghost use Rattle.mged_top.specs.Answers.{core_answers, core_state, marked_entry, is_refused, all_session_lines};
-ghost use Rattle.mged_top.specs.Stages.{IsRun};
+ghost use Rattle.mged_top.specs.Stages.{IsRun, AreCurrent};
+ghost use Rattle.session_run.specs.declared.answer.Book.{Book as TheBook};
 ghost use Rattle.session_run.specs.Answers.{core_answer};
 ghost use Rattle.session_run.specs.Replies.{core_rules, most_used};
 
@@ -17,7 +18,7 @@ use directory::{Directory, recall_entries};
 use item_list::Items;
 use memory_core::Memory;
 use mged_words::ScriptCommand;
-use session_run::{Answer, Book, Own, answer_command};
+use session_run::{Answer, Book, Keep, Own, answer_command};
 use std::alloc::Global;
 use std::vec::Vec;
 use transcript::{push_accepted, push_order, push_refused};
@@ -43,11 +44,12 @@ fn keep_answer(answers: &mut Vec<Items<Answer>>, session: u8, answer: Answer) ->
     Ok(())
 }
 
-/// Answers the next command. `owns` has what each session has of its own.
+/// Answers the next command. `owns` has what each session has of its own, and `keeps` the scene that it keeps.
 fn run_command(
     alloc: Global,
     book: &mut Book,
     owns: &mut [Own],
+    keeps: &mut [Keep],
     answers: &mut Vec<Items<Answer>>,
     next: &ScriptCommand,
 ) -> Result<(), Memory>
@@ -56,15 +58,25 @@ fn run_command(
     requires quota { All (λ own. own.used ≤ most_used) owns.old }
     requires eight { vec_len answers.old ≡ 8 }
     requires small { book.old.version + 1 < 2 ^ 32 }
+    requires keeps { length keeps.old ≡ 8 }
+    requires current { AreCurrent keeps.old book.old }
     ensures numbers { length owns.new ≡ 8 }
     ensures quota { All (λ own. own.used ≤ most_used) owns.new }
+    ensures keeps { length keeps.new ≡ 8 }
+    ensures current { AreCurrent keeps.new book.new }
     ensures eight { vec_len answers.new ≡ 8 }
     ensures small { book.new.version ≤ book.old.version + 1 }
     ensures state { OnOk result (core_state book.new owns.new ≡ stepped core_rules (core_state book.old owns.old) (marked_entry (command_entry next.now))) }
     ensures kept { OnOk result ((k : ℕ) → core_answers answers.new.items k ≡ core_answers answers.old.items k ++ lane (answered core_rules (core_state book.old owns.old) (marked_entry (command_entry next.now)) ∷ []) k) }
 {
     let place = usize::from(next.session - 1);
-    let answer = answer_command(alloc, book, &mut owns[place], &next.command)?;
+    let answer = answer_command(
+        alloc,
+        book,
+        &mut owns[place],
+        &mut keeps[place],
+        &next.command,
+    )?;
     keep_answer(answers, next.session, answer)
 }
 
@@ -73,6 +85,7 @@ fn run_commands(
     alloc: Global,
     book: &mut Book,
     owns: &mut [Own],
+    keeps: &mut [Keep],
     answers: &mut Vec<Items<Answer>>,
     script: &[ScriptCommand],
 ) -> Result<(), Memory>
@@ -82,13 +95,27 @@ fn run_commands(
     requires quota { All (λ own. own.used ≤ most_used) owns.old }
     requires eight { vec_len answers.old ≡ 8 }
     requires fresh { book.old.version ≡ 0 }
+    requires keeps { length keeps.old ≡ 8 }
+    requires current { AreCurrent keeps.old book.old }
     ensures eight { vec_len answers.new ≡ 8 }
     ensures answered { OnOk result ((k : ℕ) → core_answers answers.new.items k ≡ core_answers answers.old.items k ++ lane (run_of core_rules (core_state book.old owns.old) (map marked_entry (map command_entry script.now))) k) }
 {
     for next in script {
-        run_command(alloc, book, owns, answers, next)?;
+        run_command(alloc, book, owns, keeps, answers, next)?;
     }
     Ok(())
+}
+
+/// No session keeps a scene yet.
+fn no_keeps(alloc: Global) -> Result<Vec<Keep>, Memory>
+    ensures eight { IfOk result (λ keeps. vec_len keeps ≡ 8) }
+    ensures current { IfOk result (λ keeps. (book : TheBook) → AreCurrent keeps.items book) }
+{
+    let mut keeps = Vec::new(alloc);
+    for _i in 0..8usize {
+        keeps.push(Keep::new())?;
+    }
+    Ok(keeps)
 }
 
 fn no_answers(alloc: Global) -> Result<Vec<Items<Answer>>, Memory>
@@ -196,8 +223,16 @@ pub(crate) fn run_script(
         version: 0,
     };
     let mut owns = [Own { used: 0 }; 8];
+    let mut keeps = no_keeps(alloc)?;
     let mut answers = no_answers(alloc)?;
-    run_commands(alloc, &mut book, &mut owns, &mut answers, script)?;
+    run_commands(
+        alloc,
+        &mut book,
+        &mut owns,
+        keeps.as_mut_slice(),
+        &mut answers,
+        script,
+    )?;
     let order = line_order(alloc, script)?;
     let text = write_transcript(alloc, &order, &answers)?;
     let some_refused = is_refused_among(&answers);

@@ -1,6 +1,7 @@
 -- Two texts, written one after the other.
-use Rattle.std.proofs.Common.{◌≡◌, ◌∙◌, ◌<◌, ◌+◌, ◌++◌, ℕ, suc, List, [], ◌∷◌, Option, Some, None, Result, Ok, Err, OnOk, OnErr, inl, inr, length, take, append_assoc, ap, sym, subst, arith}
+use Rattle.std.proofs.Common.{◌≡◌, ◌∙◌, ◌<◌, ◌+◌, ◌++◌, ℕ, List, [], ◌∷◌, Option, Some, None, Result, Ok, Err, OnOk, OnErr, inl, inr, length, take, append_assoc, ap, sym, subst, arith}
 use Rattle.std.specs.Io.KnownBytes.{Appends}
+use Rattle.std.proofs.Math.Seq.{take-append-add}
 use Rattle.std.proofs.lemmas.List.{length-append, take-append-le}
 use Rattle.outside_core.specs.Faults.{Rose}
 use Rattle.outside_core.specs.Transfers.{IsCutShort}
@@ -20,17 +21,11 @@ cut_first a b xs ys h = record {
   front = subst (Appends a b) (sym (take-append-le h.count xs ys (omega (arith, h.short)))) h.front;
 }
 
-take_both : (n : ℕ) (xs ys : List ℕ) → take (length xs + n) (xs ++ ys) ≡ xs ++ take n ys
-take_both n [] ys = ap (λ (m : ℕ). take m ys) (omega arith)
-take_both n (x ∷ xs) ys =
-    let more : suc (length xs) + n ≡ suc (length xs + n) = omega arith in
-    ap (λ (m : ℕ). take m (x ∷ (xs ++ ys))) more ∙ ap (λ t. x ∷ t) (take_both n xs ys)
-
 pub cut_second : (a b c : Option (List ℕ)) (xs ys : List ℕ) → Appends a b xs → IsCutShort b c ys → IsCutShort a c (xs ++ ys)
 cut_second a b c xs ys h k = record {
   count = length xs + k.count;
   short = omega (arith, k.short, length-append xs ys);
-  front = subst (Appends a c) (sym (take_both k.count xs ys)) (appends_both a b c xs (take k.count ys) h k.front);
+  front = subst (Appends a c) (sym (take-append-add xs ys k.count)) (appends_both a b c xs (take k.count ys) h k.front);
 }
 
 -- the second text was written, or cut short
@@ -40,7 +35,7 @@ cut_by (Err fault) a b c xs ys h k = cut_second a b c xs ys h k
 
 -- a line that isn't empty was written with its line feed, or cut short
 pub said_by : (r : Result (Unit {0}) Failed) (line : List ℕ) (a c : Option (List ℕ)) (faults faults' : ℕ) → 0 < length line → OnOk r (Appends a c (line ++ 10 ∷ [])) → OnErr r (IsCutShort a c (line ++ 10 ∷ []))
-    → OnErr r (Rose faults faults') → IsSaid (ended_line line) a c faults faults'
-said_by r [] a c faults faults' some written cut rose = absurd (omega (arith, some))
-said_by (Ok done) (x ∷ xs) a c faults faults' some written cut rose = inl written
-said_by (Err fault) (x ∷ xs) a c faults faults' some written cut rose = inr (cut, rose)
+    → OnOk r (faults' ≡ faults) → OnErr r (Rose faults faults') → IsSaid (ended_line line) a c faults faults'
+said_by r [] a c faults faults' some written cut steady rose = absurd (omega (arith, some))
+said_by (Ok done) (x ∷ xs) a c faults faults' some written cut steady rose = inl (written, steady)
+said_by (Err fault) (x ∷ xs) a c faults faults' some written cut steady rose = inr (cut, rose)

@@ -1,5 +1,5 @@
 //! The program over any words, reader, writers and shelf.
-ghost use Rattle.std.specs.Prelude.{◌≡◌, ◌++◌, ◌∷◌, [], OnOk, OnErr, map, string_bytes};
+ghost use Rattle.std.specs.Prelude.{◌≡◌, ◌≤◌, ◌⊎◌, ◌++◌, ◌∷◌, [], OnOk, OnErr, map, string_bytes};
 ghost use Rattle.std.specs.Io.KnownBytes.{Appends};
 ghost use Rattle.outside_core.specs.Faults.{Rose};
 ghost use Rattle.outside_core.specs.Transfers.{IsCutShort};
@@ -22,6 +22,13 @@ pub(crate) enum WordsFault {
 }
 
 impl From<Error> for WordsFault {
+    ghost use Rattle.std.specs.Prelude.{◌≡◌, ◌↔◌};
+    ghost use Rattle.std.specs.IoError.{error_kind};
+    ghost use Rattle.std.specs.declared.io.ErrorKind.TheVariants.{OutOfMemory};
+    ghost use Rattle.mgedrt.specs.declared.program.WordsFault.{WordsFault};
+
+    ghost from_gives = { λ error e. (e ≡ WordsFault.Memory) ↔ (error_kind error ≡ OutOfMemory) };
+
     fn from(error: Error) -> WordsFault {
         match error.kind() {
             ErrorKind::OutOfMemory => WordsFault::Memory,
@@ -31,6 +38,11 @@ impl From<Error> for WordsFault {
 }
 
 impl From<AllocError> for WordsFault {
+    ghost use Rattle.std.specs.Prelude.{◌≡◌};
+    ghost use Rattle.mgedrt.specs.declared.program.WordsFault.{WordsFault};
+
+    ghost from_gives = { λ _ e. e ≡ WordsFault.Memory };
+
     fn from(_error: AllocError) -> WordsFault {
         WordsFault::Memory
     }
@@ -40,6 +52,7 @@ impl From<AllocError> for WordsFault {
 fn write_ended<E: Sink>(error: &mut E, line: &[u8]) -> Result<(), Failed>
     ensures written { OnOk result (Appends (E.held error.old) (E.held error.new) (line.now ++ 10 ∷ [])) }
     ensures cut_short { OnErr result (IsCutShort (E.held error.old) (E.held error.new) (line.now ++ 10 ∷ [])) }
+    ensures steady { OnOk result (E.faults error.new ≡ E.faults error.old) }
     ensures rose { OnErr result (Rose (E.faults error.old) (E.faults error.new)) }
 {
     write_all(error, line)?;
@@ -79,10 +92,14 @@ pub(crate) fn run_program<R: AllocGlobal, S: Source, K: Sink, F: Shelf, G: Gate 
     gate: &G,
     error: &mut E,
 ) -> u8
-    ensures { IsProgram (given_words (λ words. map string_bytes words.items) words.now)
+    ensures called { IsProgram (given_words (λ words. map string_bytes words.items) words.now)
         (outside (S.left source.old) (K.held sink.old) (F.files shelf.old) (F.puts shelf.old) (S.faults source.old) (K.faults sink.old) (F.faults shelf.old))
         (outside (S.left source.new) (K.held sink.new) (F.files shelf.new) (F.puts shelf.new) (S.faults source.new) (K.faults sink.new) (F.faults shelf.new))
         (E.held error.old) (E.held error.new) (E.faults error.old) (E.faults error.new) result }
+    ensures wordless { OnErr words.now ((source.new ≡ source.old) × (sink.new ≡ sink.old) × (shelf.new ≡ shelf.old)) }
+    ensures unread { (result ≡ 2) ⊎ (result ≡ 3) → source.new ≡ source.old }
+    ensures unasked { result ≡ 2 → shelf.new ≡ shelf.old }
+    ensures unwritten { (2 ≤ result) × (result ≤ 5) → sink.new ≡ sink.old }
 {
     let status = match words {
         Ok(words) => mged_main(rt, words, source, sink, shelf, gate),

@@ -1,5 +1,5 @@
 -- The line of a part of a ray is one line, and what it is made of.
-use Rattle.std.proofs.Common.{◌≡◌, ◌≢◌, ◌<◌, ◌+◌, ◌/◌, ◌++◌, ◌∙◌, ℕ, pos, zero, suc, ap, Bool, true, false, cond, List, [], ◌∷◌, Option, Some, get_or, length, codes, refl, sym, arith, decimal}
+use Rattle.std.proofs.Common.{◌≡◌, ◌≢◌, ◌<◌, ◌++◌, ◌∙◌, ℕ, pos, zero, suc, ap, Bool, true, false, cond, List, [], ◌∷◌, Option, Some, get_or, length, codes, refl, sym, arith, decimal}
 use Rattle.std.specs.Fmt.{signed_decimal}
 use Rattle.std.specs.List.{slice_get}
 use Rattle.std.specs.Ordering.{int_eq}

@@ -5,3 +5,5 @@ pub mod ListingLaws
 pub mod CoreLaws
 pub mod StartLaws
 pub mod PlaceLaws
+pub mod UsedLaws
+pub mod KeepLaws

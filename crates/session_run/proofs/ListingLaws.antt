@@ -15,15 +15,15 @@ use Rattle.object_set.specs.Objects.{Parts, member_names}
 use Rattle.directory.specs.Walks.{Entries, object_of, most_depth}
 use Rattle.report_text.specs.Listings.{mark_in, marked, operator_text, Listed, listed_from, listed_in, body_leaves, leaves_of, leaf_line, with_below, lines_below, listing_of, listings, lines_of, written_lines}
 use Rattle.mged_words.specs.Readable.{ArePlain, IsPlainObject}
-use Rattle.mged_words.proofs.MemberLaws.{AreNamed, first_named, rest_named}
-use Rattle.mged_words.proofs.WrittenLaws.{object_lines_lack}
+use Rattle.put_form.proofs.MemberLaws.{AreNamed, first_named, rest_named}
+use Rattle.put_form.proofs.OneLine.{plain_lines}
 use Rattle.session_run.proofs.ObjectLaws.{all_both}
 use Rattle.session_run.proofs.EditLaws.{AreEntriesPlain, object_plain, mark_lacks}
 
 -- written lines
 lines_plain : (name : Name) (object : Option Parts) → Lacks 10 name → ((o : Parts) → object ≡ Some o → IsPlainObject o) → AllByRecursion (Lacks 10) (lines_of name object)
 lines_plain name None h k = tt
-lines_plain name (Some object) h k = object_lines_lack name object h (k object refl)
+lines_plain name (Some object) h k = let plain = k object refl in plain_lines name object h plain.members plain.kept
 
 pub written_plain : (es : Entries) (names : List Name) → AreEntriesPlain es → ArePlain names → AllByRecursion (Lacks 10) (written_lines es names)
 written_plain es [] h k = tt

@@ -22,7 +22,7 @@ use Rattle.edit_core.specs.ListForms.{list_of}
 use Rattle.edit_core.specs.Edits.{body_tree, tree_at, own_list, body_with, object_with, extended, with_tree}
 use Rattle.edit_core.proofs.ListLaws.{list_is}
 use Rattle.mged_words.specs.Readable.{ArePlain, ArePlainPairs, IsPlainObject}
-use Rattle.mged_words.proofs.MemberLaws.{AreNamed, first_named, rest_named, both_named}
+use Rattle.put_form.proofs.MemberLaws.{AreNamed, first_named, rest_named, both_named}
 
 -- of each of two lists, and so of both
 module _ {X : Type 0} (P : X → Type 0) where

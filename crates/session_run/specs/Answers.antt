@@ -8,11 +8,14 @@ use Rattle.session_run.specs.Replies.{shown}
 use Rattle.session_run.specs.declared.answer.Answer.{Answer}
 use Rattle.session_run.specs.declared.answer.Book.{Book}
 
+-- a directory and its version as those of the run
 abbrev pub core_book : Book → run.Book Listing
 core_book book = record { directory = book.directory; version = book.version }
 
+-- a session's answer as one of the run
 abbrev pub core_answer : Answer → run.Answer File
 core_answer answer = record { version = answer.version; reply = shown answer.outcome }
 
+-- a command that was not answered for want of memory
 abbrev pub unmarked : Command → run.Marked Command
 unmarked command = record { command = command; memory = false }

@@ -1,4 +1,5 @@
 pub mod Replies
 pub mod Answers
 pub mod Laws
+pub mod Kept
 pub mod Examples

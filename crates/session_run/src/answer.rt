@@ -14,8 +14,11 @@ ghost use Rattle.report_text.specs.Listings.{listings, written_lines};
 ghost use Rattle.report_text.specs.Names.{names_lines};
 ghost use Rattle.report_text.specs.Texts.{IsText};
 ghost use Rattle.session_run.specs.Answers.{core_book, core_answer, unmarked};
+ghost use Rattle.session_run.specs.Kept.{IsCurrent, Moves};
+ghost use Rattle.session_run.specs.declared.keep.Keep.{Keep};
 ghost use Rattle.session_run.specs.Replies.{core_rules, most_used, lines_alone, size_of, within_quota, lines_of_scene, shot_of, first_missing, lines_unless_missing, saved, found, edit_outcome, outcome_of, directory_made, used_after};
 
+use crate::keep::Keep;
 use crate::limit::MOST_USED;
 use asc_form::write_asc;
 use command_set::{Command, Edit, Query, Refusal, WorldRay};
@@ -228,39 +231,70 @@ fn refused(fault: PrepFault) -> Result<Result<Found, Refusal>, Memory>
     }
 }
 
-/// The partitions of a ray and the regions of names.
-fn look_along(
+/// The partitions of a ray and the regions of names, whose scene is prepared and kept.
+fn look_anew(
     alloc: Global,
-    directory: &Directory,
+    book: &Book,
+    keep: &mut Keep,
     used: u64,
     ray: &WorldRay,
     names: &[Name],
 ) -> Result<Result<Found, Refusal>, Memory>
-    requires { used ≤ most_used }
-    ensures { IfOk result (λ outcome. outcome ≡ within_quota used (shot_of directory.now.objects ray.now names.now)) }
+    requires quota { used ≤ most_used }
+    requires current { IsCurrent keep.old book.now.version book.now.directory.objects }
+    ensures outcome { IfOk result (λ outcome. outcome ≡ within_quota used (shot_of book.now.directory.objects ray.now names.now)) }
+    ensures current { IsCurrent keep.new book.now.version book.now.directory.objects }
 {
-    match prepare(alloc, directory, names) {
-        Ok(scene) => shoot_scene(alloc, &scene, used, ray),
+    match prepare(alloc, &book.directory, names) {
+        Ok(scene) => {
+            let outcome = shoot_scene(alloc, &scene, used, ray);
+            keep.put(alloc, book.version, names, scene);
+            outcome
+        }
         Err(fault) => refused(fault),
+    }
+}
+
+/// The partitions of a ray and the regions of names.
+fn look_along(
+    alloc: Global,
+    book: &Book,
+    keep: &mut Keep,
+    used: u64,
+    ray: &WorldRay,
+    names: &[Name],
+) -> Result<Result<Found, Refusal>, Memory>
+    requires quota { used ≤ most_used }
+    requires current { IsCurrent keep.old book.now.version book.now.directory.objects }
+    ensures outcome { IfOk result (λ outcome. outcome ≡ within_quota used (shot_of book.now.directory.objects ray.now names.now)) }
+    ensures current { IsCurrent keep.new book.now.version book.now.directory.objects }
+{
+    match keep.scene(book.version, names) {
+        Some(scene) => shoot_scene(alloc, scene, used, ray),
+        None => look_anew(alloc, book, keep, used, ray, names),
     }
 }
 
 /// What a query is answered.
 fn look(
     alloc: Global,
-    directory: &Directory,
+    book: &Book,
+    keep: &mut Keep,
     used: u64,
     query: &Query,
 ) -> Result<Result<Found, Refusal>, Memory>
-    requires { used ≤ most_used }
-    ensures { IfOk result (λ outcome. outcome ≡ within_quota used (found directory.now query.now)) }
+    requires quota { used ≤ most_used }
+    requires current { IsCurrent keep.old book.now.version book.now.directory.objects }
+    ensures outcome { IfOk result (λ outcome. outcome ≡ within_quota used (found book.now.directory query.now)) }
+    ensures current { IsCurrent keep.new book.now.version book.now.directory.objects }
 {
+    let directory = &book.directory;
     match query {
         Query::List { names } => look_at_objects(alloc, directory, used, names.items()),
         Query::Names => look_at_names(alloc, directory, used),
         Query::Tree { names } => look_at_trees(alloc, directory, used, names.items()),
         Query::Save { file } => save(alloc, directory, used, file),
-        Query::Shot { ray, names } => look_along(alloc, directory, used, ray, names.items()),
+        Query::Shot { ray, names } => look_along(alloc, book, keep, used, ray, names.items()),
     }
 }
 
@@ -270,6 +304,7 @@ fn edit_book(alloc: Global, book: &mut Book, edit: &Edit) -> Result<Result<Found
     ensures outcome { IfOk result (λ outcome. outcome ≡ edit_outcome (edited book.old.directory edit.now)) }
     ensures book { OnOk result (core_book book.new ≡ committed (core_book book.old) (result_ok (edited book.old.directory edit.now))) }
     ensures stays { OnErr result (book.new ≡ book.old) }
+    ensures moves { Moves book.old book.new }
     ensures version { book.new.version ≤ book.old.version + 1 }
 {
     match apply(alloc, &mut book.directory, edit) {
@@ -286,20 +321,24 @@ fn edit_book(alloc: Global, book: &mut Book, edit: &Edit) -> Result<Result<Found
 fn obey(
     alloc: Global,
     book: &mut Book,
+    keep: &mut Keep,
     used: u64,
     command: &Command,
 ) -> Result<Result<Found, Refusal>, Memory>
     requires version { book.old.version + 1 < 2 ^ 32 }
     requires quota { used ≤ most_used }
+    requires current { IsCurrent keep.old book.old.version book.old.directory.objects }
     ensures outcome { IfOk result (λ outcome. outcome ≡ outcome_of book.old.directory used command.now) }
     ensures book { OnOk result (core_book book.new ≡ committed (core_book book.old) (directory_made book.old.directory command.now)) }
     ensures stays { OnErr result (book.new ≡ book.old) }
+    ensures moves { Moves book.old book.new }
+    ensures current { IsCurrent keep.new book.new.version book.new.directory.objects }
     ensures version { book.new.version ≤ book.old.version + 1 }
 {
     match command {
         Command::Bad(refusal) => Ok(Err(*refusal)),
         Command::Edit(edit) => edit_book(alloc, book, edit),
-        Command::Query(query) => look(alloc, &book.directory, used, query),
+        Command::Query(query) => look(alloc, book, keep, used, query),
     }
 }
 
@@ -327,24 +366,29 @@ fn used_with(used: u64, outcome: &Result<Found, Refusal>) -> u64
 }
 
 /// The core step on one thread: what a command of a session is answered, with the book and what the session has of its own
-/// after it. Want of memory leaves both as they were.
+/// after it. Want of memory leaves both as they were. What a session keeps stays one that can be used with the book's
+/// directory, whichever session the command is of.
 pub fn answer_command(
     alloc: Global,
     book: &mut Book,
     own: &mut Own,
+    keep: &mut Keep,
     command: &Command,
 ) -> Result<Answer, Memory>
     requires version { book.old.version + 1 < 2 ^ 32 }
     requires quota { own.old.used ≤ most_used }
+    requires current { IsCurrent keep.old book.old.version book.old.directory.objects }
     ensures answer { IfOk result (λ answer. core_answer answer ≡ answer_of core_rules (core_book book.old) own.old (unmarked command.now)) }
     ensures book { OnOk result (core_book book.new ≡ book_after core_rules (core_book book.old) (unmarked command.now)) }
     ensures own { OnOk result (own.new ≡ own_after core_rules (core_book book.old) own.old (unmarked command.now)) }
     ensures quota { own.new.used ≤ most_used }
+    ensures current { IsCurrent keep.new book.new.version book.new.directory.objects }
+    ensures others { (other : Keep) → IsCurrent other book.old.version book.old.directory.objects → IsCurrent other book.new.version book.new.directory.objects }
     ensures version { book.new.version ≤ book.old.version + 1 }
     ensures book_stays { OnErr result (book.new ≡ book.old) }
     ensures own_stays { OnErr result (own.new ≡ own.old) }
 {
-    let outcome = obey(alloc, book, own.used, command)?;
+    let outcome = obey(alloc, book, keep, own.used, command)?;
     own.used = used_with(own.used, &outcome);
     Ok(Answer {
         version: book.version,

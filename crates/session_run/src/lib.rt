@@ -2,9 +2,11 @@
 #![tactic(auto)]
 
 mod answer;
+mod keep;
 mod laws;
 mod limit;
 
 pub use answer::{Answer, Book, Found, Own, answer_command};
+pub use keep::Keep;
 pub use laws::run_laws;
 pub use limit::{MOST_USED, limit_laws};

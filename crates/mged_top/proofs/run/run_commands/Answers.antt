@@ -34,6 +34,8 @@ loop-next-preserved c =
     record {
       numbers = c.in_ok-run_command.ensures.numbers;
       quota = c.in_ok-run_command.ensures.quota;
+      keeps = c.in_ok-run_command.ensures.keeps;
+      current = c.in_ok-run_command.ensures.current;
       eight = c.in_ok-run_command.ensures.eight;
       version = omega (arith, c.in_ok-run_command.ensures.small, c.loop-next.invariant.version);
       rest = λ k.

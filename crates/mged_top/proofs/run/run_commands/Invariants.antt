@@ -4,6 +4,7 @@ use Rattle.transcript.specs.Run.{run_of}
 use Rattle.mged_words.specs.Entries.{command_entry}
 use Rattle.session_run.specs.declared.answer.Own.{Own}
 use Rattle.mged_top.specs.Answers.{core_answers, core_state, marked_entry}
+use Rattle.mged_top.specs.Stages.{AreCurrent}
 use Rattle.session_run.specs.Replies.{core_rules, most_used}
 use Rattle.mged_top.proofs.run.run_commands.Given as goal
 
@@ -11,6 +12,8 @@ abbrev pub invariant-loop-next : goal.invariant-loop-next
 invariant-loop-next l = record {
   numbers : length l.owns ≡ 8;
   quota : All (λ (own : Own). own.used ≤ most_used) l.owns;
+  keeps : length l.keeps ≡ 8;
+  current : AreCurrent l.keeps l.book;
   eight : vec_len l.answers ≡ 8;
   version : l.book.version ≤ l.next-index;
   rest : (k : ℕ) → core_answers l.answers.items k ++ lane (run_of core_rules (core_state l.book l.owns) (map marked_entry (map command_entry (drop l.next-index l.script)))) k

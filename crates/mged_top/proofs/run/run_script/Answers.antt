@@ -1,5 +1,5 @@
 use Rattle.std.proofs.Common.{◌≡◌, ◌≤◌, ◌++◌, ◌∙◌, [], ℕ, List, All, map, length, ap, ap₂, replicate, refl, sym, subst, arith}
-use Rattle.std.proofs.lemmas.List.{length-map}
+use Rattle.std.proofs.lemmas.List.{length-map, get_or_default}
 use Rattle.std.proofs.lemmas.List.Elements.{All-map, All-weaker}
 use Rattle.std.specs.List.{list_any}
 use Rattle.transcript.specs.Merge.{Entry, lane}
@@ -11,10 +11,17 @@ use Rattle.mged_words.specs.Entries.{HasSession, session_of, command_entry}
 use Rattle.session_run.specs.Replies.{core_rules, start_from, nothing_used}
 use Rattle.session_run.specs.declared.answer.Answer.{Answer}
 use Rattle.session_run.specs.declared.answer.Own.{Own}
+use Rattle.session_run.specs.declared.keep.Keep.{Keep}
 use Rattle.session_run.proofs.StartLaws.{named_plain}
 use Rattle.mged_top.specs.Answers.{core_answers, marked_entry, is_refused}
-use Rattle.mged_top.proofs.RunLaws.{start_is, script_run, few_answers, any_default}
+use Rattle.mged_top.specs.Stages.{AreCurrent}
+use Rattle.mged_top.proofs.RunLaws.{start_is, script_run, few_answers}
 use Rattle.mged_top.proofs.run.run_script.Goals as goal
+
+pub run_commands-requires-clause-current : goal.run_commands-requires-clause-current
+run_commands-requires-clause-current c =
+    subst (λ (keeps : List Keep). AreCurrent keeps (record { directory = c.args.directory; version = 0 })) (sym c.as_mut_slice.ensures.value)
+    (c.in_ok-keeps.ensures.current (record { directory = c.args.directory; version = 0 }))
 
 pub write_transcript-requires-clause-order : goal.write_transcript-requires-clause-order
 write_transcript-requires-clause-order c =
@@ -31,7 +38,7 @@ write_transcript-requires-clause-few c = λ k e lt.
     let answers : (n : ℕ) → core_answers lists n ≡ core_answers none n ++ lane (run_of core_rules (start_from d) (map marked_entry script)) n =
     λ n. ap (λ xs. core_answers xs n) c.deref-2.ensures.value ∙ c.in_ok-run_commands.ensures.answered n
     ∙ ap (λ (s : State Listing Own). core_answers none n ++ lane (run_of core_rules s (map marked_entry script)) n) (start_is d (replicate 8 nothing_used) refl) in
-    omega (arith, few_answers d script none lists c.in_ok-answers.ensures answers k, ap length (any_default lists k e [] lt), length-map c.args.script.now command_entry, c.requires.few)
+    omega (arith, few_answers d script none lists c.in_ok-answers.ensures answers k, ap length (get_or_default lists k e [] lt), length-map c.args.script.now command_entry, c.requires.few)
 
 pub returns-clause-run : goal.returns-clause-run
 returns-clause-run c =

@@ -15,4 +15,4 @@ returns g c =
     let some = eqb-false (length c.bytes.result.now) 0 (sym c.if-is_empty.ensures) in
     let same = ap length (c.bytes-2.ensures ∙ sym c.bytes.ensures) in
     subst (λ (text : List ℕ). IsSaid (ended_line text) held held' faults faults') line
-    (said_by c.write_ended.result c.bytes-2.result.now held held' faults faults' (omega (arith, some, same)) c.write_ended.ensures.written c.write_ended.ensures.cut_short c.write_ended.ensures.rose)
+    (said_by c.write_ended.result c.bytes-2.result.now held held' faults faults' (omega (arith, some, same)) c.write_ended.ensures.written c.write_ended.ensures.cut_short c.write_ended.ensures.steady c.write_ended.ensures.rose)

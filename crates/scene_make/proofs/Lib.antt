@@ -1,0 +1,5 @@
+pub mod NameLaws
+pub mod TextLaws
+pub mod UnionLaws
+pub mod SizeLaws
+pub mod TurnLaws

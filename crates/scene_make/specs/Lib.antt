@@ -1,0 +1,4 @@
+pub mod Draws
+pub mod Demo
+pub mod Steps
+pub mod Examples

@@ -201,7 +201,7 @@ later_of x p ps here z l =
       )
     ]
 
-last_up_to : (x : Pos) (ps : List Pos) → ((z : Pos) × IsLast x ps z) ⊎ ((y : Pos) → Has ps y → is_before x y ≡ true)
+pub last_up_to : (x : Pos) (ps : List Pos) → ((z : Pos) × IsLast x ps z) ⊎ ((y : Pos) → Has ps y → is_before x y ≡ true)
 last_up_to x [] = inr (λ y h. absurd h)
 last_up_to x (p ∷ ps) =
     elim (cases_Bool (is_before x p)) [
@@ -237,21 +237,39 @@ as_from_last x z y ps l h =
       | inr up ↦ up ∙ sym (l.last y h up)
     ]
 
+abbrev pub ends_of : List Woven → List Pos
+ends_of woven = flat_map (λ (w : Woven). w.seg.start ∷ w.seg.end ∷ []) woven
+
+-- of places with all ends among them, what is claimed behind a place is what is claimed behind the last that comes up to it,
+-- and nothing is claimed before all of them
+abbrev pub HoldEnds : List Woven → List Pos → Type 0
+HoldEnds woven ps = (w : Woven) → Has woven w → Has ps w.seg.start × Has ps w.seg.end
+
+ends_held : (woven : List Woven) → HoldEnds woven (ends_of woven)
+ends_held woven = λ w h. (start_is_place woven w h, end_is_place woven w h)
+
+pub places_held : (woven : List Woven) → HoldEnds woven (places_of woven)
+places_held woven = λ w h. (inr (inr (start_is_place woven w h)), inr (inr (end_is_place woven w h)))
+
+pub behind_from : (woven : List Woven) (ps : List Pos) → HoldEnds woven ps → (x z : Pos) → IsLast x ps z → (tree : Mask) (first : ℕ) → claims_behind woven tree first x ≡ claims_behind woven tree first z
+behind_from woven ps held x z l tree first =
+    mask_alike tree (λ i. spans_behind woven x (first + i)) (λ i. spans_behind woven z (first + i)) (λ i.
+    any_same (λ w. eqb w.instance (first + i) && covers_behind x w.seg) (λ w. eqb w.instance (first + i) && covers_behind z w.seg) woven (λ w h.
+    ap (λ b. eqb w.instance (first + i) && (not b && is_before x w.seg.end)) (as_from_last x z w.seg.start ps l (held w h).0)
+    ∙ ap (λ b. eqb w.instance (first + i) && (not (is_before z w.seg.start) && b)) (as_from_last x z w.seg.end ps l (held w h).1)))
+
+pub behind_none : (woven : List Woven) (ps : List Pos) → HoldEnds woven ps → (x : Pos) → ((y : Pos) → Has ps y → is_before x y ≡ true) → (tree : Mask) (first : ℕ) → claims_behind woven tree first x ≡ false
+behind_none woven ps held x none tree first =
+    nothing_from_nothing tree (λ i. spans_behind woven x (first + i)) (λ i.
+    any_none (λ w. eqb w.instance (first + i) && covers_behind x w.seg) woven (λ w h.
+    ap (λ b. eqb w.instance (first + i) && (not b && is_before x w.seg.end)) (none w.seg.start (held w h).0) ∙ none_of (eqb w.instance (first + i))))
+
 pub claims_begin_at_ends : ClaimsBeginAtEnds
 claims_begin_at_ends woven tree first x claimed =
-    let places = flat_map (λ (w : Woven). w.seg.start ∷ w.seg.end ∷ []) woven in
-    elim (last_up_to x places) [
+    elim (last_up_to x (ends_of woven)) [
       | inl l ↦
-          let same : claims_behind woven tree first x ≡ claims_behind woven tree first l.0 =
-          mask_alike tree (λ i. spans_behind woven x (first + i)) (λ i. spans_behind woven l.0 (first + i)) (λ i.
-          any_same (λ w. eqb w.instance (first + i) && covers_behind x w.seg) (λ w. eqb w.instance (first + i) && covers_behind l.0 w.seg) woven (λ w h.
-          ap (λ b. eqb w.instance (first + i) && (not b && is_before x w.seg.end)) (as_from_last x l.0 w.seg.start places l.1 (start_is_place woven w h))
-          ∙ ap (λ b. eqb w.instance (first + i) && (not (is_before l.0 w.seg.start) && b)) (as_from_last x l.0 w.seg.end places l.1 (end_is_place woven w h)))) in
           let w = end_of_some woven l.0 l.1.there in
           let c = contains_from_has woven w.0 w.1 in
-          record { end = l.0; there = (c.0, w.0, c.1, c.2, w.2); reached = l.1.reached; claimed = sym same ∙ claimed }
-      | inr none ↦
-          absurd (true≢false (sym claimed ∙ nothing_from_nothing tree (λ i. spans_behind woven x (first + i)) (λ i.
-          any_none (λ w. eqb w.instance (first + i) && covers_behind x w.seg) woven (λ w h.
-          ap (λ b. eqb w.instance (first + i) && (not b && is_before x w.seg.end)) (none w.seg.start (start_is_place woven w h)) ∙ none_of (eqb w.instance (first + i))))))
+          record { end = l.0; there = (c.0, w.0, c.1, c.2, w.2); reached = l.1.reached; claimed = sym (behind_from woven (ends_of woven) (ends_held woven) x l.0 l.1 tree first) ∙ claimed }
+      | inr none ↦ absurd (true≢false (sym claimed ∙ behind_none woven (ends_of woven) (ends_held woven) x none tree first))
     ]

@@ -9,3 +9,4 @@ pub mod Middles
 pub mod Claimed
 pub mod LawProofs
 pub mod Behind
+pub mod Flanks

@@ -52,11 +52,11 @@ module _ (has : ℕ → Bool) where
       ]
 
   -- the first run of numbers that have the property is found, where there is one
-  found : (count : ℕ) → has count ≡ false → (find (is_maximal has) (runs_below count) ≡ None)
+  pub found : (count : ℕ) → has count ≡ false → ((find (is_maximal has) (runs_below count) ≡ None) × ((k : ℕ) → k < count → has k ≡ false))
       ⊎ ((run : IntervalRun) × (find (is_maximal has) (runs_below count) ≡ Some run) × IsEnd has run.from run.to × (run.to ≤ count) × ((k : ℕ) → k < run.from → has k ≡ false))
   found count last =
       elim (least count) [
-        | inl none ↦ inl (find_first (is_maximal has) (runs_below count) ∙ ap first_of (none_of has count 0 count (λ k low high. none k (omega (arith, high)))))
+        | inl none ↦ inl (find_first (is_maximal has) (runs_below count) ∙ ap first_of (none_of has count 0 count (λ k low high. none k (omega (arith, high)))), none)
         | inr f ↦
             let t = end_from count (count - (f.0 + 1)) (f.0 + 1) (omega (arith, f.1)) last in
             let e : IsEnd has f.0 t.0 = record {
@@ -78,7 +78,7 @@ no_run_there b e = cc e
 
 module _ (woven : List Woven) (regions : List RegionClaims) (rows : All (λ r. length r.claims ≡ length (intervals_of woven)) regions) where
   -- behind the last interval no two regions overlap
-  past : (one two : ℕ) → one < length regions → do_overlap_at regions (pair_of one two) (length (intervals_of woven)) ≡ false
+  pub past : (one two : ℕ) → one < length regions → do_overlap_at regions (pair_of one two) (length (intervals_of woven)) ≡ false
   past one two lt =
       let nothing : RegionClaims = record { air = false; first = 0; count = 0; claims = [] } in
       and_left _ _
@@ -108,7 +108,7 @@ module _ (woven : List Woven) (regions : List RegionClaims) (rows : All (λ r. l
       let one : c.0.one ≡ m.0 = ap (λ (x : RegionPair). x.one) m.2 in
       let two : c.0.two ≡ m.1 = ap (λ (x : RegionPair). x.two) m.2 in
       elim (found (do_overlap_at regions c.0) (length (intervals_of woven)) (past c.0.one c.0.two (omega (arith, one, m.4, m.5)))) [
-        | inl none ↦ absurd (no_run_there o (sym (ap (overlap_on woven c.0) none) ∙ c.2))
+        | inl none ↦ absurd (no_run_there o (sym (ap (overlap_on woven c.0) none.0) ∙ c.2))
         | inr r ↦ subst (IsFirstOverlap woven regions)
             (same_run (record { one = c.0.one; two = c.0.two; start = cut_at woven r.0.from; end = cut_at woven r.0.to }) o (sym (ap (overlap_on woven c.0) r.1) ∙ c.2))
             (overlap_of c.0 r.0 (omega (arith, one, two, m.4)) (omega (arith, two, m.4, m.5)) r.2 r.3 r.4)

@@ -113,7 +113,7 @@ tied_by Less x y e a b = absurd (true≢false (sym (ap is_lt e) ∙ a))
 tied_by Equal x y e a b = e
 tied_by Greater x y e a b = absurd (true≢false (sym (ap is_lt (turned x y Greater e)) ∙ b))
 
-tied_from : (x y : Pos) → is_before x y ≡ false → is_before y x ≡ false → place_cmp x y ≡ Equal
+pub tied_from : (x y : Pos) → is_before x y ≡ false → is_before y x ≡ false → place_cmp x y ≡ Equal
 tied_from x y a b = tied_by (place_cmp x y) x y refl a b
 
 module _ (woven : List Woven) (regions : List TreeRegion) (s : AreSpelled woven) where
@@ -132,7 +132,7 @@ module _ (woven : List Woven) (regions : List TreeRegion) (s : AreSpelled woven)
       get_or-map (claims_interval woven r.tree r.first) (intervals_of woven) k (interval_at (cuts_of woven) k) false lt
       ∙ ap (claims_interval woven r.tree r.first) (intervals_at (cuts_of woven) k (interval_at (cuts_of woven) k) (within_cuts k lt))
 
-  claim_behind : (r : TreeRegion) (k : ℕ) → k < count → claims_at (claims_by woven r) k ≡ claims_behind woven r.tree r.first (cut_at woven k)
+  pub claim_behind : (r : TreeRegion) (k : ℕ) → k < count → claims_at (claims_by woven r) k ≡ claims_behind woven r.tree r.first (cut_at woven k)
   claim_behind r k lt = claim_is r k lt ∙ beside.claimed_behind woven s r.tree r.first k (within_cuts k lt)
 
   claim_before : (r : TreeRegion) (k : ℕ) → k < count → has_before (claims_at (claims_by woven r)) k ≡ claims_before woven r.tree r.first (cut_at woven k)
@@ -190,7 +190,7 @@ module _ (woven : List Woven) (regions : List TreeRegion) (s : AreSpelled woven)
       let w = won_run all count run h in
       true≢false (sym (passes_solid run (omega (arith, w.0.some, w.1)) w.0.region is) ∙ none (cut_at woven run.from))))
 
-  rows : All (λ x. length x.claims ≡ count) all
+  pub rows : All (λ x. length x.claims ≡ count) all
   rows = All-map (λ (x : RegionClaims). length x.claims ≡ count) (claims_by woven) regions (λ k d lt. length-map (intervals_of woven) (claims_interval woven (get_or regions k d).tree (get_or regions k d).first))
 
   -- the first place is where an interval starts

@@ -11,3 +11,4 @@ pub mod Covering
 pub mod Trees
 pub mod Hitting
 pub mod Firsts
+pub mod ByPlaces

@@ -6,4 +6,5 @@ pub mod Overlaps
 pub mod Steps
 pub mod Laws
 pub mod Firsts
+pub mod FirstOverlaps
 pub mod Examples

@@ -1,5 +1,6 @@
 ghost use Rattle.overlap_list.specs.Laws.{WinnersAreRight, RunsAreMaximal, PartitionsAreInOrder, PartitionsAreOnTheRay, PartitionsAreWon, ClaimsArePartitioned, HitsAreThere, OverlapsAreInOrder, OverlapsAreFirst, OverlapsAreOnTheRay};
 ghost use Rattle.overlap_list.specs.Firsts.{FirstStartsAtFirstPlace, NoneWithoutPlace};
+ghost use Rattle.overlap_list.specs.FirstOverlaps.{OverlapsAreByPlaces, FirstStretchIsOverlap, NoOverlapWithoutStretch};
 
 /// Laws of winners, of partitions and of their hits. The function does nothing: its contract is the laws.
 pub fn partition_laws()
@@ -23,4 +24,11 @@ pub fn overlap_laws()
 pub fn first_laws()
     ensures first { FirstStartsAtFirstPlace }
     ensures none { NoneWithoutPlace }
+{}
+
+/// Laws of the first overlap of two regions. The function does nothing: its contract is the laws.
+pub fn first_overlap_laws()
+    ensures places { OverlapsAreByPlaces }
+    ensures stretch { FirstStretchIsOverlap }
+    ensures none { NoOverlapWithoutStretch }
 {}

@@ -9,7 +9,7 @@ mod region;
 mod winner;
 
 pub use hit::Hit;
-pub use laws::{first_laws, overlap_laws, partition_laws};
+pub use laws::{first_laws, first_overlap_laws, overlap_laws, partition_laws};
 pub use overlap::{CheckFault, MOST_PAIRS, OverlapRun, limit_laws, overlaps};
 pub use partition::{Partition, settle};
 pub use region::RegionClaims;

@@ -82,7 +82,7 @@ met_tells (Span xlo xhi ylo yhi zlo zhi) ray =
           and_from _ _ ((tells xlo xhi ray.origin.x (unit_of ray.dir).x).1 k.0) (and_from _ _ ((tells ylo yhi ray.origin.y (unit_of ray.dir).y).1 k.1) ((tells zlo zhi ray.origin.z (unit_of ray.dir).z).1 k.2)),
     )
 
-same_bool : (a b : Bool) → (a ≡ true → b ≡ true) → (b ≡ true → a ≡ true) → a ≡ b
+pub same_bool : (a b : Bool) → (a ≡ true → b ≡ true) → (b ≡ true → a ≡ true) → a ≡ b
 same_bool true true f g = refl
 same_bool true false f g = sym (f refl)
 same_bool false true f g = g refl

@@ -140,13 +140,13 @@ pub claims_length : (woven : List Woven) (first : ℕ) (rs : List Region) → le
 claims_length woven first [] = refl
 claims_length woven first (r ∷ rs) = ap (λ k. suc k) (claims_length woven (first + length r.body.instances) rs)
 
-claims_number : (woven : List Woven) (first : ℕ) (rs : List Region) (n : ℕ) (d : RegionClaims) → n < length rs
+pub claims_number : (woven : List Woven) (first : ℕ) (rs : List Region) (n : ℕ) (d : RegionClaims) → n < length rs
     → get_or (claims_from woven first rs) n d ≡ body_claims woven (get_or (firsts_from first rs) n 0) (get_or rs n no_region).body
 claims_number woven first [] n d lt = absurd (omega (arith, lt))
 claims_number woven first (r ∷ rs) zero d lt = refl
 claims_number woven first (r ∷ rs) (suc n) d lt = claims_number woven (first + length r.body.instances) rs n d (omega (arith, lt))
 
-no_claims : RegionClaims
+pub no_claims : RegionClaims
 no_claims = record { air = false; first = 0; count = 0; claims = [] }
 
 -- what the regions of these numbers claim is what is left of all

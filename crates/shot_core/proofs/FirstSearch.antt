@@ -1,8 +1,9 @@
 -- The earliest claimed end of a region's segments is the first place behind which the region claims.
-use Rattle.std.proofs.Common.{◌≡◌, ◌<◌, ◌+◌, ◌⊎◌, ℕ, List, [], ◌∷◌, ◌++◌, length, get_or, map, drop, arith, Bool, true, false, ◌&&◌, Option, Some, None, All, ap, sym, ◌∙◌, subst, refl, inl, inr}
+use Rattle.std.proofs.Common.{◌≡◌, ◌<◌, ◌+◌, ◌⊎◌, ℕ, List, [], ◌∷◌, ◌++◌, length, get_or, map, drop, arith, Bool, true, false, not, ◌&&◌, ◌||◌, Option, Some, None, All, ap, sym, ◌∙◌, subst, refl, inl, inr}
 use Rattle.std.specs.Option.{ForSome}
 use Rattle.std.specs.Ordering.{is_lt}
-use Rattle.std.proofs.lemmas.Bool.{cases_Bool, and_parts, and_from, cond-true, cond-false, true≢false, false_from_ne_true}
+use Rattle.std.proofs.Math.Bool.{or-false}
+use Rattle.std.proofs.lemmas.Bool.{eq-eqb, cases_Bool, and_parts, and_from, cond-true, cond-false, true≢false, false_from_ne_true}
 use Rattle.std.proofs.lemmas.List.{append-nil, append_assoc, drop_more}
 use Rattle.std.proofs.lemmas.List.Elements.{All-nil, All-cons, All-append}
 use Rattle.surd_order.specs.declared.position.Pos.{Pos}
@@ -14,9 +15,10 @@ use Rattle.bool_weave.specs.declared.woven.Woven.{Woven}
 use Rattle.bool_weave.specs.Cuts.{IsSegment}
 use Rattle.bool_weave.specs.Masks.{Mask}
 use Rattle.bool_weave.specs.Claims.{is_before}
-use Rattle.bool_weave.specs.Behind.{claims_behind}
+use Rattle.tree_forms.specs.Trees.{Leaf}
+use Rattle.bool_weave.specs.Behind.{covers_behind, claims_behind}
 use Rattle.bool_weave.proofs.Sorted.{Has, has_from_contains, contains_from_has}
-use Rattle.bool_weave.proofs.Cutting.{less_from}
+use Rattle.bool_weave.proofs.Cutting.{less_from, less_from_precedes}
 use Rattle.bool_weave.proofs.Behind.{never_itself, before_through, claims_begin_at_ends}
 use Rattle.solid_set.specs.Laws.{IsSound}
 use Rattle.lattice_core.specs.declared.ray.Ray.{Ray}
@@ -24,7 +26,7 @@ use Rattle.solid_set.specs.declared.placed.Placed.{Placed}
 use Rattle.solid_set.specs.Segments.{segment_of}
 use Rattle.shot_core.specs.Prepared.{instance_of}
 use Rattle.shot_core.specs.Shots.{woven_if, woven_from}
-use Rattle.shot_core.specs.FirstSteps.{IsOfBody, earlier_of, earliest_of, IsFirstClaim}
+use Rattle.shot_core.specs.FirstSteps.{IsOfBody, earlier_of, earliest_of, IsFirstClaim, IsOneAlone}
 
 pub segment_from : (seg : Seg) → IsSound seg → IsSegment seg
 segment_from seg s = record {
@@ -161,3 +163,29 @@ module _ (own : List Woven) (tree : Mask) (first count : ℕ) (sound : All (IsOf
 
   pub first_claim : IsFirstClaim own tree first (earliest_of claims_at_place None own)
   first_claim = first_go (earliest_of claims_at_place None own) refl
+
+-- the one segment of a region that is a single solid
+pub first_of_one : (own : List Woven) (tree : Mask) (first : ℕ) (w : Woven) → own ≡ w ∷ [] → w.instance ≡ first → tree ≡ Leaf (Some 0) → IsSegment w.seg → IsFirstClaim own tree first (Some w.seg.start)
+first_of_one own tree first w is number alone seg =
+    let here : (x : Pos) → claims_behind own tree first x ≡ covers_behind x w.seg = λ x.
+    let next : w.instance ≡ first + 0 = omega (arith, number) in
+    ap (λ (t : Mask). claims_behind own t first x) alone ∙ ap (λ ws. claims_behind ws (Leaf (Some 0)) first x) is
+    ∙ ap (λ b. (b && covers_behind x w.seg) || false) (eq-eqb w.instance (first + 0) next) ∙ or-false (covers_behind x w.seg) in
+    record {
+      claimed = here w.seg.start ∙ ap (λ b. not b && is_before w.seg.start w.seg.end) (never_itself w.seg.start) ∙ ap is_lt (less_from_precedes w.seg.start w.seg.end seg.start_spelled seg.end_spelled seg.ordered);
+      early = λ y before. here y ∙ ap (λ b. not b && is_before y w.seg.end) before;
+      range = seg.start_range;
+      spelled = seg.start_spelled;
+    }
+
+pub first_of_alone : (own : List Woven) (tree : Mask) (first count : ℕ) (d : Woven) → All (IsOfBody first count) own → IsOneAlone own first tree → IsFirstClaim own tree first (Some (get_or own 0 d).seg.start)
+first_of_alone own tree first count d sound o =
+    let at : get_or own 0 d ≡ o.one = ap (λ ws. get_or ws 0 d) o.is in
+    let some_there : 0 < length own = omega (arith, ap length o.is) in
+    let seg : IsSegment o.one.seg = subst (λ (v : Woven). IsSegment v.seg) at (sound 0 d some_there).segment in
+    subst (λ (v : Woven). IsFirstClaim own tree first (Some v.seg.start)) (sym at) (first_of_one own tree first o.one o.is o.number o.alone seg)
+
+pub single : (own : List Woven) (d : Woven) → length own ≡ 1 → own ≡ get_or own 0 d ∷ []
+single [] d e = absurd (omega (arith, e))
+single (w ∷ []) d e = refl
+single (w ∷ v ∷ ws) d e = absurd (omega (arith, e))

@@ -31,7 +31,7 @@ woven_spelled regions ray =
     let s = segment_spelled i.one.surface ray w.seg i.segment in
     record { start = s.0; end = s.1 })
 
-claims_by_trees : (woven : List Woven) (first : ℕ) (rs : List Region) → claims_from woven first rs ≡ map (claims_by woven) (trees_from first rs)
+pub claims_by_trees : (woven : List Woven) (first : ℕ) (rs : List Region) → claims_from woven first rs ≡ map (claims_by woven) (trees_from first rs)
 claims_by_trees woven first [] = refl
 claims_by_trees woven first (r ∷ rs) = ap (λ l. claims_by woven (tree_region first r.body) ∷ l) (claims_by_trees woven (first + length r.body.instances) rs)
 
@@ -66,20 +66,20 @@ seen_at_first_place regions ray x p = seen_first regions ray x p
 pub nothing_seen_else : NothingSeenElse
 nothing_seen_else regions ray none = seen_none regions ray none
 
-none_right : (b : Bool) → (b || false) ≡ b
+pub none_right : (b : Bool) → (b || false) ≡ b
 none_right true = refl
 none_right false = refl
 
 -- whether some segment of an instance passes
 module _ (f : Seg → Bool) where
-  abbrev some_passes : List Woven → ℕ → Bool
+  abbrev pub some_passes : List Woven → ℕ → Bool
   some_passes ws m = list_any (λ (w : Woven). eqb w.instance m && f w.seg) ws
 
-  other : (n m : ℕ) (o : Option Seg) (ws : List Woven) → n ≢ m → some_passes (woven_if n o ++ ws) m ≡ some_passes ws m
+  pub other : (n m : ℕ) (o : Option Seg) (ws : List Woven) → n ≢ m → some_passes (woven_if n o ++ ws) m ≡ some_passes ws m
   other n m None ws ne = refl
   other n m (Some seg) ws ne = ap (λ b. (b && f seg) || some_passes ws m) (ne_eqb n m ne)
 
-  under : (ray : Ray) (n m : ℕ) (xs : List Instance) → m < n → some_passes (woven_from ray n xs) m ≡ false
+  pub under : (ray : Ray) (n m : ℕ) (xs : List Instance) → m < n → some_passes (woven_from ray n xs) m ≡ false
   under ray n m [] lt = refl
   under ray n m (x ∷ xs) lt =
       other n m (segment_of x.surface ray) (woven_from ray (n + 1) xs) (λ e. omega (arith, lt, e)) ∙ under ray (n + 1) m xs (omega (arith, lt))

@@ -4,6 +4,7 @@ pub mod Between
 pub mod Landing
 pub mod Nodes
 pub mod Numbering
+pub mod Ordering
 pub mod Picking
 pub mod Weaving
 pub mod Claiming
@@ -16,6 +17,16 @@ pub mod NearSides
 pub mod OnRay
 pub mod InBoxes
 pub mod Missing
+pub mod TileMeeting
+pub mod OwnClaims
+pub mod FirstHits
+pub mod KeptSeen
+pub mod KeptOverlaps
+pub mod KeptLaws
+pub mod Candidates
 pub mod FirstSearch
 pub mod Fronting
 pub mod Owning
+pub mod Passing
+pub mod LowestHits
+pub mod Seeing

@@ -19,7 +19,7 @@ use Rattle.shot_core.specs.Steps.{marked_from, renumbered_run}
 use Rattle.shot_core.proofs.Picking.{kept, LeavesOut, ClaimsNothing, as_many}
 
 -- a number with each later one of a list
-abbrev pairs_of : List ℕ → List RegionPair
+abbrev pub pairs_of : List ℕ → List RegionPair
 pairs_of [] = []
 pairs_of (n ∷ ns) = map (pair_of n) ns ++ pairs_of ns
 
@@ -42,15 +42,15 @@ pairs_is (suc n) =
     let z : 0 + n ≡ n = omega arith in
     ap pairs_up_to e ∙ ap (λ k. flat_map (pairs_from k) (range_with_len 0 n)) (sym z) ∙ rows_of 0 n ∙ ap (λ k. pairs_of (range_with_len 0 k)) (sym f)
 
-chosen_same : {X Y : Type 0} (f g : X → Option Y) (xs : List X) → ((x : X) → Has xs x → f x ≡ g x) → filter_map f xs ≡ filter_map g xs
+pub chosen_same : {X Y : Type 0} (f g : X → Option Y) (xs : List X) → ((x : X) → Has xs x → f x ≡ g x) → filter_map f xs ≡ filter_map g xs
 chosen_same f g [] h = refl
 chosen_same f g (x ∷ xs) h = ap (λ o. cons_option o (filter_map f xs)) (h x (inl refl)) ∙ ap (λ l. cons_option (g x) l) (chosen_same f g xs (λ y there. h y (inr there)))
 
-chosen_none : {X Y : Type 0} (f : X → Option Y) (xs : List X) → ((x : X) → Has xs x → f x ≡ None) → filter_map f xs ≡ []
+pub chosen_none : {X Y : Type 0} (f : X → Option Y) (xs : List X) → ((x : X) → Has xs x → f x ≡ None) → filter_map f xs ≡ []
 chosen_none f [] h = refl
 chosen_none f (x ∷ xs) h = ap (λ o. cons_option o (filter_map f xs)) (h x (inl refl)) ∙ chosen_none f xs (λ y there. h y (inr there))
 
-chosen_from : {X Y Z : Type 0} (f : Y → Option Z) (g : X → Y) (xs : List X) → filter_map f (map g xs) ≡ filter_map (λ x. f (g x)) xs
+pub chosen_from : {X Y Z : Type 0} (f : Y → Option Z) (g : X → Y) (xs : List X) → filter_map f (map g xs) ≡ filter_map (λ x. f (g x)) xs
 chosen_from f g [] = refl
 chosen_from f g (x ∷ xs) = ap (cons_option (f (g x))) (chosen_from f g xs)
 
@@ -58,7 +58,7 @@ cons_mapped : {Y Z : Type 0} (g : Y → Z) (o : Option Y) (ys : List Y) → cons
 cons_mapped g None ys = refl
 cons_mapped g (Some y) ys = refl
 
-chosen_to : {X Y Z : Type 0} (f : X → Option Y) (g : Y → Z) (xs : List X) → filter_map (λ x. option_map g (f x)) xs ≡ map g (filter_map f xs)
+pub chosen_to : {X Y Z : Type 0} (f : X → Option Y) (g : Y → Z) (xs : List X) → filter_map (λ x. option_map g (f x)) xs ≡ map g (filter_map f xs)
 chosen_to f g [] = refl
 chosen_to f g (x ∷ xs) = ap (cons_option (option_map g (f x))) (chosen_to f g xs) ∙ cons_mapped g (f x) (filter_map f xs)
 
@@ -103,7 +103,7 @@ row_renamed : (f : ℕ → ℕ) (a : ℕ) (ns : List ℕ) → map (pair_of (f a)
 row_renamed f a [] = refl
 row_renamed f a (n ∷ ns) = ap (λ l. pair_of (f a) (f n) ∷ l) (row_renamed f a ns)
 
-mapped_append : {X Y : Type 0} (g : X → Y) (xs ys : List X) → map g (xs ++ ys) ≡ map g xs ++ map g ys
+pub mapped_append : {X Y : Type 0} (g : X → Y) (xs ys : List X) → map g (xs ++ ys) ≡ map g xs ++ map g ys
 mapped_append g [] ys = refl
 mapped_append g (x ∷ xs) ys = ap (λ l. g x ∷ l) (mapped_append g xs ys)
 

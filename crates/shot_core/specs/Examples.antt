@@ -5,6 +5,7 @@ use Rattle.lattice_core.specs.declared.boxes.Box3.{Box3}
 use Rattle.lattice_core.specs.declared.boxes.Box3.TheVariants.{Empty, Span}
 use Rattle.lattice_core.specs.declared.ray.Ray.{Ray}
 use Rattle.lattice_core.specs.declared.ray.Dir.TheVariants.{PlusX}
+use Rattle.lattice_core.specs.declared.view.View.{View}
 use Rattle.lattice_core.specs.Vectors.{vector, zero_vector}
 use Rattle.prim_arb8.specs.Faces.{planes_of}
 use Rattle.prim_sphere.specs.Spheres.{box_of as ball_box}
@@ -22,6 +23,8 @@ use Rattle.shot_core.specs.Regions.{Instance, Region, size_of_all, firsts_from}
 use Rattle.shot_core.specs.TreeBoxes.{tree_box}
 use Rattle.shot_core.specs.MetBoxes.{met_count}
 use Rattle.shot_core.specs.Shots.{lit_of, overlaps_on}
+use Rattle.shot_core.specs.Pruned.{kept_for}
+use Rattle.shot_core.specs.Candidates.{candidates_of}
 
 -- a box by its least and greatest x, y and z
 abbrev span : ℤ → ℤ → ℤ → ℤ → ℤ → ℤ → Box3
@@ -143,3 +146,34 @@ box_beside_a_missing_member = refl
 
 box_of_a_missing_member : tree_box two_boxes (Leaf None) ≡ Empty
 box_of_a_missing_member = refl
+
+-- a view of two tiles along x: the columns of the first are at y from 15 down to 0, those of the second from -1 down to -16
+abbrev two_tiles : View
+two_tiles = record { corner = vector (negsuc 3) (pos 15) (pos 15); dir = PlusX; cell = pos 1; w = 32; h = 16 }
+
+-- its high side is at the column at -1
+abbrev second_box : Instance
+second_box = box (pos 0) (pos 10) (negsuc 19) (negsuc 0) (pos 0) (pos 10)
+
+kept_for_the_first_tile : kept_for (single 1 0 first_box ∷ single 2 0 second_box ∷ []) two_tiles 0 ≡ single 1 0 first_box ∷ []
+kept_for_the_first_tile = refl
+
+kept_for_the_second_tile : kept_for (single 1 0 first_box ∷ single 2 0 second_box ∷ []) two_tiles 1 ≡ single 2 0 second_box ∷ []
+kept_for_the_second_tile = refl
+
+-- the same with columns at 15, 5, -5 and so on: a box strictly between two of them is kept, though no ray of the tile meets it
+kept_between_columns : kept_for (single 1 0 (box (pos 0) (pos 10) (pos 7) (pos 9) (pos 0) (pos 10)) ∷ []) (record two_tiles { cell = pos 10 }) 0 ≡ single 1 0 (box (pos 0) (pos 10) (pos 7) (pos 9) (pos 0) (pos 10)) ∷ []
+kept_between_columns = refl
+
+-- a difference is kept by the box of what is left of it, not of what is taken away
+not_kept_for_what_is_taken_away : kept_for (region 1 0 (Join Minus (leaf 0) (leaf 1)) (first_box ∷ second_box ∷ []) ∷ []) two_tiles 1 ≡ []
+not_kept_for_what_is_taken_away = refl
+
+-- boxes that touch may overlap, a third one far away does not
+candidates_touch : candidates_of (single 1 0 first_box ∷ single 2 0 (box (pos 10) (pos 20) (pos 0) (pos 10) (pos 0) (pos 10)) ∷ single 3 0 second_box ∷ [])
+    ≡ single 1 0 first_box ∷ single 2 0 (box (pos 10) (pos 20) (pos 0) (pos 10) (pos 0) (pos 10)) ∷ []
+candidates_touch = refl
+
+-- nothing overlaps a region of air
+no_candidates_with_air : candidates_of (overlapping 1) ≡ []
+no_candidates_with_air = refl

@@ -1,5 +1,5 @@
 -- What a ray meets first of the regions without air.
-use Rattle.std.specs.Prelude.{◌≡◌, ◌<◌, ◌+◌, ℕ, List, [], ◌∷◌, Option, Some, None, Bool, false, not, length, slice_get, slice_index_or}
+use Rattle.std.specs.Prelude.{◌≡◌, ◌<◌, ◌+◌, ℕ, List, [], ◌∷◌, Option, Some, None, Bool, false, not, All, Contains, length, slice_get, slice_index_or}
 use Rattle.std.specs.List.{find}
 use Rattle.std.specs.Option.{option_map}
 use Rattle.lattice_core.specs.declared.ray.Ray.{Ray}
@@ -16,9 +16,18 @@ abbrev pub is_solid : Option Region → Bool
 is_solid None = false
 is_solid (Some r) = not (has_air r.body)
 
+-- the first of some partitions whose region has no air
+abbrev pub first_of : List Region → List Lit → Option Lit
+first_of regions lit = find (λ l. is_solid (slice_get regions l.region)) lit
+
 -- the first partition of the ray whose region has no air
 abbrev pub first_seen : List Region → Ray → Option Lit
-first_seen regions ray = find (λ lit. is_solid (slice_get regions lit.region)) (lit_of regions ray)
+first_seen regions ray = first_of regions (lit_of regions ray)
+
+-- each number below a count, in whatever order
+pub record IsOrderOf (count : ℕ) (order : List ℕ) : Type 0 where
+  pub below : All (λ n. n < count) order
+  pub all : (n : ℕ) → n < count → Contains order n
 
 -- a partition without its end
 abbrev pub seen_of : Lit → Seen

@@ -3,6 +3,8 @@ pub mod TreeBoxes
 pub mod MetBoxes
 pub mod Shots
 pub mod FirstShots
+pub mod Pruned
+pub mod Candidates
 pub mod FirstSteps
 pub mod Laws
 pub mod Prepared

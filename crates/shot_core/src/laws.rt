@@ -2,6 +2,8 @@ ghost use Rattle.shot_core.specs.TreeBoxes.{AreHullAndMeet};
 ghost use Rattle.shot_core.specs.MetBoxes.{TellsWhetherMet};
 ghost use Rattle.shot_core.specs.FirstShots.{SeenAtFirstPlace, NothingSeenElse, OwnSegmentsTell};
 ghost use Rattle.shot_core.specs.RegionBoxes.{BoxesHoldClaims, MissedRegionsClaimNothing};
+ghost use Rattle.shot_core.specs.Pruned.{TellsWhetherShared, TellsWhetherTileMet, KeptSeeTheSame, KeptOverlapTheSame};
+ghost use Rattle.shot_core.specs.Candidates.{CandidatesOverlapTheSame};
 ghost use Rattle.shot_core.specs.SegmentLaws.{AreRayEnds, AreSegments};
 
 /// Laws of the boxes of trees and of the boxes that a ray meets. The function does nothing: its contract is the laws.
@@ -21,6 +23,15 @@ pub fn first_seen_laws()
 pub fn claim_box_laws()
     ensures held { BoxesHoldClaims }
     ensures missed { MissedRegionsClaimNothing }
+{}
+
+/// Laws of the regions that are kept for a tile, and of those that may overlap another one. The function does nothing: its contract is the laws.
+pub fn kept_laws()
+    ensures shared { TellsWhetherShared }
+    ensures tile { TellsWhetherTileMet }
+    ensures seen { KeptSeeTheSame }
+    ensures overlaps { KeptOverlapTheSame }
+    ensures candidates { CandidatesOverlapTheSame }
 {}
 
 /// Laws of segments. Solids say what a segment is that they answer, and cuts say what one is that is woven in; neither stands

@@ -1,4 +1,4 @@
-ghost use Rattle.std.specs.Prelude.{◌≡◌, ◌<◌, ◌+◌, ◌++◌, ◌^◌, All, IfOk, None, length, map};
+ghost use Rattle.std.specs.Prelude.{◌≡◌, ◌<◌, ◌+◌, ◌++◌, ◌∷◌, ◌^◌, [], true, All, IfOk, length, map};
 ghost use Rattle.std.specs.Option.{ForSome};
 ghost use Rattle.lattice_core.specs.declared.limit.TheConstants.{WORLD};
 ghost use Rattle.lattice_core.specs.Limits.{IsWithin};
@@ -8,11 +8,11 @@ ghost use Rattle.bool_weave.specs.Cuts.{IsSegment};
 ghost use Rattle.bool_weave.specs.Behind.{claims_behind};
 ghost use Rattle.shot_core.specs.Prepared.{instance_of};
 ghost use Rattle.shot_core.specs.Shots.{woven_if, woven_from};
-ghost use Rattle.shot_core.specs.FirstSteps.{IsOfBody, earlier_of, earliest_of, IsFirstClaim};
+ghost use Rattle.shot_core.specs.FirstSteps.{IsOfBody, earlier_of, IsFirstClaim, IsOneAlone};
 
 use crate::beside::{Flank, Marks};
 use crate::region::PrepRegion;
-use bool_weave::Woven;
+use bool_weave::{MaskNode, Woven};
 use lattice_core::{Ray, box_meets_ray};
 use memory_core::Memory;
 use solid_set::Placed;
@@ -88,15 +88,14 @@ fn earlier(
 }
 
 /// The first place behind which a region claims, from the segments of its own instances.
-pub(crate) fn first_start(
+fn first_start(
     marks: &mut Marks,
     own: &[Woven],
     first: u32,
     body: &PrepRegion,
 ) -> Result<Option<Pos>, Memory>
     requires { All (IsOfBody first (length body.now.instances)) own.now }
-    ensures value { IfOk result (λ r. r ≡ earliest_of (claims_behind own.now body.now.tree first) None own.now) }
-    ensures first { IfOk result (IsFirstClaim own.now body.now.tree first) }
+    ensures { IfOk result (IsFirstClaim own.now body.now.tree first) }
 {
     let mut best = None;
     for one in own {
@@ -104,4 +103,43 @@ pub(crate) fn first_start(
         best = earlier(marks, best, one.seg.end, own, first, body)?;
     }
     Ok(best)
+}
+
+/// Whether a region is its first solid alone.
+fn is_alone(nodes: &[MaskNode]) -> bool
+    ensures { result ≡ true → nodes.now ≡ MaskNode.Leaf 0 ∷ [] }
+{
+    if nodes.len() != 1 {
+        return false;
+    }
+    match nodes[0] {
+        MaskNode::Leaf(leaf) => leaf == 0,
+        _ => false,
+    }
+}
+
+/// Whether these are the one segment of a region that is its first solid alone.
+fn is_one_alone(own: &[Woven], first: u32, body: &PrepRegion) -> bool
+    ensures { result ≡ true → IsOneAlone own.now first body.now.tree }
+{
+    if own.len() != 1 || own[0].instance != first {
+        return false;
+    }
+    is_alone(body.tree().nodes())
+}
+
+/// The first place behind which a region claims. A region of a single solid does so where its segment starts.
+pub(crate) fn start_of(
+    marks: &mut Marks,
+    own: &[Woven],
+    first: u32,
+    body: &PrepRegion,
+) -> Result<Option<Pos>, Memory>
+    requires { All (IsOfBody first (length body.now.instances)) own.now }
+    ensures { IfOk result (IsFirstClaim own.now body.now.tree first) }
+{
+    if is_one_alone(own, first, body) {
+        return Ok(Some(own[0].seg.start));
+    }
+    first_start(marks, own, first, body)
 }

@@ -76,7 +76,7 @@ fn claims_of_all(
 }
 
 /// How bright the hit instance is at the face that is hit.
-fn level_of_hit(scene: &Scene, hit: &Hit, ray: &Ray) -> u8
+pub(crate) fn level_of_hit(scene: &Scene, hit: &Hit, ray: &Ray) -> u8
     requires origin { IsWithin WORLD ray.now.origin }
     requires hit { IsHitOn scene.now ray.now hit.now }
     ensures { result ≡ level_of_hit scene.now ray.now hit.now }

@@ -1,4 +1,4 @@
-use Rattle.std.proofs.Common.{rules, ◌≡◌, ◌<◌, ◌-◌, ◌++◌, ◌∙◌, List, take, drop, All, length, map, get_or, eqb, not, false, ap, sym, subst, arith}
+use Rattle.std.proofs.Common.{rules, ◌≡◌, ◌<◌, ◌-◌, ◌++◌, ◌∙◌, List, take, drop, All, length, map, get_or, false, ap, sym, subst, arith}
 use Rattle.std.proofs.lemmas.List.{get_or_default, length-map}
 use Rattle.bool_weave.specs.declared.woven.Woven.{Woven}
 use Rattle.bool_weave.specs.Cuts.{IsSegment}
@@ -19,8 +19,8 @@ add_segments-requires-clause-numbers c =
     c.solids.ensures.value ∙ ap (λ (b : RegionBody). b.instances) (c.deref.ensures ∙ c.body-body.ensures ∙ ap (λ (r : Region). r.body) region) in
     omega (arith, firsts_reach 0 c.args.scene.now c.args.number no_region c.requires.number, c.first-first.ensures, length-map c.solids.result.now instance_of, ap length items, c.regions.ensures.sound.instances)
 
-pub first_start-requires : goal.first_start-requires
-first_start-requires c =
+pub start_of-requires : goal.start_of-requires
+start_of-requires c =
     let items : map instance_of c.solids.result.now ≡ c.deref-4.result.now.instances =
     c.solids.ensures.value ∙ ap (λ (b : RegionBody). b.instances) (c.deref.ensures ∙ sym c.deref-4.ensures) in
     let after : c.deref-3.result.now ≡ c.add_segments.new.segments.items = c.deref-3.ensures.value in
@@ -41,10 +41,9 @@ returns-clause-taken c =
     let grown : c.deref-3.result.now ≡ c.args.segments.now.items ++ woven_from c.args.ray.now c.first-first.result (map instance_of c.solids.result.now) = c.deref-3.ensures.value ∙ c.in_ok-add_segments.ensures.segments in
     let own = own_is c.args.segments.now.items c.deref-3.result.now (woven_from c.args.ray.now c.first-first.result (map instance_of c.solids.result.now)) c.len-from.result grown (search rules)
     ∙ ap (λ n. woven_from c.args.ray.now n (map instance_of c.solids.result.now)) c.first-first.ensures ∙ ap (λ (xs : List Instance). woven_from c.args.ray.now (first_no c.args.scene.now c.args.number) xs) items in
-    let dry : has_air (body_no c.args.scene.now c.args.number) ≡ false =
-    ap (λ (b : RegionBody). not (eqb b.air 0)) (sym (c.deref-2.ensures ∙ sym c.deref.ensures ∙ body)) ∙ ap (λ n. not (eqb n 0)) (sym c.air.ensures ∙ c.if-air-ne0.false) in
+    let dry : has_air (body_no c.args.scene.now c.args.number) ≡ false = ap has_air (sym (c.deref-2.ensures ∙ sym c.deref.ensures ∙ body)) ∙ sym c.has_air.ensures ∙ c.if-has_air.false in
     record {
       start = c.in_ok-start.start;
-      first = solid_from c.args.scene.now c.args.ray.now c.args.number dry _ _ _ c.in_ok-start.start own (ap (λ (b : RegionBody). b.tree) same) c.first-first.ensures c.in_ok-start.ensures.first;
+      first = solid_from c.args.scene.now c.args.ray.now c.args.number dry _ _ _ c.in_ok-start.start own (ap (λ (b : RegionBody). b.tree) same) c.first-first.ensures c.in_ok-start.ensures;
       is = c.better.ensures;
     }

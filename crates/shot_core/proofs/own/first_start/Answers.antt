@@ -5,8 +5,8 @@ use Rattle.shot_core.specs.FirstSteps.{earliest_of, IsFirstClaim}
 use Rattle.shot_core.proofs.FirstSearch.{first_claim}
 use Rattle.shot_core.proofs.own.first_start.Goals as goal
 
-pub returns-clause-first : goal.returns-clause-first
-returns-clause-first c =
+pub returns : goal.returns
+returns c =
     let claims = claims_behind c.args.own.now c.args.body.now.tree c.args.first in
     let is : earliest_of (claims_behind c.args.own.now c.args.body.now.tree c.args.first) None c.args.own.now ≡ c.loop-one.best =
     sym c.loop-one.invariant.value ∙ ap (earliest_of (claims_behind c.args.own.now c.args.body.now.tree c.args.first) c.loop-one.best) (drop_all c.loop-one.one-index c.args.own.now c.loop-one-test.false) in

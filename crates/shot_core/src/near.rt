@@ -1,0 +1,130 @@
+ghost use Rattle.std.specs.Prelude.{◌≡◌, true, IfOk, length, map};
+ghost use Rattle.std.specs.Option.{ForSome};
+ghost use Rattle.lattice_core.specs.declared.limit.TheConstants.{WORLD};
+ghost use Rattle.lattice_core.specs.Limits.{IsWithin};
+ghost use Rattle.surd_order.specs.Range.{IsInRange};
+ghost use Rattle.shot_core.specs.FirstShots.{IsOrderOf};
+ghost use Rattle.shot_core.specs.RegionBoxes.{ahead_rising, ahead_falling, near_side};
+ghost use Rattle.shot_core.specs.FirstSteps.{side_of, IsBeforeSide, IsPassed};
+
+use crate::front::Front;
+use crate::scene::Scene;
+use lattice_core::{Box3, Dir, FAR, Ray, Side, V3, box_meets_ray};
+use memory_core::Memory;
+use std::alloc::Global;
+use surd_order::Pos;
+
+fn ahead_rising(side: Side, origin: i64) -> Option<i128>
+    ensures { side_of result ≡ ahead_rising side origin }
+{
+    match side {
+        Side::Open => None,
+        Side::At(at) => Some(at as i128 - origin as i128),
+    }
+}
+
+fn ahead_falling(side: Side, origin: i64) -> Option<i128>
+    ensures { side_of result ≡ ahead_falling side origin }
+{
+    match side {
+        Side::Open => None,
+        Side::At(at) => Some(origin as i128 - at as i128),
+    }
+}
+
+/// How far from a ray's origin a box begins, in the ray's direction, where it has a side there.
+fn near_side(b: &Box3, ray: &Ray) -> Option<i128>
+    ensures { side_of result ≡ near_side b.now ray.now }
+{
+    let Box3::Span {
+        xlo,
+        xhi,
+        ylo,
+        yhi,
+        zlo,
+        zhi,
+    } = *b
+    else {
+        return None;
+    };
+    match ray.dir {
+        Dir::PlusX => ahead_rising(xlo, ray.origin.x),
+        Dir::MinusX => ahead_falling(xhi, ray.origin.x),
+        Dir::PlusY => ahead_rising(ylo, ray.origin.y),
+        Dir::MinusY => ahead_falling(yhi, ray.origin.y),
+        Dir::PlusZ => ahead_rising(zlo, ray.origin.z),
+        Dir::MinusZ => ahead_falling(zhi, ray.origin.z),
+    }
+}
+
+/// Whether a place lies before a side that a ray meets.
+fn is_before_side(place: &Pos, side: Option<i128>) -> bool
+    requires { IsInRange place.now }
+    ensures { result ≡ true → IsBeforeSide (side_of side) place.now }
+{
+    let Some(near) = side else {
+        return false;
+    };
+    if near < 0 || near > FAR as i128 {
+        return false;
+    }
+    place.cmp(&Pos::Frac { p: near, q: 1 }).is_lt()
+}
+
+/// Whether a ray can pass over what a box holds: it misses the box, or enters it only behind the best place so far.
+pub(crate) fn is_passed(b: &Box3, ray: &Ray, best: Option<Front>) -> bool
+    requires best { ForSome best (λ f. IsInRange f.start) }
+    requires origin { IsWithin WORLD ray.now.origin }
+    ensures { result ≡ true → IsPassed b.now ray.now best }
+{
+    if !box_meets_ray(b, ray) {
+        return true;
+    }
+    match best {
+        Some(front) => is_before_side(&front.start, near_side(b, ray)),
+        None => false,
+    }
+}
+
+/// Where a region's box begins along a direction.
+#[derive(Clone, Copy, PartialEq, Eq, PartialOrd, Ord)]
+struct Near {
+    side: Option<i128>,
+    region: u32,
+}
+
+/// Where each region's box begins along a direction.
+fn nears_of(alloc: Global, scene: &Scene, dir: Dir) -> Result<Vec<Near>, Memory>
+    ensures { IfOk result (λ v. IsOrderOf (length scene.now) (map (λ n. n.region) v.items)) }
+{
+    let origin = V3 { x: 0, y: 0, z: 0 };
+    let regions = scene.regions();
+    let mut nears = Vec::new(alloc);
+    for i in 0..regions.len() {
+        let bounds = regions[i].body().bounds();
+        nears.push(Near {
+            side: near_side(&bounds, &Ray { origin, dir }),
+            region: i as u32,
+        })?;
+    }
+    Ok(nears)
+}
+
+fn regions_of(alloc: Global, nears: &[Near]) -> Result<Vec<u32>, Memory>
+    ensures { IfOk result (λ v. v.items ≡ map (λ n. n.region) nears.now) }
+{
+    let mut numbers = Vec::new(alloc);
+    for near in nears {
+        numbers.push(near.region)?;
+    }
+    Ok(numbers)
+}
+
+/// The numbers of a scene's regions in the order in which their boxes begin along a direction, the nearest first.
+pub fn near_order(alloc: Global, scene: &Scene, dir: Dir) -> Result<Vec<u32>, Memory>
+    ensures { IfOk result (λ v. IsOrderOf (length scene.now) v.items) }
+{
+    let mut nears = nears_of(alloc, scene, dir)?;
+    nears.sort_unstable();
+    regions_of(alloc, &nears)
+}

@@ -1,3 +1,4 @@
+pub mod BlockLaws
 pub mod RowLaws
 pub mod TileLaws
 pub mod WholeLaws

@@ -1,6 +1,8 @@
 -- Pictures: lists of three bytes a pixel, red, green and blue, row by row from the top.
-use Rattle.std.specs.Prelude.{◌≡◌, ◌+◌, ◌*◌, ◌<◌, ℕ, List, ◌++◌, length, slice_index_or, codes, decimal}
+use Rattle.std.specs.Prelude.{◌≡◌, ◌↔◌, ◌+◌, ◌*◌, ◌<◌, ℕ, List, [], ◌∷◌, ◌++◌, length, flat_map, slice_index_or, codes, decimal}
+use Rattle.std.specs.List.{range_with_len}
 use Rattle.lattice_core.specs.declared.view.View.{View}
+use Rattle.lattice_core.specs.declared.tile.TileSpan.{TileSpan}
 use Rattle.lattice_core.specs.Tiles.{tiles_of, span_of, IsIn}
 
 -- the head of a picture's file
@@ -43,3 +45,31 @@ abbrev pub IsMadeOfTiles : View → Type 0
 IsMadeOfTiles view =
     (parts : ℕ → ℕ → ℕ → ℕ) (tiles pictures : ℕ → List ℕ) → IsPictureOf view.w view.h (pictures 0) → AreCopiedInTurn view tiles pictures
     → ((tile : ℕ) → tile < tiles_of view → HasTilePixels view tile parts (tiles tile)) → HasPixels view.w view.h parts (pictures (tiles_of view))
+
+-- the bytes of a row of pixels, from a column on
+abbrev pub row_bytes : (ℕ → ℕ → ℕ → ℕ) → ℕ → ℕ → ℕ → List ℕ
+row_bytes parts column w row = flat_map (λ c. parts c row 0 ∷ parts c row 1 ∷ parts c row 2 ∷ []) (range_with_len column w)
+
+-- the bytes of some rows and columns of pixels, row by row
+abbrev pub block_bytes : (ℕ → ℕ → ℕ → ℕ) → TileSpan → List ℕ
+block_bytes parts span = flat_map (row_bytes parts span.column span.w) (range_with_len span.row span.h)
+
+-- all columns and rows of a view
+abbrev pub whole_span : View → TileSpan
+whole_span view = record { column = 0; row = 0; w = view.w; h = view.h }
+
+-- the block of a tile is a picture of its columns and rows, and has its pixels
+abbrev pub AreTilesOfBlocks : View → Type 0
+AreTilesOfBlocks view =
+    (parts : ℕ → ℕ → ℕ → ℕ) (tile : ℕ)
+    → IsPictureOf (span_of view tile).w (span_of view tile).h (block_bytes parts (span_of view tile)) × HasTilePixels view tile parts (block_bytes parts (span_of view tile))
+
+-- a list is a picture of a view with such pixels exactly where it is their block
+abbrev pub AreBlocks : View → Type 0
+AreBlocks view = (parts : ℕ → ℕ → ℕ → ℕ) (picture : List ℕ) → HasPixels view.w view.h parts picture ↔ picture ≡ block_bytes parts (whole_span view)
+
+-- where the blocks of all tiles of a view are put in, one after the other, the picture is the block of the view
+abbrev pub IsMadeOfBlocks : View → Type 0
+IsMadeOfBlocks view =
+    (parts : ℕ → ℕ → ℕ → ℕ) (pictures : ℕ → List ℕ) → IsPictureOf view.w view.h (pictures 0) → AreCopiedInTurn view (λ tile. block_bytes parts (span_of view tile)) pictures
+    → pictures (tiles_of view) ≡ block_bytes parts (whole_span view)

@@ -1,3 +1,4 @@
+pub mod Equal
 pub mod Ranking
 pub mod Foremost
 pub mod Spellings

@@ -16,8 +16,8 @@ use prim_half::Half;
 use prim_sphere::Sphere;
 use surd_order::Seg;
 
-/// A solid in the world: what `Solid::placed` gives.
-#[derive(Clone, Copy, Debug)]
+/// A solid in the world: what `Solid::placed` gives. Two are equal where their surfaces and their boxes are.
+#[derive(Clone, Copy, Debug, PartialEq, Eq, Hash)]
 pub struct Placed {
     surface: Surface,
     bounds: Box3,

@@ -1,0 +1,12 @@
+pub mod ShotLaws
+pub mod RowLaws
+pub mod BodyLaws
+pub mod TileLaws
+pub mod Merging
+pub mod Spotting
+pub mod Reporting
+pub mod Listing
+pub mod OneRay
+pub mod RaysDone
+pub mod Parting
+pub mod Keeping

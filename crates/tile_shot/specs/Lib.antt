@@ -1,0 +1,11 @@
+pub mod Pixels
+pub mod Reports
+pub mod Named
+pub mod Steps
+pub mod Same
+pub mod Sameness
+pub mod PixelExamples
+pub mod Merges
+pub mod ReportLaws
+pub mod RaySteps
+pub mod ReportExamples

@@ -1,0 +1,144 @@
+use crate::same::same_bodies;
+use item_list::Items;
+use lattice_core::View;
+use memory_core::Memory;
+use shot_core::{PrepRegion, Scene};
+use std::alloc::Global;
+use std::hash::{Hash, Hasher};
+use std::marker::Model;
+use std::sync::Arc;
+
+/// What names a tile: a view without a fault, the number of one of its tiles, and what regions are wherever they stand.
+/// Contracts see it as these three. Two are equal where they are by value: of each body the number, the air, the colour, the
+/// tree with its leaves that are always false, and the solids by their kind, their planes, centre and radius in the world.
+#[derive(Debug, Drop)]
+pub struct TileKey {
+    view: View,
+    tile: u32,
+    bodies: Items<Arc<PrepRegion>>,
+}
+
+impl Model for TileKey {
+    ghost use Rattle.std.specs.Prelude.{◌<◌, map};
+    ghost use Rattle.std.specs.Arc.{arc_value};
+    ghost use Rattle.lattice_core.specs.Views.{IsChecked};
+    ghost use Rattle.lattice_core.specs.Tiles.{tiles_of};
+    ghost use Rattle.tile_shot.specs.Named.{TileName, name_code};
+
+    ghost Value = { TileName };
+
+    ghost coded = { name_code };
+
+    ghost view = { λ s. record { view = s.view; tile = s.tile; bodies = map arc_value s.bodies } };
+
+    ghost invariant = { λ s. IsChecked s.view × (s.tile < tiles_of s.view) };
+}
+
+impl PartialEq for TileKey {
+    ghost use Rattle.std.specs.Prelude.{◌≡◌, ◌↔◌, IsTrue};
+    ghost use Rattle.tile_shot.specs.Same.{same_name};
+    ghost use Rattle.tile_shot.specs.Sameness.{name_partial};
+
+    ghost eq = { same_name };
+
+    ghost laws = { name_partial };
+
+    /// Whether both name one tile: whether they are equal by value.
+    fn eq(&self, other: &TileKey) -> bool
+        ensures same { result ≡ same_name self.now other.now }
+        ensures equal { IsTrue result ↔ (self.now ≡ other.now) }
+    {
+        self.is_same(other)
+    }
+}
+
+impl Eq for TileKey {
+    ghost use Rattle.tile_shot.specs.Sameness.{name_equiv};
+
+    ghost laws = { name_equiv };
+}
+
+impl Hash for TileKey {
+    ghost use Rattle.tile_shot.specs.Same.{name_input};
+    ghost use Rattle.tile_shot.specs.Sameness.{input_same};
+
+    ghost hash_input = { name_input };
+
+    ghost respects_eq = { input_same };
+
+    fn hash<H: Hasher>(&self, state: &mut H) {
+        self.view.hash(state);
+        self.tile.hash(state);
+    }
+}
+
+ghost use Rattle.std.specs.Prelude.{◌≡◌, IfOk, map};
+ghost use Rattle.std.specs.Arc.{arc_value};
+ghost use Rattle.tile_shot.specs.Pixels.{bodies_of};
+
+/// What the regions of a scene are, in their order.
+fn bodies_of(alloc: Global, scene: &Scene) -> Result<Items<Arc<PrepRegion>>, Memory>
+    ensures { IfOk result (λ bodies. map arc_value bodies ≡ bodies_of scene.now) }
+{
+    let regions = scene.regions();
+    let mut bodies = Vec::with_capacity(alloc, regions.len())?;
+    for region in regions {
+        bodies.push(region.body().clone()?)?;
+    }
+    Ok(Items::of_vec(bodies))
+}
+
+impl TileKey {
+    ghost use Rattle.std.specs.Prelude.{◌≡◌, ◌<◌, IfOk, map};
+    ghost use Rattle.std.specs.Arc.{arc_value};
+    ghost use Rattle.lattice_core.specs.Views.{IsChecked};
+    ghost use Rattle.lattice_core.specs.Tiles.{tiles_of};
+    ghost use Rattle.tile_shot.specs.Pixels.{bodies_of};
+    ghost use Rattle.tile_shot.specs.Named.{name_of};
+    ghost use Rattle.tile_shot.specs.Same.{same_name};
+
+    fn is_same(&self, other: &TileKey) -> bool
+        ensures { result ≡ same_name self.now other.now }
+    {
+        self.view == other.view
+            && self.tile == other.tile
+            && same_bodies(self.bodies(), other.bodies())
+    }
+
+    /// The name of a tile of a view of a scene's regions.
+    pub fn new(alloc: Global, scene: &Scene, view: &View, tile: u32) -> Result<TileKey, Memory>
+        requires view { IsChecked view.now }
+        requires tile { tile < tiles_of view.now }
+        ensures { IfOk result (λ key. key ≡ name_of scene.now view.now tile) }
+    {
+        let bodies = bodies_of(alloc, scene)?;
+        Ok(TileKey {
+            view: *view,
+            tile,
+            bodies,
+        })
+    }
+
+    /// The view, which has no fault.
+    pub fn view(&self) -> &View
+        ensures value { result.now ≡ self.now.view }
+        ensures checked { IsChecked result.now }
+    {
+        &self.view
+    }
+
+    /// The number of the tile, which is one of the view.
+    pub fn tile(&self) -> u32
+        ensures value { result ≡ self.now.tile }
+        ensures in_view { result < tiles_of self.now.view }
+    {
+        self.tile
+    }
+
+    /// What the regions are, in their order.
+    pub fn bodies(&self) -> &[Arc<PrepRegion>]
+        ensures { map arc_value result.now ≡ self.now.bodies }
+    {
+        self.bodies.items()
+    }
+}

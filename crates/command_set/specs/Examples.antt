@@ -2,7 +2,7 @@
 use Rattle.std.specs.Prelude.{◌≡◌, refl, codes}
 use Rattle.std.specs.Fmt.{digits}
 use Rattle.plane_geom.specs.declared.fault.ShapeFault.TheVariants.{NotPlanar, ZeroNormal}
-use Rattle.command_set.specs.declared.refusal.ViewFault.TheVariants.{Pixels}
+use Rattle.lattice_core.specs.declared.view.ViewFault.TheVariants.{Pixels}
 use Rattle.command_set.specs.declared.refusal.Refusal.TheVariants.{Syntax, Name, View, Shape, NotComb, Heads, Members, Full, Cycle, Deep, Instances, Quota}
 use Rattle.command_set.specs.Refusals.{refusal_text}
 

@@ -1,7 +1,9 @@
 -- What commands hold.
-use Rattle.std.specs.Prelude.{ℕ, List, All}
+use Rattle.std.specs.Prelude.{ℕ, List, All, Option, Some, None, Result, Ok, Err}
 use Rattle.lattice_core.specs.declared.limit.TheConstants.{COORD}
 use Rattle.lattice_core.specs.Limits.{IsWithin}
+use Rattle.lattice_core.specs.declared.view.View.{View}
+use Rattle.lattice_core.specs.declared.view.ViewFault.{ViewFault}
 use Rattle.name_core.specs.declared.name.Name.{Name}
 use Rattle.comb_tree.specs.declared.node.ListEntry.{ListEntry}
 use Rattle.object_set.specs.declared.kept.KeptAttr.{KeptAttr}
@@ -19,3 +21,8 @@ AreNear list = All (λ (e : ListEntry). IsWithin COORD e.placement.shift) list
 -- the value of each kept attribute is a text that can be one
 abbrev pub AreTexts : List KeptAttr → Type 0
 AreTexts pairs = All (λ (k : KeptAttr). IsTextValue k.value) pairs
+
+-- a view, where it has no fault
+abbrev pub view_or_fault : View → Option ViewFault → Result View ViewFault
+view_or_fault view None = Ok view
+view_or_fault view (Some fault) = Err fault

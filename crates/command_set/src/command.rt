@@ -1,3 +1,4 @@
+use crate::checked_view::CheckedView;
 use crate::kept_pairs::KeptPairs;
 use crate::member_list::MemberList;
 use crate::name_list::NameList;
@@ -78,6 +79,22 @@ pub enum Query {
     Shot { ray: WorldRay, names: NameList },
 }
 
+/// A command that shoots a ray for each pixel of a view.
+#[derive(Debug, Drop)]
+pub enum Shoot {
+    /// Puts the picture of objects into a file.
+    Picture {
+        file: Name,
+        view: CheckedView,
+        names: NameList,
+    },
+    /// Reports which of the objects' regions overlap, and where.
+    Check {
+        view: CheckedView,
+        names: NameList,
+    },
+}
+
 /// What a line of a script asks for.
 #[derive(Debug, Drop)]
 pub enum Command {
@@ -85,4 +102,5 @@ pub enum Command {
     Bad(Refusal),
     Edit(Edit),
     Query(Query),
+    Shoot(Shoot),
 }

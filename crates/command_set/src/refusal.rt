@@ -2,21 +2,9 @@ ghost use Rattle.std.specs.Prelude.{◌≡◌, ◌≤◌, ◌++◌, length, deci
 ghost use Rattle.command_set.specs.Refusals.{refusal_text, shape_text, view_text};
 
 use fixed_text::FixedText;
+use lattice_core::ViewFault;
 use name_core::Name;
 use plane_geom::ShapeFault;
-
-/// Why a ray or a view is refused. The first that holds is answered, in this order.
-#[derive(Clone, Copy, Debug, PartialEq, Eq)]
-pub enum ViewFault {
-    /// The view has no column or no row.
-    Pixels,
-    /// A side of the view has over 2,048 pixels.
-    Side,
-    /// The cell is less than 1 mm.
-    Cell,
-    /// A ray starts outside the world.
-    World,
-}
 
 /// Why a command is refused. The first that holds is answered, in this order; `Memory` may stand in place of any other
 /// answer.

@@ -2,8 +2,8 @@
 
 use case_text::CaseFault;
 use comb_tree::{ListEntry, Op};
-use command_set::{Command, Edit, Query, Refusal, RefusalText};
-use lattice_core::{Dir, V3};
+use command_set::{Command, Edit, Query, Refusal, RefusalText, Shoot};
+use lattice_core::{Dir, V3, View};
 use mged_words::{ScriptFault, ScriptFlaw, read_script};
 use name_core::Name;
 use object_set::Body;
@@ -173,15 +173,40 @@ fn put_refusal(out: &mut String, refusal: &Refusal) -> Result<(), CaseFault> {
     put_bytes(out, text.bytes())
 }
 
-/// A shot by its direction.
+/// The word of a direction, behind a blank.
 fn direction_word(dir: Dir) -> &'static str {
     match dir {
-        Dir::PlusX => "shot +x",
-        Dir::MinusX => "shot -x",
-        Dir::PlusY => "shot +y",
-        Dir::MinusY => "shot -y",
-        Dir::PlusZ => "shot +z",
-        Dir::MinusZ => "shot -z",
+        Dir::PlusX => " +x",
+        Dir::MinusX => " -x",
+        Dir::PlusY => " +y",
+        Dir::MinusY => " -y",
+        Dir::PlusZ => " +z",
+        Dir::MinusZ => " -z",
+    }
+}
+
+/// A view: its direction, its corner, its cell, and how many columns and rows it has.
+fn put_view(out: &mut String, alloc: Global, view: &View) -> Result<(), CaseFault> {
+    out.push_str(direction_word(view.dir))?;
+    put_point(out, alloc, view.corner)?;
+    put_number(out, alloc, view.cell)?;
+    put_number(out, alloc, i64::from(view.w))?;
+    put_number(out, alloc, i64::from(view.h))
+}
+
+fn put_shoot(out: &mut String, alloc: Global, shoot: &Shoot) -> Result<(), CaseFault> {
+    match shoot {
+        Shoot::Picture { file, view, names } => {
+            out.push_str("picture")?;
+            put_name(out, file)?;
+            put_view(out, alloc, &view.view())?;
+            put_names(out, names.items())
+        }
+        Shoot::Check { view, names } => {
+            out.push_str("check")?;
+            put_view(out, alloc, &view.view())?;
+            put_names(out, names.items())
+        }
     }
 }
 
@@ -205,6 +230,7 @@ pub(crate) fn shown(alloc: Global, command: &Command) -> Result<String, CaseFaul
         Command::Query(Query::Names) => out.push_str("names")?,
         Command::Query(Query::Shot { ray, names }) => {
             let ray = ray.ray();
+            out.push_str("shot")?;
             out.push_str(direction_word(ray.dir))?;
             put_point(&mut out, alloc, ray.origin)?;
             put_names(&mut out, names.items())?;
@@ -221,6 +247,7 @@ pub(crate) fn shown(alloc: Global, command: &Command) -> Result<String, CaseFaul
             out.push_str("save")?;
             put_name(&mut out, file)?;
         }
+        Command::Shoot(shoot) => put_shoot(&mut out, alloc, shoot)?,
     }
     Ok(out)
 }
@@ -246,6 +273,12 @@ pub(crate) fn outline(alloc: Global, command: &Command) -> Result<String, CaseFa
             format!(in alloc; "shot {}", names.items().len())?
         }
         Command::Query(_) => format!(in alloc; "query")?,
+        Command::Shoot(Shoot::Picture { names, .. }) => {
+            format!(in alloc; "picture {}", names.items().len())?
+        }
+        Command::Shoot(Shoot::Check { names, .. }) => {
+            format!(in alloc; "check {}", names.items().len())?
+        }
         Command::Bad(refusal) => {
             let mut text = String::new(alloc);
             put_refusal(&mut text, refusal)?;

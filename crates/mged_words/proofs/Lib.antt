@@ -7,6 +7,7 @@ pub mod LineLaws
 pub mod ScriptLaws
 pub mod TextLaws
 pub mod PutLaws
+pub mod ViewLines
 pub mod PlainLaws
 pub mod OrderLaws
 pub mod OneLineLaws

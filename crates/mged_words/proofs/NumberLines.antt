@@ -1,5 +1,5 @@
 -- A line of names and numbers that are parted by single blanks is read as its command.
-use Rattle.std.proofs.Common.{◌≡◌, ◌<◌, ◌+◌, ◌++◌, ◌==◌, ◌&&◌, ◌||◌, ◌∙◌, ℕ, ℤ, suc, Bool, true, false, cond, List, [], ◌∷◌, length, drop, map, get_or, codes, Option, Some, None, is_none, is_ok, unwrap_or, Ok, IsTrue, arith, refl, ap, sym, subst, length-append, eqb-true}
+use Rattle.std.proofs.Common.{◌≡◌, ◌<◌, ◌+◌, ◌++◌, ◌==◌, ◌&&◌, ◌||◌, ◌∙◌, ℕ, ℤ, pos, negsuc, ◌≤ℤ◌, suc, Bool, true, false, cond, List, [], ◌∷◌, length, drop, take, map, get_or, codes, Option, Some, None, is_none, is_ok, unwrap_or, Ok, IsTrue, arith, refl, ap, sym, subst, length-append, eqb-true}
 use Rattle.std.specs.List.{AllByRecursion, list_all, cons_option, range_with_len, slice_range}
 use Rattle.std.specs.Prelude.{filter_map}
 use Rattle.std.specs.Option.{option_map}
@@ -15,6 +15,9 @@ use Rattle.lattice_core.specs.declared.placement.Placement.{Placement}
 use Rattle.lattice_core.specs.declared.ray.Dir.{Dir}
 use Rattle.lattice_core.specs.declared.ray.Dir.TheVariants.{PlusX, MinusX, PlusY, MinusY, PlusZ, MinusZ}
 use Rattle.lattice_core.specs.declared.vector.V3.{V3}
+use Rattle.lattice_core.specs.declared.view.View as views
+use Rattle.lattice_core.specs.Views.{IsChecked}
+use Rattle.mged_words.proofs.ViewLines.{fine_view}
 use Rattle.name_core.specs.NameText.{IsName, read_name}
 use Rattle.name_core.proofs.NameLaws.{accepted}
 use Rattle.tcl_words.specs.Bytes.{is_atom}
@@ -37,13 +40,14 @@ use Rattle.word_values.specs.Solids.{kind_of, number_count, solid_made}
 use Rattle.word_values.specs.declared.solid.SolidKind.{SolidKind}
 use Rattle.word_values.specs.declared.solid.SolidKind.TheVariants.{Half, Rpp, Arb8, Sphere}
 use Rattle.command_set.specs.declared.command.Command.{Command}
-use Rattle.command_set.specs.declared.command.Command.TheVariants.{Bad, Edit, Query}
+use Rattle.command_set.specs.declared.command.Command.TheVariants.{Bad, Edit, Query, Shoot}
+use Rattle.command_set.specs.declared.command.Shoot.TheVariants.{Picture, Check}
 use Rattle.command_set.specs.declared.command.Edit.TheVariants.{Make, Place, Set}
 use Rattle.command_set.specs.declared.command.Query.TheVariants.{Shot}
 use Rattle.command_set.specs.declared.refusal.Refusal.{Refusal}
 use Rattle.command_set.specs.declared.refusal.Refusal.TheVariants.{Syntax, Number, View}
-use Rattle.command_set.specs.declared.refusal.ViewFault.TheVariants.{World}
-use Rattle.mged_words.specs.Commands.{unless_refused, name_fault, names_fault, numbers_fault, solid_object, make_command, solid_command, kind_command, direction_of, is_in_world, is_from_world, world_fault, ray_of, shot_command, placement_fault, matrix_command, sixteen_command, matrix_words, matrix_step, place_with, setting_fault, set_command, set_with, worded_command, command_of_words, command_read, command_of}
+use Rattle.lattice_core.specs.declared.view.ViewFault.TheVariants.{World}
+use Rattle.mged_words.specs.Commands.{unless_refused, name_fault, names_fault, numbers_fault, solid_object, make_command, solid_command, kind_command, direction_of, is_in_world, is_from_world, world_fault, ray_of, shot_command, from_zero, view_numbers, view_refusal, picture_command, check_command, placement_fault, matrix_command, sixteen_command, matrix_words, matrix_step, place_with, setting_fault, set_command, set_with, worded_command, command_of_words, command_read, command_of}
 use Rattle.mged_words.specs.OneLine.{AreNames, AreNumbers, IsAtom, IsAtomByte, line_of, kind_word, direction_word}
 use Rattle.mged_words.proofs.SettingLaws.{no_key}
 use Rattle.mged_words.proofs.OneLineLaws.{IsAtomWord, HasAtoms, atoms, atoms_from, line_is, line_read, line_command, name_good, names_good, all_there, fine_names, one_word, word_here, text_here, rest_here, unless_both}
@@ -191,6 +195,55 @@ nirt_line x y z origin dir first rest are within named =
     ∙ ap (λ (ns : List (Option ℤ)). shot_command ns (Some dir) (first ∷ rest)) are
     ∙ unless_three (names_fault 6 1 (first ∷ rest)) (numbers_fault 2 1 read) (world_fault origin) (Query (Shot (ray_of origin dir) (first ∷ rest)))
     (fine_names 6 1 (first ∷ rest) named) (all_fine 2 1 numbers) (cond-true (is_from_world origin) None (Some (View World)) (from_world origin within))
+
+-- ---- a view
+
+unless_four : (one two three four : Option Refusal) (command : Command) → one ≡ None → two ≡ None → three ≡ None → four ≡ None → unless_refused (one ∷ two ∷ three ∷ four ∷ []) command ≡ command
+unless_four one two three four command h k l m = ap (λ (o : Option Refusal). unless_refused (o ∷ two ∷ three ∷ four ∷ []) command) h ∙ unless_three two three four command k l m
+
+-- the numbers of a view, of which those of its corner may be less than 0
+abbrev sized : List (Option ℤ) → List (Option ℤ)
+sized numbers = take 3 numbers ++ map from_zero (drop 3 numbers)
+
+cell_kept : (cell : ℤ) → pos 1 ≤ℤ cell → from_zero (Some cell) ≡ Some cell
+cell_kept (pos n) h = refl
+cell_kept (negsuc n) h = absurd (omega (arith, ints, h))
+
+abbrev six_of : views.View → List ℤ
+six_of view = view.corner.x ∷ view.corner.y ∷ view.corner.z ∷ view.cell ∷ pos view.w ∷ pos view.h ∷ []
+
+view_words : (x y z cell w h : List ℕ) (view : views.View) → AreNumbers view_number (x ∷ y ∷ z ∷ cell ∷ w ∷ h ∷ []) (six_of view) → pos 1 ≤ℤ view.cell
+    → view_numbers (x ∷ y ∷ z ∷ []) (cell ∷ w ∷ h ∷ []) ≡ map (λ (n : ℤ). Some n) (six_of view)
+view_words x y z cell w h view are some =
+    ap sized are ∙ ap (λ (o : Option ℤ). Some view.corner.x ∷ Some view.corner.y ∷ Some view.corner.z ∷ o ∷ Some (pos view.w) ∷ Some (pos view.h) ∷ []) (cell_kept view.cell some)
+
+pub rt_line : (file x y z cell w h : List ℕ) (view : views.View) (first : List ℕ) (rest : List (List ℕ)) → IsName file → AreNumbers view_number (x ∷ y ∷ z ∷ cell ∷ w ∷ h ∷ []) (six_of view) → IsChecked view → AreNames (first ∷ rest)
+    → command_of (line_of (codes "rt") (file ∷ direction_word view.dir ∷ x ∷ y ∷ z ∷ cell ∷ w ∷ h ∷ first ∷ rest)) ≡ Shoot (Picture file view (first ∷ rest))
+rt_line file x y z cell w h view first rest is are checked named =
+    let six : List ℤ = six_of view in
+    let read : List (Option ℤ) = map (λ (n : ℤ). Some n) six in
+    let good = numbers_words 999999999 (x ∷ y ∷ z ∷ cell ∷ w ∷ h ∷ []) six are in
+    let one : AreNames (file ∷ []) = (is, tt) in
+    line_command (codes "rt") (file ∷ direction_word view.dir ∷ x ∷ y ∷ z ∷ cell ∷ w ∷ h ∷ first ∷ rest) (λ line tokens w others. refl) (omega arith, (refl, refl, (refl, refl, tt)))
+    (name_good file is, (direction_good view.dir, (good.0, (good.1.0, (good.1.1.0, (good.1.1.1.0, (good.1.1.1.1.0, (good.1.1.1.1.1.0, names_good (first ∷ rest) named))))))))
+    ∙ ap (λ (o : Option Dir). picture_command file o (view_numbers (x ∷ y ∷ z ∷ []) (cell ∷ w ∷ h ∷ [])) (first ∷ rest)) (direction_again view.dir)
+    ∙ ap (λ (ns : List (Option ℤ)). picture_command file (Some view.dir) ns (first ∷ rest)) (view_words x y z cell w h view are checked.cell)
+    ∙ unless_four (name_fault 2 file) (names_fault 10 1 (first ∷ rest)) (numbers_fault 4 1 read) (view_refusal view) (Shoot (Picture file view (first ∷ rest)))
+    (fine_names 2 1 (file ∷ []) one) (fine_names 10 1 (first ∷ rest) named) (all_fine 4 1 six) (fine_view view checked)
+
+pub rtcheck_line : (x y z cell w h : List ℕ) (view : views.View) (first : List ℕ) (rest : List (List ℕ)) → AreNumbers view_number (x ∷ y ∷ z ∷ cell ∷ w ∷ h ∷ []) (six_of view) → IsChecked view → AreNames (first ∷ rest)
+    → command_of (line_of (codes "rtcheck") (direction_word view.dir ∷ x ∷ y ∷ z ∷ cell ∷ w ∷ h ∷ first ∷ rest)) ≡ Shoot (Check view (first ∷ rest))
+rtcheck_line x y z cell w h view first rest are checked named =
+    let six : List ℤ = six_of view in
+    let read : List (Option ℤ) = map (λ (n : ℤ). Some n) six in
+    let good = numbers_words 999999999 (x ∷ y ∷ z ∷ cell ∷ w ∷ h ∷ []) six are in
+    line_command (codes "rtcheck") (direction_word view.dir ∷ x ∷ y ∷ z ∷ cell ∷ w ∷ h ∷ first ∷ rest) (λ line tokens w others. refl)
+    (omega arith, (refl, refl, (refl, refl, (refl, refl, (refl, refl, (refl, refl, (refl, refl, (refl, refl, tt))))))))
+    (direction_good view.dir, (good.0, (good.1.0, (good.1.1.0, (good.1.1.1.0, (good.1.1.1.1.0, (good.1.1.1.1.1.0, names_good (first ∷ rest) named)))))))
+    ∙ ap (λ (o : Option Dir). check_command o (view_numbers (x ∷ y ∷ z ∷ []) (cell ∷ w ∷ h ∷ [])) (first ∷ rest)) (direction_again view.dir)
+    ∙ ap (λ (ns : List (Option ℤ)). check_command (Some view.dir) ns (first ∷ rest)) (view_words x y z cell w h view are checked.cell)
+    ∙ unless_three (names_fault 9 1 (first ∷ rest)) (numbers_fault 3 1 read) (view_refusal view) (Shoot (Check view (first ∷ rest)))
+    (fine_names 9 1 (first ∷ rest) named) (all_fine 3 1 six) (fine_view view checked)
 
 -- ---- lines with words of other kinds
 

@@ -1,5 +1,5 @@
 -- The command of a line has names and refusals that stand on one line.
-use Rattle.std.proofs.Common.{zero, suc, get_or, ◌/◌, ◌%◌, nat_lt, is_some, is_none, unwrap_or, ◌≡◌, ◌<◌, ◌≤◌, ◌+◌, ◌++◌, ◌==◌, ◌&&◌, ℕ, ℤ, Bool, true, false, cond, List, [], ◌∷◌, All, Option, Some, None, Result, Ok, Err, is_ok, length, map, codes, decimal, bytes_eq, refl, arith}
+use Rattle.std.proofs.Common.{zero, suc, get_or, is_none, unwrap_or, ◌≡◌, ◌<◌, ◌≤◌, ◌+◌, ◌++◌, ◌==◌, ◌&&◌, ℕ, ℤ, Bool, true, false, cond, List, [], ◌∷◌, All, Option, Some, None, Result, Ok, Err, is_ok, length, map, codes, decimal, bytes_eq, refl, arith}
 use Rattle.std.proofs.lemmas.Bool.{and_parts, leb-true}
 use Rattle.std.proofs.lemmas.Int.{ints}
 use Rattle.std.specs.Int.RustNames.{unsigned_abs}
@@ -16,7 +16,7 @@ use Rattle.transcript.specs.Lines.{Lacks}
 use Rattle.transcript.proofs.LineLaws.{lacks_append}
 use Rattle.transcript.proofs.TranscriptLaws.{computed}
 use Rattle.word_values.specs.Atoms.{atoms_in, solid_number, value_of, view_number}
-use Rattle.mged_words.specs.Commands.{unless_refused, name_fault, names_fault, members_fault, numbers_fault, placement_fault, setting_fault, make_command, solid_command, kind_command, in_command, direction_of, world_fault, is_from_world, is_in_world, ray_of, shot_command, nirt_command, entry_of, entries_of, region_command, r_command, g_command, rm_command, kill_command, mvall_command, save_command, ls_command, sixteen_command, matrix_command, matrix_step, matrix_words, place_with, place_command, set_command, set_with, cattr_command, with_atoms, atom_command, named_command, worded_command, refusal_of_put, put_made, put_command, title_command, keep_fault, pairs_or_none, kept_command, keep_command, is_set, attr_command, l_command, tree_command, command_of_words, command_read, command_of}
+use Rattle.mged_words.specs.Commands.{unless_refused, name_fault, names_fault, members_fault, numbers_fault, placement_fault, setting_fault, make_command, solid_command, kind_command, in_command, direction_of, world_fault, is_from_world, is_in_world, ray_of, shot_command, nirt_command, view_numbers, view_of, view_refusal, picture_command, rt_command, check_command, rtcheck_command, entry_of, entries_of, region_command, r_command, g_command, rm_command, kill_command, mvall_command, save_command, ls_command, sixteen_command, matrix_command, matrix_step, matrix_words, place_with, place_command, set_command, set_with, cattr_command, with_atoms, atom_command, named_command, worded_command, refusal_of_put, put_made, put_command, title_command, keep_fault, pairs_or_none, kept_command, keep_command, is_set, attr_command, l_command, tree_command, command_of_words, command_read, command_of}
 use Rattle.word_values.specs.Matrices.{placement_read, identity}
 use Rattle.mged_words.specs.Readable.{ArePlain, ArePlainPairs, IsPlain, IsPlainRefusal, IsReadable}
 use Rattle.plane_geom.specs.declared.fault.ShapeFault.{ShapeFault}
@@ -25,9 +25,15 @@ use Rattle.solid_set.specs.declared.solid.Solid.{Solid}
 use Rattle.word_values.specs.declared.solid.SolidKind.{SolidKind}
 use Rattle.word_values.specs.Solids.{kind_of, number_count, solid_made, vector_at}
 use Rattle.command_set.specs.Refusals.{shape_text}
-use Rattle.command_set.specs.declared.refusal.ViewFault.TheVariants.{World}
+use Rattle.lattice_core.specs.declared.view.View as views
+use Rattle.lattice_core.specs.declared.view.ViewFault.{ViewFault}
+use Rattle.lattice_core.specs.declared.view.ViewFault.TheVariants.{Pixels, Side, Cell, World}
+use Rattle.lattice_core.specs.Views.{view_fault}
+use Rattle.std.specs.Option.{option_map}
+use Rattle.mged_words.proofs.ViewLines.{seen_whole}
 use Rattle.command_set.specs.declared.command.Command.{Command}
-use Rattle.command_set.specs.declared.command.Command.TheVariants.{Bad, Edit, Query}
+use Rattle.command_set.specs.declared.command.Command.TheVariants.{Bad, Edit, Query, Shoot}
+use Rattle.command_set.specs.declared.command.Shoot.TheVariants.{Picture, Check}
 use Rattle.command_set.specs.declared.command.Edit.TheVariants.{Region, Group, Remove, Kill, RenameAll, Place, Title, Keep, Set}
 use Rattle.tcl_words.specs.declared.token.Token.{Token}
 use Rattle.tcl_words.specs.declared.token.Word.{Word}
@@ -62,8 +68,11 @@ plain_name word = record { one_line = lacks_append 10 (codes "name ") (decimal w
 plain_number : (word : ℕ) → IsPlainRefusal (Number word)
 plain_number word = record { one_line = lacks_append 10 (codes "number ") (decimal word) (computed 10 (codes "number ") refl) (number_lacks word); other = refl }
 
-plain_world : IsPlainRefusal (View World)
-plain_world = record { one_line = computed 10 (codes "view world") refl; other = refl }
+plain_view : (fault : ViewFault) → IsPlainRefusal (View fault)
+plain_view Pixels = record { one_line = computed 10 (codes "view pixels") refl; other = refl }
+plain_view Side = record { one_line = computed 10 (codes "view side") refl; other = refl }
+plain_view Cell = record { one_line = computed 10 (codes "view cell") refl; other = refl }
+plain_view World = record { one_line = computed 10 (codes "view world") refl; other = refl }
 
 shape_one_line : (fault : ShapeFault) → Lacks 10 (shape_text fault)
 shape_one_line Flat = computed 10 (codes "flat") refl
@@ -162,7 +171,7 @@ shot_plain : (numbers : List (Option ℤ)) (dir : Option Dir) (names : List (Lis
 shot_plain numbers None names = plain_syntax
 shot_plain numbers (Some dir) names =
     unless_plain (names_fault 6 1 names ∷ numbers_fault 2 1 numbers ∷ world_fault (vector_at numbers 0) ∷ []) (Query (Shot (ray_of (vector_at numbers 0) dir) names))
-    (may_names 6 1 names, (may_number 2 1 numbers, (may_if (is_from_world (vector_at numbers 0)) (View World) plain_world, tt)))
+    (may_names 6 1 names, (may_number 2 1 numbers, (may_if (is_from_world (vector_at numbers 0)) (View World) (plain_view World), tt)))
     (λ all. record { one_line = names_plain 6 1 names all.0; in_world = world_read (vector_at numbers 0) all.1.1.0 })
 
 nirt_plain : (atoms : List (List ℕ)) → IsPlain (nirt_command atoms)
@@ -172,6 +181,53 @@ nirt_plain (a ∷ b ∷ []) = plain_syntax
 nirt_plain (a ∷ b ∷ c ∷ []) = plain_syntax
 nirt_plain (a ∷ b ∷ c ∷ d ∷ []) = plain_syntax
 nirt_plain (x ∷ y ∷ z ∷ dir ∷ name ∷ rest) = shot_plain (map view_number (x ∷ y ∷ z ∷ [])) (direction_of dir) (name ∷ rest)
+
+may_fault : (found : Option ViewFault) → MayBePlain (option_map View found)
+may_fault None = tt
+may_fault (Some fault) = plain_view fault
+
+may_view : (view : views.View) → MayBePlain (view_refusal view)
+unfolding view_refusal
+may_view view = may_fault (view_fault view)
+
+picture_plain : (file : List ℕ) (dir : Option Dir) (numbers : List (Option ℤ)) (names : List (List ℕ)) → IsPlain (picture_command file dir numbers names)
+picture_plain file None numbers names = plain_syntax
+picture_plain file (Some dir) numbers names =
+    let view : views.View = view_of dir numbers in
+    unless_plain (name_fault 2 file ∷ names_fault 10 1 names ∷ numbers_fault 4 1 numbers ∷ view_refusal view ∷ []) (Shoot (Picture file view names))
+    (may_if (is_ok (read_name file)) (Name 2) (plain_name 2), (may_names 10 1 names, (may_number 4 1 numbers, (may_view view, tt))))
+    (λ all. (name_read 2 file all.0, record { one_line = names_plain 10 1 names all.1.0; checked = seen_whole view all.1.1.1.0 }))
+
+rt_plain : (atoms : List (List ℕ)) → IsPlain (rt_command atoms)
+rt_plain [] = plain_syntax
+rt_plain (a ∷ []) = plain_syntax
+rt_plain (a ∷ b ∷ []) = plain_syntax
+rt_plain (a ∷ b ∷ c ∷ []) = plain_syntax
+rt_plain (a ∷ b ∷ c ∷ d ∷ []) = plain_syntax
+rt_plain (a ∷ b ∷ c ∷ d ∷ e ∷ []) = plain_syntax
+rt_plain (a ∷ b ∷ c ∷ d ∷ e ∷ f ∷ []) = plain_syntax
+rt_plain (a ∷ b ∷ c ∷ d ∷ e ∷ f ∷ g ∷ []) = plain_syntax
+rt_plain (a ∷ b ∷ c ∷ d ∷ e ∷ f ∷ g ∷ h ∷ []) = plain_syntax
+rt_plain (file ∷ dir ∷ x ∷ y ∷ z ∷ cell ∷ w ∷ h ∷ name ∷ rest) = picture_plain file (direction_of dir) (view_numbers (x ∷ y ∷ z ∷ []) (cell ∷ w ∷ h ∷ [])) (name ∷ rest)
+
+check_plain : (dir : Option Dir) (numbers : List (Option ℤ)) (names : List (List ℕ)) → IsPlain (check_command dir numbers names)
+check_plain None numbers names = plain_syntax
+check_plain (Some dir) numbers names =
+    let view : views.View = view_of dir numbers in
+    unless_plain (names_fault 9 1 names ∷ numbers_fault 3 1 numbers ∷ view_refusal view ∷ []) (Shoot (Check view names))
+    (may_names 9 1 names, (may_number 3 1 numbers, (may_view view, tt)))
+    (λ all. record { one_line = names_plain 9 1 names all.0; checked = seen_whole view all.1.1.0 })
+
+rtcheck_plain : (atoms : List (List ℕ)) → IsPlain (rtcheck_command atoms)
+rtcheck_plain [] = plain_syntax
+rtcheck_plain (a ∷ []) = plain_syntax
+rtcheck_plain (a ∷ b ∷ []) = plain_syntax
+rtcheck_plain (a ∷ b ∷ c ∷ []) = plain_syntax
+rtcheck_plain (a ∷ b ∷ c ∷ d ∷ []) = plain_syntax
+rtcheck_plain (a ∷ b ∷ c ∷ d ∷ e ∷ []) = plain_syntax
+rtcheck_plain (a ∷ b ∷ c ∷ d ∷ e ∷ f ∷ []) = plain_syntax
+rtcheck_plain (a ∷ b ∷ c ∷ d ∷ e ∷ f ∷ g ∷ []) = plain_syntax
+rtcheck_plain (dir ∷ x ∷ y ∷ z ∷ cell ∷ w ∷ h ∷ name ∷ rest) = check_plain (direction_of dir) (view_numbers (x ∷ y ∷ z ∷ []) (cell ∷ w ∷ h ∷ [])) (name ∷ rest)
 
 members_plain : (members : List (List ℕ)) → ArePlain members → ArePlain (names_of (map (entry_of U) members))
 members_plain [] h = tt
@@ -340,6 +396,8 @@ atom_plain : (word : List ℕ) (atoms : List (List ℕ)) → IsPlain (atom_comma
 atom_plain word atoms =
     either_plain (bytes_eq word (codes "in")) (in_command atoms) _ (in_plain atoms)
     (either_plain (bytes_eq word (codes "nirt")) (nirt_command atoms) _ (nirt_plain atoms)
+    (either_plain (bytes_eq word (codes "rt")) (rt_command atoms) _ (rt_plain atoms)
+    (either_plain (bytes_eq word (codes "rtcheck")) (rtcheck_command atoms) _ (rtcheck_plain atoms)
     (either_plain (bytes_eq word (codes "r")) (r_command atoms) _ (r_plain atoms)
     (either_plain (bytes_eq word (codes "g")) (g_command atoms) _ (g_plain atoms)
     (either_plain (bytes_eq word (codes "rm")) (rm_command atoms) _ (rm_plain atoms)
@@ -348,7 +406,7 @@ atom_plain word atoms =
     (either_plain (bytes_eq word (codes "ls")) (ls_command atoms) _ (ls_plain atoms)
     (either_plain (bytes_eq word (codes "l")) (l_command atoms) _ (l_plain atoms)
     (either_plain (bytes_eq word (codes "tree")) (tree_command atoms) _ (tree_plain atoms)
-    (either_plain (bytes_eq word (codes "save")) (save_command atoms) (Bad Syntax) (save_plain atoms) plain_syntax))))))))))
+    (either_plain (bytes_eq word (codes "save")) (save_command atoms) (Bad Syntax) (save_plain atoms) plain_syntax))))))))))))
 
 atoms_plain : (word : List ℕ) (atoms : Option (List (List ℕ))) → IsPlain (with_atoms (atom_command word) atoms)
 atoms_plain word None = plain_syntax

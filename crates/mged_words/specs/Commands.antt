@@ -1,6 +1,6 @@
 -- Which command a line is, or the refusal that it is answered as it stands. All of a line's form is looked at first, then
--- its names, its numbers, the ray, and the solid.
-use Rattle.std.specs.Prelude.{ℕ, ℤ, Bool, false, ◌&&◌, ◌==◌, ◌+◌, List, [], ◌∷◌, Option, Some, None, Result, Ok, Err, is_ok, is_none, unwrap_or, map, length, codes, bytes_eq, nat_le, if◌then◌else◌}
+-- its names, its numbers, the ray or the view, and the solid.
+use Rattle.std.specs.Prelude.{ℕ, ℤ, pos, negsuc, Bool, false, ◌&&◌, ◌==◌, ◌+◌, ◌++◌, List, [], ◌∷◌, Option, Some, None, Result, Ok, Err, is_ok, is_none, unwrap_or, map, length, codes, bytes_eq, nat_le, if◌then◌else◌}
 use Rattle.std.specs.Option.{option_map}
 use Rattle.std.specs.Int.RustNames.{unsigned_abs}
 use Rattle.lattice_core.specs.declared.limit.TheConstants.{WORLD}
@@ -8,6 +8,8 @@ use Rattle.lattice_core.specs.declared.ray.Dir.{Dir}
 use Rattle.lattice_core.specs.declared.ray.Dir.TheVariants.{PlusX, MinusX, PlusY, MinusY, PlusZ, MinusZ}
 use Rattle.lattice_core.specs.declared.ray.Ray.{Ray}
 use Rattle.lattice_core.specs.declared.vector.V3.{V3}
+use Rattle.lattice_core.specs.declared.view.View as views
+use Rattle.lattice_core.specs.Views.{view_fault}
 use Rattle.lattice_core.specs.declared.placement.Placement.{Placement}
 use Rattle.name_core.specs.NameText.{read_name}
 use Rattle.tcl_words.specs.Reading.{words_of}
@@ -26,15 +28,16 @@ use Rattle.solid_set.specs.declared.solid.Solid.{Solid}
 use Rattle.object_set.specs.declared.object.Body.TheVariants as bodies
 use Rattle.object_set.specs.Objects.{Parts}
 use Rattle.command_set.specs.declared.command.Command.{Command}
-use Rattle.command_set.specs.declared.command.Command.TheVariants.{Bad, Edit, Query}
+use Rattle.command_set.specs.declared.command.Command.TheVariants.{Bad, Edit, Query, Shoot}
 use Rattle.command_set.specs.declared.command.Edit.TheVariants.{Make, Region, Group, Remove, Kill, RenameAll, Place, Title, Keep, Set}
 use Rattle.command_set.specs.declared.command.Query.TheVariants.{List as Lines, Names, Tree, Save, Shot}
+use Rattle.command_set.specs.declared.command.Shoot.TheVariants.{Picture, Check}
 use Rattle.command_set.specs.declared.refusal.Refusal.{Refusal}
 use Rattle.command_set.specs.declared.refusal.Refusal.TheVariants.{Syntax, Name, Number, View, Shape}
-use Rattle.command_set.specs.declared.refusal.ViewFault.TheVariants.{World}
+use Rattle.lattice_core.specs.declared.view.ViewFault.TheVariants.{World}
 use Rattle.word_values.specs.declared.solid.SolidKind.{SolidKind}
 use Rattle.word_values.specs.Atoms.{atoms_in, words_in, solid_number, view_number, value_of}
-use Rattle.word_values.specs.Solids.{kind_of, number_count, solid_made, vector_at}
+use Rattle.word_values.specs.Solids.{kind_of, number_count, solid_made, vector_at, nth_number}
 use Rattle.word_values.specs.Matrices.{placement_read, identity}
 use Rattle.object_set.specs.declared.kept.KeptAttr.{KeptAttr}
 use Rattle.put_form.specs.Keeps.{is_text, kept_of}
@@ -125,6 +128,56 @@ shot_command numbers (Some dir) names =
 abbrev pub nirt_command : List (List ℕ) → Command
 nirt_command (x ∷ y ∷ z ∷ dir ∷ name ∷ rest) = shot_command (map view_number (x ∷ y ∷ z ∷ [])) (direction_of dir) (name ∷ rest)
 nirt_command _ = Bad Syntax
+
+abbrev pub from_zero : Option ℤ → Option ℤ
+from_zero None = None
+from_zero (Some (pos n)) = Some (pos n)
+from_zero (Some (negsuc n)) = None
+
+-- the cell of a view in millimetres, or how many columns or rows it has
+abbrev pub size_number : List ℕ → Option ℤ
+size_number atom = from_zero (view_number atom)
+
+-- the numbers of a view: `X Y Z` of its corner, and then `CELL W H`
+abbrev pub view_numbers : List (List ℕ) → List (List ℕ) → List (Option ℤ)
+view_numbers corner sizes = map view_number corner ++ map size_number sizes
+
+-- the view in a direction by its numbers
+abbrev pub view_of : Dir → List (Option ℤ) → views.View
+view_of dir numbers = record {
+  corner = vector_at numbers 0;
+  dir = dir;
+  cell = nth_number numbers 3;
+  w = unsigned_abs (nth_number numbers 4);
+  h = unsigned_abs (nth_number numbers 5);
+}
+
+-- the first fault of a view
+unfoldable pub view_refusal : views.View → Option Refusal
+view_refusal view = option_map View (view_fault view)
+
+-- `rt FILE DIR`, the numbers of a view, and names
+abbrev pub picture_command : List ℕ → Option Dir → List (Option ℤ) → List (List ℕ) → Command
+picture_command file None numbers names = Bad Syntax
+picture_command file (Some dir) numbers names =
+    unless_refused (name_fault 2 file ∷ names_fault 10 1 names ∷ numbers_fault 4 1 numbers ∷ view_refusal (view_of dir numbers) ∷ []) (Shoot (Picture file (view_of dir numbers) names))
+
+-- `rt FILE DIR X Y Z CELL W H NAME ..`
+abbrev pub rt_command : List (List ℕ) → Command
+rt_command (file ∷ dir ∷ x ∷ y ∷ z ∷ cell ∷ w ∷ h ∷ name ∷ rest) =
+    picture_command file (direction_of dir) (view_numbers (x ∷ y ∷ z ∷ []) (cell ∷ w ∷ h ∷ [])) (name ∷ rest)
+rt_command _ = Bad Syntax
+
+-- `rtcheck DIR`, the numbers of a view, and names
+abbrev pub check_command : Option Dir → List (Option ℤ) → List (List ℕ) → Command
+check_command None numbers names = Bad Syntax
+check_command (Some dir) numbers names =
+    unless_refused (names_fault 9 1 names ∷ numbers_fault 3 1 numbers ∷ view_refusal (view_of dir numbers) ∷ []) (Shoot (Check (view_of dir numbers) names))
+
+-- `rtcheck DIR X Y Z CELL W H NAME ..`
+abbrev pub rtcheck_command : List (List ℕ) → Command
+rtcheck_command (dir ∷ x ∷ y ∷ z ∷ cell ∷ w ∷ h ∷ name ∷ rest) = check_command (direction_of dir) (view_numbers (x ∷ y ∷ z ∷ []) (cell ∷ w ∷ h ∷ [])) (name ∷ rest)
+rtcheck_command _ = Bad Syntax
 
 abbrev pub operator_of : List ℕ → Option Op
 operator_of word =
@@ -316,6 +369,8 @@ abbrev pub atom_command : List ℕ → List (List ℕ) → Command
 atom_command word atoms =
     if bytes_eq word (codes "in") then in_command atoms
     else (if bytes_eq word (codes "nirt") then nirt_command atoms
+    else (if bytes_eq word (codes "rt") then rt_command atoms
+    else (if bytes_eq word (codes "rtcheck") then rtcheck_command atoms
     else (if bytes_eq word (codes "r") then r_command atoms
     else (if bytes_eq word (codes "g") then g_command atoms
     else (if bytes_eq word (codes "rm") then rm_command atoms
@@ -324,7 +379,7 @@ atom_command word atoms =
     else (if bytes_eq word (codes "ls") then ls_command atoms
     else (if bytes_eq word (codes "l") then l_command atoms
     else (if bytes_eq word (codes "tree") then tree_command atoms
-    else (if bytes_eq word (codes "save") then save_command atoms else Bad Syntax))))))))))
+    else (if bytes_eq word (codes "save") then save_command atoms else Bad Syntax))))))))))))
 
 -- a command by its own word and the words that follow it
 abbrev pub named_command : List ℕ → List Token → Word → List Word → List ℕ → Command

@@ -1,17 +1,20 @@
 -- Small scripts and lines, and what the definitions make of them.
-use Rattle.std.specs.Prelude.{◌≡◌, refl, pos, [], ◌∷◌, true, false, Some, Ok, Err, codes}
-use Rattle.lattice_core.specs.declared.ray.Dir.TheVariants.{MinusX}
+use Rattle.std.specs.Prelude.{◌≡◌, refl, ℕ, ℤ, pos, negsuc, [], ◌∷◌, true, false, Some, Ok, Err, codes}
+use Rattle.lattice_core.specs.declared.ray.Dir.{Dir}
+use Rattle.lattice_core.specs.declared.ray.Dir.TheVariants.{MinusX, PlusX, PlusY, MinusZ}
+use Rattle.lattice_core.specs.declared.view.View as views
 use Rattle.plane_geom.specs.declared.fault.ShapeFault.TheVariants.{Flat, NotPlanar, NotConvex, Radius, ZeroNormal}
 use Rattle.tree_forms.specs.declared.Op.TheVariants.{U, Minus}
 use Rattle.solid_set.specs.declared.solid.Solid.TheVariants as solids
 use Rattle.transcript.specs.Merge.{entry}
-use Rattle.command_set.specs.declared.command.Command.TheVariants.{Bad, Edit, Query}
+use Rattle.command_set.specs.declared.command.Command.TheVariants.{Bad, Edit, Query, Shoot}
 use Rattle.command_set.specs.declared.command.Edit.TheVariants.{Make, Region, Group, Remove, Kill, RenameAll, Place, Title, Keep, Set}
 use Rattle.command_set.specs.declared.command.Query.TheVariants.{List as Lines, Names, Save, Shot}
+use Rattle.command_set.specs.declared.command.Shoot.TheVariants.{Picture, Check}
 use Rattle.command_set.specs.declared.refusal.Refusal.TheVariants.{Syntax, Name, Number, View, Shape}
-use Rattle.command_set.specs.declared.refusal.ViewFault.TheVariants.{World}
+use Rattle.lattice_core.specs.declared.view.ViewFault.TheVariants.{Pixels, Side, Cell, World}
 use Rattle.mged_words.specs.declared.script.ScriptFlaw.TheVariants as flaws
-use Rattle.mged_words.specs.Commands.{command_of, entry_of, ray_of, solid_object}
+use Rattle.mged_words.specs.Commands.{command_of, entry_of, ray_of, solid_object, view_refusal}
 use Rattle.word_values.specs.Matrices.{identity}
 use Rattle.mged_words.specs.OneLine.{line_of, member_words}
 use Rattle.mged_words.specs.Order.{first_refusal, names_of_line, numbers_of_line, wanted_of_line}
@@ -302,6 +305,87 @@ bent_face = refl
 pub hollow_face : command_of (codes "in a arb8 0 0 0 10 0 0 3 3 0 0 10 0 0 0 10 10 0 10 3 3 10 0 10 10") ≡ Bad (Shape (NotConvex 4))
 hollow_face = refl
 
+-- a view by its corner, its direction, its cell, its columns and its rows
+abbrev view : ℤ → ℤ → ℤ → Dir → ℕ → ℕ → ℕ → views.View
+view x y z dir cell w h = record { corner = vector x y z; dir = dir; cell = pos cell; w = w; h = h }
+
+-- a picture, and the report of overlaps in the same view
+pub a_picture : command_of (codes "rt cup.ppm -z -1105 1104 1500 10 222 200 all {s}") ≡ Shoot (Picture (codes "cup.ppm") (view (negsuc 1104) (pos 1104) (pos 1500) MinusZ 10 222 200) (codes "all" ∷ codes "s" ∷ []))
+unfolding view_refusal
+a_picture = refl
+
+pub a_check : command_of (codes "rtcheck -z -1105 1104 1500 10 222 200 all s") ≡ Shoot (Check (view (negsuc 1104) (pos 1104) (pos 1500) MinusZ 10 222 200) (codes "all" ∷ codes "s" ∷ []))
+unfolding view_refusal
+a_check = refl
+
+-- each has at least one name
+pub picture_of_nothing : command_of (codes "rt f +x 0 0 0 1 1 1") ≡ Bad Syntax
+picture_of_nothing = refl
+
+pub check_of_nothing : command_of (codes "rtcheck +x 0 0 0 1 1 1") ≡ Bad Syntax
+check_of_nothing = refl
+
+pub no_such_direction : command_of (codes "rt f/ x a b c d e f s/") ≡ Bad Syntax
+no_such_direction = refl
+
+pub file_for_a_check : command_of (codes "rtcheck f +x 0 0 0 1 1 1 s") ≡ Bad Syntax
+file_for_a_check = refl
+
+-- the file is the first name, and the others stand behind the numbers; all names come before all numbers
+pub file_of_a_picture : command_of (codes "rt f/ +x a 0 0 1 1 1 s/") ≡ Bad (Name 2)
+file_of_a_picture = refl
+
+pub second_of_a_picture : command_of (codes "rt f +x a 0 0 1 1 1 s t/") ≡ Bad (Name 11)
+second_of_a_picture = refl
+
+pub second_of_a_check : command_of (codes "rtcheck +x a 0 0 1 1 1 s t/") ≡ Bad (Name 10)
+second_of_a_check = refl
+
+-- a corner may be less than 0, and a cell, columns and rows may not
+pub corner_too_far : command_of (codes "rt f +x -999999999 0 -1000000000 x 1 1 s") ≡ Bad (Number 6)
+corner_too_far = refl
+
+pub cell_below_zero : command_of (codes "rt f +x 0 0 0 -1 -1 -1 s") ≡ Bad (Number 7)
+cell_below_zero = refl
+
+pub columns_below_zero : command_of (codes "rtcheck +x 0 0 0 0 -1 -1 s") ≡ Bad (Number 7)
+columns_below_zero = refl
+
+pub too_many_rows : command_of (codes "rtcheck +x 0 0 0 0 0 1000000000 s") ≡ Bad (Number 8)
+too_many_rows = refl
+
+-- the view is looked at last: its pixels, its sides, its cell, and then where its rays start
+pub no_columns : command_of (codes "rt f +x 524289 0 0 0 -0 2049 s") ≡ Bad (View Pixels)
+unfolding view_refusal
+no_columns = refl
+
+pub long_side : command_of (codes "rtcheck +x 524289 0 0 0 1 2049 s") ≡ Bad (View Side)
+unfolding view_refusal
+long_side = refl
+
+pub no_cell : command_of (codes "rt f +x 524289 0 0 0 1 2048 s") ≡ Bad (View Cell)
+unfolding view_refusal
+no_cell = refl
+
+pub corner_outside : command_of (codes "rtcheck +x 524289 0 0 1 1 1 s") ≡ Bad (View World)
+unfolding view_refusal
+corner_outside = refl
+
+-- the last column starts a millimetre too far out: columns follow one another along x from left to right, when seen along y
+pub last_column_outside : command_of (codes "rt f +y 524288 0 0 1 2 1 s") ≡ Bad (View World)
+unfolding view_refusal
+last_column_outside = refl
+
+-- there is no second column that a long cell could move out of the world
+pub one_pixel_of_any_cell : command_of (codes "rt f +y 524288 0 0 999999999 1 1 s") ≡ Shoot (Picture (codes "f") (view (pos 524288) (pos 0) (pos 0) PlusY 999999999 1 1) (codes "s" ∷ []))
+unfolding view_refusal
+one_pixel_of_any_cell = refl
+
+-- the most columns and rows, over nearly the whole world
+pub whole_world : command_of (codes "rtcheck +x 0 524288 524288 512 2048 2048 s") ≡ Shoot (Check (view (pos 0) (pos 524288) (pos 524288) PlusX 512 2048 2048) (codes "s" ∷ []))
+unfolding view_refusal
+whole_world = refl
+
 pub no_commands : script_of [] ≡ Ok []
 no_commands = refl
 
@@ -421,6 +505,12 @@ names_of_a_region = refl
 pub names_of_a_shot : names_of_line (codes "nirt x 0 0 +x s {t}") ≡ (6, codes "s") ∷ (7, codes "t") ∷ []
 names_of_a_shot = refl
 
+pub names_of_a_picture : names_of_line (codes "rt f/ +x 0 0 0 1 1 1 s {t}") ≡ (2, codes "f/") ∷ (10, codes "s") ∷ (11, codes "t") ∷ []
+names_of_a_picture = refl
+
+pub names_of_a_check : names_of_line (codes "rtcheck +x 0 0 0 1 1 1 s") ≡ (9, codes "s") ∷ []
+names_of_a_check = refl
+
 -- those of a tree all have the number of its word
 pub names_of_a_combination : names_of_line (codes "put c comb id x tree {u {l a} {l b/}}") ≡ (2, codes "c") ∷ (7, codes "a") ∷ (7, codes "b/") ∷ []
 names_of_a_combination = refl
@@ -432,6 +522,9 @@ names_of_kept_attributes = refl
 pub numbers_of_a_shot : numbers_of_line (codes "nirt 0 x 524289 +x s/") ≡ (2, true) ∷ (3, false) ∷ (4, true) ∷ []
 numbers_of_a_shot = refl
 
+pub numbers_of_a_picture : numbers_of_line (codes "rt f +x -5 x 0 -1 1 1 s") ≡ (4, true) ∷ (5, false) ∷ (6, true) ∷ (7, false) ∷ (8, true) ∷ (9, true) ∷ []
+numbers_of_a_picture = refl
+
 -- each value of a combination has the number of its word; one that is no value is told by it
 pub values_of_a_combination : numbers_of_line (codes "put c comb id x los 5 region {yes}") ≡ (5, false) ∷ (7, true) ∷ (9, true) ∷ []
 values_of_a_combination = refl
@@ -439,6 +532,9 @@ values_of_a_combination = refl
 -- the ray is looked at last, and only there
 pub ray_of_a_shot : first_refusal (wanted_of_line (codes "nirt 0 0 524289 +x s")) ≡ Some (View World)
 ray_of_a_shot = refl
+
+pub view_of_a_picture : first_refusal (wanted_of_line (codes "rt f +x 0 0 0 0 1 1 s")) ≡ Some (View Cell)
+view_of_a_picture = refl
 
 -- the line of a command
 pub a_line : line_of (codes "kill") (codes "a" ∷ codes "b" ∷ []) ≡ codes "kill a b"

@@ -1,6 +1,6 @@
--- The words of a line that are to be names, those that are to be numbers, its ray, and its solid. A line that has the form of
--- a command is told of the first of them that is none, in this order: a number only where all names are names, a ray only where
--- all numbers are in their ranges too, and a solid last.
+-- The words of a line that are to be names, those that are to be numbers, its ray or its view, and its solid. A line that has
+-- the form of a command is told of the first of them that is none, in this order: a number only where all names are names, a ray
+-- or a view only where all numbers are in their ranges too, and a solid last.
 use Rattle.std.specs.Prelude.{◌≡◌, ◌⊎◌, ℕ, ℤ, Bool, ◌+◌, ◌-◌, ◌++◌, List, [], ◌∷◌, Option, Some, None, Result, Ok, Err, is_ok, is_some, map, take, codes, bytes_eq, if◌then◌else◌}
 use Rattle.std.specs.List.{slice_range}
 use Rattle.std.specs.Option.{option_map}
@@ -10,7 +10,9 @@ use Rattle.tcl_words.specs.TopWords.{top_words, atom_of}
 use Rattle.tcl_words.specs.declared.fault.WordFault.{WordFault}
 use Rattle.tcl_words.specs.declared.token.Token.{Token}
 use Rattle.tcl_words.specs.declared.token.Word.{Word}
+use Rattle.lattice_core.specs.declared.ray.Dir.{Dir}
 use Rattle.lattice_core.specs.declared.vector.V3.{V3}
+use Rattle.lattice_core.specs.Views.{view_fault}
 use Rattle.plane_geom.specs.declared.fault.ShapeFault.{ShapeFault}
 use Rattle.solid_set.specs.declared.solid.Solid.{Solid}
 use Rattle.region_attr.specs.Attrs.{is_setting}
@@ -35,9 +37,9 @@ use Rattle.command_set.specs.declared.command.Command.{Command}
 use Rattle.command_set.specs.declared.command.Command.TheVariants.{Bad}
 use Rattle.command_set.specs.declared.refusal.Refusal.{Refusal}
 use Rattle.command_set.specs.declared.refusal.Refusal.TheVariants.{Syntax, Name, Number, View, Shape}
-use Rattle.command_set.specs.declared.refusal.ViewFault.{ViewFault}
-use Rattle.command_set.specs.declared.refusal.ViewFault.TheVariants.{World}
-use Rattle.mged_words.specs.Commands.{is_from_world, matrix_step, matrix_words}
+use Rattle.lattice_core.specs.declared.view.ViewFault.{ViewFault}
+use Rattle.lattice_core.specs.declared.view.ViewFault.TheVariants.{World}
+use Rattle.mged_words.specs.Commands.{direction_of, is_from_world, matrix_step, matrix_words, view_numbers, view_of}
 
 -- words with their numbers, which are counted from one on by steps
 abbrev pub numbered : ℕ → ℕ → List (List ℕ) → List (ℕ × List ℕ)
@@ -55,7 +57,7 @@ pub record Wanted : Type 0 where
   pub names : List (ℕ × List ℕ)
   -- the words that are or hold numbers or the value of an attribute, and whether these are in their ranges
   pub numbers : List (ℕ × Bool)
-  -- why its ray is refused
+  -- why its ray or its view is refused
   pub view : Option ViewFault
   -- why its solid is refused
   pub shape : Option ShapeFault
@@ -102,12 +104,30 @@ abbrev pub nirt_wanted : List (List ℕ) → Wanted
 nirt_wanted (x ∷ y ∷ z ∷ dir ∷ names) = shot_wanted (map view_number (x ∷ y ∷ z ∷ [])) names
 nirt_wanted _ = nothing
 
--- behind the word of a command whose words are all atoms: the two above, `r NAME OP MEMBER ..`, or names alone
+-- the names of a line and the numbers of its view, of which the first has this word
+abbrev pub view_wanted : ℕ → List (ℕ × List ℕ) → Option Dir → List (Option ℤ) → Wanted
+view_wanted word names None numbers = nothing
+view_wanted word names (Some dir) numbers = record { names = names; numbers = ranged word 1 numbers; view = view_fault (view_of dir numbers); shape = None }
+
+-- `rt FILE DIR X Y Z CELL W H NAME ..`
+abbrev pub rt_wanted : List (List ℕ) → Wanted
+rt_wanted (file ∷ dir ∷ x ∷ y ∷ z ∷ cell ∷ w ∷ h ∷ names) =
+    view_wanted 4 ((2, file) ∷ numbered 10 1 names) (direction_of dir) (view_numbers (x ∷ y ∷ z ∷ []) (cell ∷ w ∷ h ∷ []))
+rt_wanted _ = nothing
+
+-- `rtcheck DIR X Y Z CELL W H NAME ..`
+abbrev pub rtcheck_wanted : List (List ℕ) → Wanted
+rtcheck_wanted (dir ∷ x ∷ y ∷ z ∷ cell ∷ w ∷ h ∷ names) = view_wanted 3 (numbered 9 1 names) (direction_of dir) (view_numbers (x ∷ y ∷ z ∷ []) (cell ∷ w ∷ h ∷ []))
+rtcheck_wanted _ = nothing
+
+-- behind the word of a command whose words are all atoms: the four above, `r NAME OP MEMBER ..`, or names alone
 abbrev pub wanted_behind : List ℕ → List (List ℕ) → Wanted
 wanted_behind word atoms =
     if bytes_eq word (codes "in") then in_wanted atoms
     else (if bytes_eq word (codes "nirt") then nirt_wanted atoms
-    else (if bytes_eq word (codes "r") then names_alone (numbered 2 2 (every_second atoms)) else names_alone (numbered 2 1 atoms)))
+    else (if bytes_eq word (codes "rt") then rt_wanted atoms
+    else (if bytes_eq word (codes "rtcheck") then rtcheck_wanted atoms
+    else (if bytes_eq word (codes "r") then names_alone (numbered 2 2 (every_second atoms)) else names_alone (numbered 2 1 atoms)))))
 
 abbrev pub wanted_of_atoms : List ℕ → Option (List (List ℕ)) → Wanted
 wanted_of_atoms word None = nothing
@@ -235,7 +255,7 @@ abbrev pub first_of : List (Option Refusal) → Option Refusal
 first_of [] = None
 first_of (refusal ∷ rest) = or_else refusal (first_of rest)
 
--- the first name that is none, else the first number out of its range, else the ray, else the solid
+-- the first name that is none, else the first number out of its range, else the ray or the view, else the solid
 abbrev pub first_refusal : Wanted → Option Refusal
 first_refusal w =
     first_of (option_map Name (first_unnamed w.names) ∷ option_map Number (first_out w.numbers) ∷ option_map View w.view ∷ option_map Shape w.shape ∷ [])

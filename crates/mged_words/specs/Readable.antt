@@ -1,10 +1,12 @@
 -- Commands of which each answer stands on lines of its own, and is told from want of memory. A ray starts in the
--- world.
+-- world, and a view was checked.
 use Rattle.std.specs.Prelude.{◌≡◌, List, bytes_eq, codes, false}
 use Rattle.std.specs.List.{AllByRecursion}
 use Rattle.lattice_core.specs.declared.ray.Ray.{Ray}
+use Rattle.lattice_core.specs.declared.view.View.{View}
 use Rattle.lattice_core.specs.declared.limit.TheConstants.{WORLD}
 use Rattle.lattice_core.specs.Limits.{IsWithin}
+use Rattle.lattice_core.specs.Views.{IsChecked}
 use Rattle.name_core.specs.declared.name.Name.{Name}
 use Rattle.comb_tree.specs.Changes.{names_of}
 use Rattle.object_set.specs.Objects.{Parts, member_names}
@@ -13,11 +15,13 @@ use Rattle.transcript.specs.Lines.{Lacks}
 use Rattle.transcript.specs.Merge.{Entry}
 use Rattle.command_set.specs.Refusals.{refusal_text}
 use Rattle.command_set.specs.declared.command.Command.{Command}
-use Rattle.command_set.specs.declared.command.Command.TheVariants.{Bad, Edit as IsEdit, Query as IsQuery}
+use Rattle.command_set.specs.declared.command.Command.TheVariants.{Bad, Edit as IsEdit, Query as IsQuery, Shoot as IsShoot}
 use Rattle.command_set.specs.declared.command.Edit.{Edit}
 use Rattle.command_set.specs.declared.command.Edit.TheVariants.{Make, Region, Group, Remove, Kill, RenameAll, Place, Title, Keep, Set}
 use Rattle.command_set.specs.declared.command.Query.{Query}
 use Rattle.command_set.specs.declared.command.Query.TheVariants as queries
+use Rattle.command_set.specs.declared.command.Shoot.{Shoot}
+use Rattle.command_set.specs.declared.command.Shoot.TheVariants.{Picture, Check}
 use Rattle.command_set.specs.declared.refusal.Refusal.{Refusal}
 
 -- a refusal without a line feed, that is not `memory`
@@ -62,10 +66,20 @@ IsPlainQuery (queries.Tree names) = ArePlain names
 IsPlainQuery (queries.Save file) = Lacks 10 file
 IsPlainQuery (queries.Shot ray names) = IsPlainShot ray names
 
+-- names shot at from a view that was checked
+pub record IsPlainView (view : View) (names : List Name) : Type 0 where
+  pub one_line : ArePlain names
+  pub checked : IsChecked view
+
+abbrev pub IsPlainShoot : Shoot → Type 0
+IsPlainShoot (Picture file view names) = Lacks 10 file × IsPlainView view names
+IsPlainShoot (Check view names) = IsPlainView view names
+
 abbrev pub IsPlain : Command → Type 0
 IsPlain (Bad refusal) = IsPlainRefusal refusal
 IsPlain (IsEdit edit) = IsPlainEdit edit
 IsPlain (IsQuery query) = IsPlainQuery query
+IsPlain (IsShoot shoot) = IsPlainShoot shoot
 
 -- an entry whose command has a line that reads as it
 abbrev pub IsReadable : Entry Command → Type 0

@@ -1,6 +1,8 @@
 -- What reading names, lines and a script gave.
-use Rattle.std.specs.Prelude.{◌≡◌, ℕ, ℤ, List, [], ◌∷◌, Option, Some, None, Result, Ok, Err, map, is_none, unwrap_or, true, false}
+use Rattle.std.specs.Prelude.{◌≡◌, ℕ, ℤ, List, [], ◌∷◌, Option, Some, None, Result, Ok, Err, map, take, drop, is_none, unwrap_or, true, false}
 use Rattle.lattice_core.specs.declared.placement.Placement.{Placement}
+use Rattle.lattice_core.specs.declared.ray.Dir.{Dir}
+use Rattle.lattice_core.specs.declared.view.View.{View}
 use Rattle.word_values.specs.Matrices.{placement_read, identity}
 use Rattle.region_attr.specs.Attrs.{is_setting}
 use Rattle.region_attr.specs.Keys.{key_of}
@@ -11,7 +13,7 @@ use Rattle.command_set.specs.declared.command.Command.{Command}
 use Rattle.command_set.specs.declared.command.Command.TheVariants.{Bad}
 use Rattle.command_set.specs.declared.refusal.Refusal.{Refusal}
 use Rattle.put_form.specs.declared.fault.PutFault.{PutFault}
-use Rattle.mged_words.specs.Commands.{refusal_of_put, numbers_fault, placement_fault}
+use Rattle.mged_words.specs.Commands.{refusal_of_put, numbers_fault, placement_fault, view_numbers, view_of, view_refusal}
 use Rattle.mged_words.specs.Entries.{command_entry}
 use Rattle.mged_words.specs.Scripts.{script_of}
 use Rattle.mged_words.specs.declared.command.ScriptCommand.{ScriptCommand}
@@ -46,6 +48,18 @@ or_refused (None ∷ rest) value = or_refused rest value
 -- the placement of sixteen numbers, after the names before them were read
 abbrev pub matrix_read : ℕ → List (Option ℤ) → Result Placement Refusal
 matrix_read step numbers = or_refused (numbers_fault 4 step numbers ∷ placement_fault 4 (placement_read numbers) ∷ []) (unwrap_or (placement_read numbers) identity)
+
+-- the six numbers of a view, of which the first three are those of its corner
+abbrev pub six_numbers : List (List ℕ) → List (Option ℤ)
+six_numbers atoms = view_numbers (take 3 atoms) (drop 3 atoms)
+
+-- a view, where it has no fault
+abbrev pub view_unless_fault : View → Result View Refusal
+view_unless_fault view = or_refused (view_refusal view ∷ []) view
+
+-- the view of six numbers, of which the first has this word
+abbrev pub view_read : ℕ → Dir → List (Option ℤ) → Result View Refusal
+view_read word dir numbers = or_refused (numbers_fault word 1 numbers ∷ view_refusal (view_of dir numbers) ∷ []) (view_of dir numbers)
 
 -- what a call gave is the setting of a key and a value, or why there is none
 abbrev pub IsSettingRead : Result KeyAndValue AttrFault → List ℕ → List ℕ → Type 0

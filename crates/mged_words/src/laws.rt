@@ -1,10 +1,12 @@
 //! Laws of lines and scripts. The functions do nothing: their contracts are the laws.
-ghost use Rattle.std.specs.Prelude.{◌≡◌, ◌∷◌, [], ℕ, ℤ, IsTrue, List, Ok, Some, codes, length, map};
+ghost use Rattle.std.specs.Prelude.{◌≡◌, ◌∷◌, [], ℕ, ℤ, IsTrue, List, Ok, Some, codes, length, map, pos};
 ghost use Rattle.lattice_core.specs.Limits.{IsWithin};
 ghost use Rattle.lattice_core.specs.declared.limit.TheConstants.{WORLD};
 ghost use Rattle.lattice_core.specs.declared.placement.Placement.{Placement};
 ghost use Rattle.lattice_core.specs.declared.ray.Dir.{Dir};
 ghost use Rattle.lattice_core.specs.declared.vector.V3.{V3};
+ghost use Rattle.lattice_core.specs.declared.view.View.{View};
+ghost use Rattle.lattice_core.specs.Views.{IsChecked};
 ghost use Rattle.name_core.specs.NameText.{IsName};
 ghost use Rattle.tree_forms.specs.declared.Op.TheVariants.{U};
 ghost use Rattle.region_attr.specs.Attrs.{is_setting};
@@ -16,6 +18,7 @@ ghost use Rattle.word_values.specs.declared.solid.SolidKind.{SolidKind};
 ghost use Rattle.command_set.specs.declared.command.Command.TheVariants as command;
 ghost use Rattle.command_set.specs.declared.command.Edit.TheVariants as edits;
 ghost use Rattle.command_set.specs.declared.command.Query.TheVariants as queries;
+ghost use Rattle.command_set.specs.declared.command.Shoot.TheVariants as shoots;
 ghost use Rattle.mged_words.specs.Commands.{command_of, entry_of, ray_of, solid_object};
 ghost use Rattle.mged_words.specs.OneLine.{AreMembers, AreNames, AreNumbers, IsAtom, Member, direction_word, kind_word, line_of, member_words, new_entry};
 ghost use Rattle.mged_words.specs.Order.{TellsFirst, TellsNames, names_of_line, wanted_of_line};
@@ -29,8 +32,8 @@ pub fn limit_laws()
 {}
 
 /// A line that has the form of a command is refused for the first of its names that is none, whatever its numbers, its
-/// ray and its solid are; else for the first of its numbers and values that is out of its range, whatever its ray and its
-/// solid are; else for these. Where nothing of it is refused it is read as a command.
+/// ray, its view and its solid are; else for the first of its numbers and values that is out of its range, whatever its
+/// ray, its view and its solid are; else for these. Where nothing of it is refused it is read as a command.
 pub fn order_laws()
     ensures order { (line : List ℕ) → TellsFirst (command_of line) (wanted_of_line line) }
     ensures names { (line : List ℕ) → TellsNames (command_of line) (names_of_line line) }
@@ -53,6 +56,8 @@ pub fn each_has_a_line()
 pub fn each_with_numbers_has_a_line()
     ensures make { (name : List ℕ) (kind : SolidKind) (words : List (List ℕ)) (numbers : List ℤ) (solid : Solid) → IsName name → length words ≡ number_count kind → AreNumbers solid_number words numbers → solid_made kind (map (λ (n : ℤ). Some n) numbers) ≡ Ok solid → command_of (line_of (codes "in") (name ∷ kind_word kind ∷ words)) ≡ command.Edit (edits.Make name (solid_object solid)) }
     ensures shot { (x y z : List ℕ) (origin : V3) (dir : Dir) (first : List ℕ) (rest : List (List ℕ)) → AreNumbers view_number (x ∷ y ∷ z ∷ []) (origin.x ∷ origin.y ∷ origin.z ∷ []) → IsWithin WORLD origin → AreNames (first ∷ rest) → command_of (line_of (codes "nirt") (x ∷ y ∷ z ∷ direction_word dir ∷ first ∷ rest)) ≡ command.Query (queries.Shot (ray_of origin dir) (first ∷ rest)) }
+    ensures picture { (file x y z cell w h : List ℕ) (view : View) (first : List ℕ) (rest : List (List ℕ)) → IsName file → AreNumbers view_number (x ∷ y ∷ z ∷ cell ∷ w ∷ h ∷ []) (view.corner.x ∷ view.corner.y ∷ view.corner.z ∷ view.cell ∷ pos view.w ∷ pos view.h ∷ []) → IsChecked view → AreNames (first ∷ rest) → command_of (line_of (codes "rt") (file ∷ direction_word view.dir ∷ x ∷ y ∷ z ∷ cell ∷ w ∷ h ∷ first ∷ rest)) ≡ command.Shoot (shoots.Picture file view (first ∷ rest)) }
+    ensures check { (x y z cell w h : List ℕ) (view : View) (first : List ℕ) (rest : List (List ℕ)) → AreNumbers view_number (x ∷ y ∷ z ∷ cell ∷ w ∷ h ∷ []) (view.corner.x ∷ view.corner.y ∷ view.corner.z ∷ view.cell ∷ pos view.w ∷ pos view.h ∷ []) → IsChecked view → AreNames (first ∷ rest) → command_of (line_of (codes "rtcheck") (direction_word view.dir ∷ x ∷ y ∷ z ∷ cell ∷ w ∷ h ∷ first ∷ rest)) ≡ command.Shoot (shoots.Check view (first ∷ rest)) }
     ensures place { (comb member : List ℕ) (words : List (List ℕ)) (placement : Placement) → IsName comb → IsName member → placement_read (map view_number words) ≡ Some placement → command_of (line_of (codes "place") (comb ∷ member ∷ words)) ≡ command.Edit (edits.Place comb member placement) }
     ensures set { (name key value : List ℕ) → IsName name → IsTrue (is_setting key value) → IsAtom value → command_of (line_of (codes "cattr") (name ∷ key ∷ value ∷ [])) ≡ command.Edit (edits.Set name (record { key = key; value = value })) }
 {}

@@ -18,6 +18,7 @@ mod session;
 mod setting;
 mod shot;
 mod title;
+mod views;
 
 pub use command::ScriptCommand;
 pub use laws::{each_has_a_line, each_with_numbers_has_a_line, limit_laws, order_laws};

@@ -24,6 +24,7 @@ use crate::put::put_command;
 use crate::setting::cattr_command;
 use crate::shot::nirt_command;
 use crate::title::title_command;
+use crate::views::{rt_command, rtcheck_command};
 use command_set::{Command, Refusal};
 use item_list::Items;
 use memory_core::Memory;
@@ -41,6 +42,10 @@ fn atom_command(alloc: Global, word: &[u8], atoms: &[&[u8]]) -> Result<Command, 
         Ok(in_command(alloc, atoms))
     } else if word == b"nirt".as_slice() {
         nirt_command(alloc, atoms)
+    } else if word == b"rt".as_slice() {
+        rt_command(alloc, atoms)
+    } else if word == b"rtcheck".as_slice() {
+        rtcheck_command(alloc, atoms)
     } else if word == b"r".as_slice() {
         r_command(alloc, atoms)
     } else if word == b"g".as_slice() {

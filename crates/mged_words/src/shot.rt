@@ -12,7 +12,7 @@ use lattice_core::{Dir, Ray};
 use std::alloc::Global;
 use word_values::{VIEW_NUMBER, vector_at};
 
-fn direction(word: &[u8]) -> Option<Dir>
+pub(crate) fn direction(word: &[u8]) -> Option<Dir>
     ensures { result ≡ commands.direction_of word.now }
 {
     match word {

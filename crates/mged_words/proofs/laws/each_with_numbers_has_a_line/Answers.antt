@@ -1,4 +1,4 @@
-use Rattle.mged_words.proofs.NumberLines.{in_line, nirt_line, place_line, cattr_line}
+use Rattle.mged_words.proofs.NumberLines.{in_line, nirt_line, rt_line, rtcheck_line, place_line, cattr_line}
 use Rattle.mged_words.proofs.laws.each_with_numbers_has_a_line.Goals as goal
 
 pub returns-clause-make : goal.returns-clause-make
@@ -6,6 +6,12 @@ returns-clause-make c = in_line
 
 pub returns-clause-shot : goal.returns-clause-shot
 returns-clause-shot c = nirt_line
+
+pub returns-clause-picture : goal.returns-clause-picture
+returns-clause-picture c = rt_line
+
+pub returns-clause-check : goal.returns-clause-check
+returns-clause-check c = rtcheck_line
 
 pub returns-clause-place : goal.returns-clause-place
 returns-clause-place c = place_line

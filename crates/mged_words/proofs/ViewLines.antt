@@ -1,0 +1,268 @@
+-- The numbers of a view, and the view that they make.
+use Rattle.std.proofs.Common.{All, ◌≡◌, ◌<◌, ◌≤◌, ◌+◌, ◌-◌, ◌++◌, ◌∷◌, [], ◌∙◌, ℕ, ℤ, pos, List, length, get_or, drop, take, map, Option, Some, None, Result, Ok, Err, arith, ap, sym, refl, subst, IfErr, IsOk}
+use Rattle.std.specs.Option.{option_map}
+use Rattle.std.specs.Int.RustNames.{unsigned_abs}
+use Rattle.std.specs.Borrow.{Bor}
+use Rattle.std.specs.Result.{IsErr, IsErrAnd}
+use Rattle.std.proofs.lemmas.Int.{ints}
+use Rattle.lattice_core.specs.declared.ray.Dir.{Dir}
+use Rattle.lattice_core.specs.declared.view.View as views
+use Rattle.lattice_core.specs.declared.view.ViewFault.{ViewFault}
+use Rattle.lattice_core.specs.declared.limit.TheConstants.{VIEW_NUMBER}
+use Rattle.lattice_core.specs.Limits.{IsAtMost, IsWithin}
+use Rattle.lattice_core.specs.Views.{IsChecked, answer_of, view_fault}
+use Rattle.lattice_core.proofs.Viewing.{checked_is, first_fault_is}
+use Rattle.command_set.specs.Lawful.{view_or_fault}
+use Rattle.command_set.specs.declared.command.Command.{Command}
+use Rattle.command_set.specs.declared.command.Command.TheVariants.{Bad, Shoot}
+use Rattle.command_set.specs.declared.command.Shoot.TheVariants.{Picture, Check}
+use Rattle.command_set.specs.declared.refusal.Refusal.{Refusal}
+use Rattle.command_set.specs.declared.refusal.Refusal.TheVariants.{Syntax, Number, View}
+use Rattle.word_values.specs.Atoms.{view_number}
+use Rattle.word_values.specs.Solids.{vector_at}
+use Rattle.mged_words.specs.Commands.{unless_refused, name_fault, names_fault, numbers_fault, size_number, view_of, view_refusal, direction_of, picture_command, check_command, rt_command, rtcheck_command}
+use Rattle.mged_words.specs.Readings.{or_refused, six_numbers, view_read, view_unless_fault}
+
+-- a view without a fault, or its fault as a refusal
+pub seen : (view v : views.View) (found : Option ViewFault) → Ok v ≡ view_or_fault view found → Ok v ≡ or_refused (option_map View found ∷ []) view
+seen view v None e = cc
+seen view v (Some fault) e = absurd cc
+
+pub unseen : (view : views.View) (fault : ViewFault) (found : Option ViewFault) → Err fault ≡ view_or_fault view found → Err (View fault) ≡ or_refused (option_map View found ∷ []) view
+unseen view fault None e = absurd cc
+unseen view fault (Some other) e = cc
+
+-- a refusal that is passed on
+pub err_told : {T : Type 0} {G : Refusal → Type 0} (r : Result T Refusal) (refusal : Refusal) (P : Refusal → Type 0) → IsErr r × IsErrAnd r G → ((e : Refusal) → G e → e ≡ refusal) → P refusal → IfErr r P
+err_told {T} {G} (Ok v) refusal P h is p = absurd h.1
+err_told {T} {G} (Err e) refusal P h is p = subst P (sym (is e h.1)) p
+
+pub err_same : {T : Type 0} {G : Refusal → Type 0} (r x : Result T Refusal) (refusal : Refusal) → IsErr r × IsErrAnd r G → ((e : Refusal) → G e → e ≡ refusal) → Err refusal ≡ x → r ≡ x
+err_same {T} {G} (Ok v) x refusal h is same = absurd h.1
+err_same {T} {G} (Err e) x refusal h is same = ap (λ (f : Refusal). let made : Result T Refusal = Err f in made) (is e h.1) ∙ same
+
+-- a third size that is none
+pub third_bad : (atoms : List (Bor (List ℕ))) (word : ℕ) (d : Bor (List ℕ)) (cell w : ℕ) (refusal : Refusal) → length atoms ≡ 3 → size_number (get_or atoms 0 d).now ≡ Some (pos cell) → size_number (get_or atoms 1 d).now ≡ Some (pos w)
+    → size_number (get_or atoms 2 d).now ≡ None → refusal ≡ Number (word + 2) → numbers_fault word 1 (map size_number (map (λ (a : Bor (List ℕ)). a.now) atoms)) ≡ Some refusal
+third_bad (a ∷ b ∷ c ∷ []) word d cell w refusal n h k l is =
+    ap (λ (o : Option ℤ). numbers_fault word 1 (o ∷ size_number b.now ∷ size_number c.now ∷ [])) h
+    ∙ ap (λ (o : Option ℤ). numbers_fault (word + 1) 1 (o ∷ size_number c.now ∷ [])) k
+    ∙ ap (λ (o : Option ℤ). numbers_fault (word + 1 + 1) 1 (o ∷ [])) l
+    ∙ (let sum : word + 1 + 1 ≡ word + 2 = omega arith in ap (λ (m : ℕ). Some (Number m)) sum)
+    ∙ ap (λ (r : Refusal). Some r) (sym is)
+third_bad [] word d cell w refusal n h k l is = absurd (omega (arith, n))
+third_bad (a ∷ []) word d cell w refusal n h k l is = absurd (omega (arith, n))
+third_bad (a ∷ b ∷ []) word d cell w refusal n h k l is = absurd (omega (arith, n))
+third_bad (a ∷ b ∷ c ∷ e ∷ more) word d cell w refusal n h k l is = absurd (omega (arith, n))
+
+-- ---- six numbers
+
+fault_first : (word : ℕ) (xs ys : List (Option ℤ)) (refusal : Refusal) → numbers_fault word 1 xs ≡ Some refusal → numbers_fault word 1 (xs ++ ys) ≡ Some refusal
+fault_first word [] ys refusal h = absurd cc
+fault_first word (None ∷ xs) ys refusal h = h
+fault_first word (Some n ∷ xs) ys refusal h = fault_first (word + 1) xs ys refusal h
+
+refused_by : (fault : Option Refusal) (refusal : Refusal) (rest : List (Option Refusal)) (view : views.View) → fault ≡ Some refusal → Err refusal ≡ or_refused (fault ∷ rest) view
+refused_by fault refusal rest view h = sym (ap (λ (o : Option Refusal). or_refused (o ∷ rest) view) h)
+
+six : (atoms : List (Bor (List ℕ))) → length atoms ≡ 6
+    → six_numbers (map (λ (a : Bor (List ℕ)). a.now) atoms) ≡ map view_number (map (λ (a : Bor (List ℕ)). a.now) (take 3 atoms)) ++ map size_number (map (λ (a : Bor (List ℕ)). a.now) (take (length atoms - 3) (drop 3 atoms)))
+six (a ∷ b ∷ c ∷ d ∷ e ∷ f ∷ []) n = refl
+six [] n = absurd (omega (arith, n))
+six (a ∷ []) n = absurd (omega (arith, n))
+six (a ∷ b ∷ []) n = absurd (omega (arith, n))
+six (a ∷ b ∷ c ∷ []) n = absurd (omega (arith, n))
+six (a ∷ b ∷ c ∷ d ∷ []) n = absurd (omega (arith, n))
+six (a ∷ b ∷ c ∷ d ∷ e ∷ []) n = absurd (omega (arith, n))
+six (a ∷ b ∷ c ∷ d ∷ e ∷ f ∷ g ∷ more) n = absurd (omega (arith, n))
+
+bad_numbers : (word : ℕ) (dir : Dir) (numbers : List (Option ℤ)) (refusal : Refusal) → numbers_fault word 1 numbers ≡ Some refusal → Err refusal ≡ view_read word dir numbers
+bad_numbers word dir numbers refusal h = refused_by (numbers_fault word 1 numbers) refusal _ _ h
+
+pub bad_corner : (word : ℕ) (dir : Dir) (atoms : List (Bor (List ℕ))) (refusal : Refusal) → length atoms ≡ 6 → numbers_fault word 1 (map view_number (map (λ (a : Bor (List ℕ)). a.now) (take 3 atoms))) ≡ Some refusal
+    → Err refusal ≡ view_read word dir (six_numbers (map (λ (a : Bor (List ℕ)). a.now) atoms))
+bad_corner word dir atoms refusal n h =
+    let xs : List (Option ℤ) = map view_number (map (λ (a : Bor (List ℕ)). a.now) (take 3 atoms)) in
+    let ys : List (Option ℤ) = map size_number (map (λ (a : Bor (List ℕ)). a.now) (take (length atoms - 3) (drop 3 atoms))) in
+    bad_numbers word dir (xs ++ ys) refusal (fault_first word xs ys refusal h) ∙ sym (ap (view_read word dir) (six atoms n))
+
+sizes_fault : (word : ℕ) (corner : List ℤ) (ys : List (Option ℤ)) (refusal : Refusal) → length corner ≡ 3 → numbers_fault (word + 3) 1 ys ≡ Some refusal → numbers_fault word 1 (map (λ (n : ℤ). Some n) corner ++ ys) ≡ Some refusal
+sizes_fault word (x ∷ y ∷ z ∷ []) ys refusal n h = let sum : word + 1 + 1 + 1 ≡ word + 3 = omega arith in ap (λ (m : ℕ). numbers_fault m 1 ys) sum ∙ h
+sizes_fault word [] ys refusal n h = absurd (omega (arith, n))
+sizes_fault word (x ∷ []) ys refusal n h = absurd (omega (arith, n))
+sizes_fault word (x ∷ y ∷ []) ys refusal n h = absurd (omega (arith, n))
+sizes_fault word (x ∷ y ∷ z ∷ v ∷ more) ys refusal n h = absurd (omega (arith, n))
+
+pub bad_sizes : (word : ℕ) (dir : Dir) (atoms : List (Bor (List ℕ))) (corner : List ℤ) (refusal : Refusal) → length atoms ≡ 6 → length corner ≡ 3
+    → map view_number (map (λ (a : Bor (List ℕ)). a.now) (take 3 atoms)) ≡ map (λ (n : ℤ). Some n) corner
+    → numbers_fault (word + 3) 1 (map size_number (map (λ (a : Bor (List ℕ)). a.now) (take (length atoms - 3) (drop 3 atoms)))) ≡ Some refusal
+    → Err refusal ≡ view_read word dir (six_numbers (map (λ (a : Bor (List ℕ)). a.now) atoms))
+bad_sizes word dir atoms corner refusal n m read h =
+    let ys : List (Option ℤ) = map size_number (map (λ (a : Bor (List ℕ)). a.now) (take (length atoms - 3) (drop 3 atoms))) in
+    bad_numbers word dir (map (λ (k : ℤ). Some k) corner ++ ys) refusal (sizes_fault word corner ys refusal m h)
+    ∙ sym (ap (view_read word dir) (six atoms n) ∙ ap (λ (xs : List (Option ℤ)). view_read word dir (xs ++ ys)) read)
+
+whole_view : (word : ℕ) (dir : Dir) (corner : List ℤ) (cell w h : ℕ) → length corner ≡ 3
+    → view_unless_fault (record { corner = vector_at (map (λ (n : ℤ). Some n) corner) 0; dir = dir; cell = pos cell; w = w; h = h })
+    ≡ view_read word dir (map (λ (n : ℤ). Some n) corner ++ Some (pos cell) ∷ Some (pos w) ∷ Some (pos h) ∷ [])
+whole_view word dir (x ∷ y ∷ z ∷ []) cell w h n = refl
+whole_view word dir [] cell w h n = absurd (omega (arith, n))
+whole_view word dir (x ∷ []) cell w h n = absurd (omega (arith, n))
+whole_view word dir (x ∷ y ∷ []) cell w h n = absurd (omega (arith, n))
+whole_view word dir (x ∷ y ∷ z ∷ v ∷ more) cell w h n = absurd (omega (arith, n))
+
+pub good_view : (word : ℕ) (dir : Dir) (atoms : List (Bor (List ℕ))) (corner : List ℤ) (cell w h : ℕ) → length atoms ≡ 6 → length corner ≡ 3
+    → map view_number (map (λ (a : Bor (List ℕ)). a.now) (take 3 atoms)) ≡ map (λ (n : ℤ). Some n) corner
+    → map size_number (map (λ (a : Bor (List ℕ)). a.now) (take (length atoms - 3) (drop 3 atoms))) ≡ Some (pos cell) ∷ Some (pos w) ∷ Some (pos h) ∷ []
+    → view_unless_fault (record { corner = vector_at (map (λ (n : ℤ). Some n) corner) 0; dir = dir; cell = pos cell; w = w; h = h }) ≡ view_read word dir (six_numbers (map (λ (a : Bor (List ℕ)). a.now) atoms))
+good_view word dir atoms corner cell w h n m read sizes =
+    let ys : List (Option ℤ) = map size_number (map (λ (a : Bor (List ℕ)). a.now) (take (length atoms - 3) (drop 3 atoms))) in
+    whole_view word dir corner cell w h m
+    ∙ sym (ap (view_read word dir) (six atoms n) ∙ ap (λ (xs : List (Option ℤ)). view_read word dir (xs ++ ys)) read ∙ ap (λ (zs : List (Option ℤ)). view_read word dir (map (λ (k : ℤ). Some k) corner ++ zs)) sizes)
+
+near : (n : ℤ) → unsigned_abs n ≤ 999999999 → IsAtMost VIEW_NUMBER n
+near n h = (omega (arith, ints, h), omega (arith, ints, h))
+
+pub corner_near : (corner : List ℤ) → length corner ≡ 3 → All (λ (n : ℤ). unsigned_abs n ≤ 999999999) corner → IsWithin VIEW_NUMBER (vector_at (map (λ (n : ℤ). Some n) corner) 0)
+corner_near (x ∷ y ∷ z ∷ []) n all = record { x = near x (all 0 (pos 0) (omega arith)); y = near y (all 1 (pos 0) (omega arith)); z = near z (all 2 (pos 0) (omega arith)) }
+corner_near [] n all = absurd (omega (arith, n))
+corner_near (x ∷ []) n all = absurd (omega (arith, n))
+corner_near (x ∷ y ∷ []) n all = absurd (omega (arith, n))
+corner_near (x ∷ y ∷ z ∷ v ∷ more) n all = absurd (omega (arith, n))
+
+-- ---- commands
+
+-- what a view is refused for, its command is refused for
+or_bad : (faults : List (Option Refusal)) (view : views.View) (refusal : Refusal) (command : Command) → or_refused faults view ≡ Err refusal → Bad refusal ≡ unless_refused faults command
+or_bad [] view refusal command h = absurd cc
+or_bad (Some other ∷ rest) view refusal command h = cc
+or_bad (None ∷ rest) view refusal command h = or_bad rest view refusal command h
+
+or_good : (faults : List (Option Refusal)) (view made : views.View) (of : views.View → Command) → or_refused faults view ≡ Ok made → of made ≡ unless_refused faults (of view)
+or_good [] view made of h = let same : made ≡ view = cc in ap of same
+or_good (Some other ∷ rest) view made of h = absurd cc
+or_good (None ∷ rest) view made of h = or_good rest view made of h
+
+past : (fault : Option Refusal) (faults : List (Option Refusal)) (command : Command) → fault ≡ None → unless_refused faults command ≡ unless_refused (fault ∷ faults) command
+past fault faults command h = sym (ap (λ (o : Option Refusal). unless_refused (o ∷ faults) command) h)
+
+at : (fault : Option Refusal) (faults : List (Option Refusal)) (refusal : Refusal) (command : Command) → fault ≡ Some refusal → Bad refusal ≡ unless_refused (fault ∷ faults) command
+at fault faults refusal command h = sym (ap (λ (o : Option Refusal). unless_refused (o ∷ faults) command) h)
+
+-- the faults of a view's numbers, and then the view's
+abbrev view_faults : ℕ → Dir → List (Option ℤ) → List (Option Refusal)
+view_faults word dir numbers = numbers_fault word 1 numbers ∷ view_refusal (view_of dir numbers) ∷ []
+
+abbrev pictured : List ℕ → List (List ℕ) → views.View → Command
+pictured file names view = Shoot (Picture file view names)
+
+abbrev looked : List (List ℕ) → views.View → Command
+looked names view = Shoot (Check view names)
+
+pub picture_file : (file : List ℕ) (dir : Dir) (numbers : List (Option ℤ)) (names : List (List ℕ)) (refusal : Refusal) → name_fault 2 file ≡ Some refusal → Bad refusal ≡ picture_command file (Some dir) numbers names
+picture_file file dir numbers names refusal h = at (name_fault 2 file) (names_fault 10 1 names ∷ view_faults 4 dir numbers) refusal (pictured file names (view_of dir numbers)) h
+
+pub picture_names : (file : List ℕ) (dir : Dir) (numbers : List (Option ℤ)) (names : List (List ℕ)) (refusal : Refusal) → name_fault 2 file ≡ None → names_fault 10 1 names ≡ Some refusal → Bad refusal ≡ picture_command file (Some dir) numbers names
+picture_names file dir numbers names refusal fine h =
+    at (names_fault 10 1 names) (view_faults 4 dir numbers) refusal (pictured file names (view_of dir numbers)) h
+    ∙ past (name_fault 2 file) (names_fault 10 1 names ∷ view_faults 4 dir numbers) (pictured file names (view_of dir numbers)) fine
+
+past_names : (file : List ℕ) (dir : Dir) (numbers : List (Option ℤ)) (names : List (List ℕ)) → name_fault 2 file ≡ None → names_fault 10 1 names ≡ None
+    → unless_refused (view_faults 4 dir numbers) (pictured file names (view_of dir numbers)) ≡ picture_command file (Some dir) numbers names
+past_names file dir numbers names fine k =
+    past (names_fault 10 1 names) (view_faults 4 dir numbers) (pictured file names (view_of dir numbers)) k
+    ∙ past (name_fault 2 file) (names_fault 10 1 names ∷ view_faults 4 dir numbers) (pictured file names (view_of dir numbers)) fine
+
+pub picture_view : (file : List ℕ) (dir : Dir) (numbers : List (Option ℤ)) (names : List (List ℕ)) (refusal : Refusal) → name_fault 2 file ≡ None → names_fault 10 1 names ≡ None → view_read 4 dir numbers ≡ Err refusal
+    → Bad refusal ≡ picture_command file (Some dir) numbers names
+picture_view file dir numbers names refusal fine k h =
+    or_bad (view_faults 4 dir numbers) (view_of dir numbers) refusal (pictured file names (view_of dir numbers)) h ∙ past_names file dir numbers names fine k
+
+pub picture_good : (file : List ℕ) (dir : Dir) (numbers : List (Option ℤ)) (names : List (List ℕ)) (view : views.View) → name_fault 2 file ≡ None → names_fault 10 1 names ≡ None → view_read 4 dir numbers ≡ Ok view
+    → Shoot (Picture file view names) ≡ picture_command file (Some dir) numbers names
+picture_good file dir numbers names view fine k h = or_good (view_faults 4 dir numbers) (view_of dir numbers) view (pictured file names) h ∙ past_names file dir numbers names fine k
+
+pub check_names : (dir : Dir) (numbers : List (Option ℤ)) (names : List (List ℕ)) (refusal : Refusal) → names_fault 9 1 names ≡ Some refusal → Bad refusal ≡ check_command (Some dir) numbers names
+check_names dir numbers names refusal h = at (names_fault 9 1 names) (view_faults 3 dir numbers) refusal (looked names (view_of dir numbers)) h
+
+pub check_view : (dir : Dir) (numbers : List (Option ℤ)) (names : List (List ℕ)) (refusal : Refusal) → names_fault 9 1 names ≡ None → view_read 3 dir numbers ≡ Err refusal → Bad refusal ≡ check_command (Some dir) numbers names
+check_view dir numbers names refusal k h =
+    or_bad (view_faults 3 dir numbers) (view_of dir numbers) refusal (looked names (view_of dir numbers)) h
+    ∙ past (names_fault 9 1 names) (view_faults 3 dir numbers) (looked names (view_of dir numbers)) k
+
+pub check_good : (dir : Dir) (numbers : List (Option ℤ)) (names : List (List ℕ)) (view : views.View) → names_fault 9 1 names ≡ None → view_read 3 dir numbers ≡ Ok view → Shoot (Check view names) ≡ check_command (Some dir) numbers names
+check_good dir numbers names view k h =
+    or_good (view_faults 3 dir numbers) (view_of dir numbers) view (looked names) h
+    ∙ past (names_fault 9 1 names) (view_faults 3 dir numbers) (looked names (view_of dir numbers)) k
+
+-- ---- words behind `rt` and `rtcheck`
+
+pub rt_short : (atoms : List (Bor (List ℕ))) → length atoms < 9 → Bad Syntax ≡ rt_command (map (λ (a : Bor (List ℕ)). a.now) atoms)
+rt_short [] lt = refl
+rt_short (a ∷ []) lt = refl
+rt_short (a ∷ b ∷ []) lt = refl
+rt_short (a ∷ b ∷ c ∷ []) lt = refl
+rt_short (a ∷ b ∷ c ∷ d ∷ []) lt = refl
+rt_short (a ∷ b ∷ c ∷ d ∷ e ∷ []) lt = refl
+rt_short (a ∷ b ∷ c ∷ d ∷ e ∷ f ∷ []) lt = refl
+rt_short (a ∷ b ∷ c ∷ d ∷ e ∷ f ∷ g ∷ []) lt = refl
+rt_short (a ∷ b ∷ c ∷ d ∷ e ∷ f ∷ g ∷ h ∷ []) lt = refl
+rt_short (a ∷ b ∷ c ∷ d ∷ e ∷ f ∷ g ∷ h ∷ i ∷ rest) lt = absurd (omega (arith, lt))
+
+pub rt_long : (atoms : List (Bor (List ℕ))) (d : Bor (List ℕ)) → 9 ≤ length atoms
+    → rt_command (map (λ (a : Bor (List ℕ)). a.now) atoms)
+    ≡ picture_command (get_or atoms 0 d).now (direction_of (get_or atoms 1 d).now) (six_numbers (map (λ (a : Bor (List ℕ)). a.now) (take 6 (drop 2 atoms)))) (map (λ (a : Bor (List ℕ)). a.now) (drop 8 atoms))
+rt_long (a ∷ b ∷ c ∷ d ∷ e ∷ f ∷ g ∷ h ∷ i ∷ rest) x le = refl
+rt_long [] x le = absurd (omega (arith, le))
+rt_long (a ∷ []) x le = absurd (omega (arith, le))
+rt_long (a ∷ b ∷ []) x le = absurd (omega (arith, le))
+rt_long (a ∷ b ∷ c ∷ []) x le = absurd (omega (arith, le))
+rt_long (a ∷ b ∷ c ∷ d ∷ []) x le = absurd (omega (arith, le))
+rt_long (a ∷ b ∷ c ∷ d ∷ e ∷ []) x le = absurd (omega (arith, le))
+rt_long (a ∷ b ∷ c ∷ d ∷ e ∷ f ∷ []) x le = absurd (omega (arith, le))
+rt_long (a ∷ b ∷ c ∷ d ∷ e ∷ f ∷ g ∷ []) x le = absurd (omega (arith, le))
+rt_long (a ∷ b ∷ c ∷ d ∷ e ∷ f ∷ g ∷ h ∷ []) x le = absurd (omega (arith, le))
+
+pub rtcheck_short : (atoms : List (Bor (List ℕ))) → length atoms < 8 → Bad Syntax ≡ rtcheck_command (map (λ (a : Bor (List ℕ)). a.now) atoms)
+rtcheck_short [] lt = refl
+rtcheck_short (a ∷ []) lt = refl
+rtcheck_short (a ∷ b ∷ []) lt = refl
+rtcheck_short (a ∷ b ∷ c ∷ []) lt = refl
+rtcheck_short (a ∷ b ∷ c ∷ d ∷ []) lt = refl
+rtcheck_short (a ∷ b ∷ c ∷ d ∷ e ∷ []) lt = refl
+rtcheck_short (a ∷ b ∷ c ∷ d ∷ e ∷ f ∷ []) lt = refl
+rtcheck_short (a ∷ b ∷ c ∷ d ∷ e ∷ f ∷ g ∷ []) lt = refl
+rtcheck_short (a ∷ b ∷ c ∷ d ∷ e ∷ f ∷ g ∷ h ∷ rest) lt = absurd (omega (arith, lt))
+
+pub rtcheck_long : (atoms : List (Bor (List ℕ))) (d : Bor (List ℕ)) → 8 ≤ length atoms
+    → rtcheck_command (map (λ (a : Bor (List ℕ)). a.now) atoms)
+    ≡ check_command (direction_of (get_or atoms 0 d).now) (six_numbers (map (λ (a : Bor (List ℕ)). a.now) (take 6 (drop 1 atoms)))) (map (λ (a : Bor (List ℕ)). a.now) (drop 7 atoms))
+rtcheck_long (a ∷ b ∷ c ∷ d ∷ e ∷ f ∷ g ∷ h ∷ rest) x le = refl
+rtcheck_long [] x le = absurd (omega (arith, le))
+rtcheck_long (a ∷ []) x le = absurd (omega (arith, le))
+rtcheck_long (a ∷ b ∷ []) x le = absurd (omega (arith, le))
+rtcheck_long (a ∷ b ∷ c ∷ []) x le = absurd (omega (arith, le))
+rtcheck_long (a ∷ b ∷ c ∷ d ∷ []) x le = absurd (omega (arith, le))
+rtcheck_long (a ∷ b ∷ c ∷ d ∷ e ∷ []) x le = absurd (omega (arith, le))
+rtcheck_long (a ∷ b ∷ c ∷ d ∷ e ∷ f ∷ []) x le = absurd (omega (arith, le))
+rtcheck_long (a ∷ b ∷ c ∷ d ∷ e ∷ f ∷ g ∷ []) x le = absurd (omega (arith, le))
+
+-- ---- a view that was checked is one without a fault
+
+ok_none : (found : Option ViewFault) → IsOk (answer_of found) → found ≡ None
+ok_none None h = refl
+ok_none (Some fault) h = absurd cc
+
+none_found : (found : Option ViewFault) → option_map View found ≡ None → found ≡ None
+none_found None h = refl
+none_found (Some fault) h = absurd cc
+
+pub fine_view : (view : views.View) → IsChecked view → view_refusal view ≡ None
+unfolding view_refusal
+fine_view view h = ap (option_map View) (ok_none (view_fault view) ((checked_is view (answer_of (view_fault view)) (first_fault_is view)).1 h))
+
+pub seen_whole : (view : views.View) → view_refusal view ≡ None → IsChecked view
+unfolding view_refusal
+seen_whole view h =
+    let ok : IsOk (answer_of (view_fault view)) = subst (λ (o : Option ViewFault). IsOk (answer_of o)) (sym (none_found (view_fault view) h)) refl in
+    (checked_is view (answer_of (view_fault view)) (first_fault_is view)).0 ok

@@ -1,0 +1,144 @@
+//! Reads the commands that shoot each ray of a view.
+ghost use Rattle.std.specs.Prelude.{◌≡◌, ◌+◌, ◌<◌, ◌≤◌, ◌^◌, ◌∷◌, [], None, Some, length, map, pos, IfErr, IfOk};
+ghost use Rattle.lattice_core.specs.declared.limit.TheConstants.{VIEW_NUMBER as VIEW_LIMIT};
+ghost use Rattle.lattice_core.specs.Limits.{IsAtMost, IsWithin};
+ghost use Rattle.mged_words.specs.Commands as commands;
+ghost use Rattle.mged_words.specs.Readings.{IsRead, six_numbers, view_read, view_unless_fault};
+
+use crate::atoms::read_numbers;
+use crate::fault::LineFault;
+use crate::names::{read_name, read_names};
+use crate::shot::direction;
+use command_set::{CheckedView, Command, NameList, Refusal, Shoot};
+use lattice_core::{Dir, View};
+use std::alloc::Global;
+use word_values::{VIEW_NUMBER, number_to, vector_at};
+
+/// The cell of a view in millimetres, and how many columns and rows it has.
+#[derive(Clone, Copy)]
+struct Sizes {
+    cell: u32,
+    w: u32,
+    h: u32,
+}
+
+/// Reads one of the sizes of a view, which the word of a number is.
+fn read_size(atom: &[u8], word: u32) -> Result<u32, Refusal>
+    ensures size { IfOk result (λ size. commands.size_number atom.now ≡ Some (pos size)) }
+    ensures within { IfOk result (λ size. size ≤ 999999999) }
+    ensures none { IfErr result (λ _. commands.size_number atom.now ≡ None) }
+    ensures fault { IfErr result (λ refusal. refusal ≡ Refusal.Number word) }
+{
+    match number_to(atom, VIEW_NUMBER) {
+        Some(size) if 0 <= size => Ok(size as u32),
+        _ => Err(Refusal::Number(word)),
+    }
+}
+
+/// Reads the sizes of a view. The words are counted from `word`.
+fn read_sizes(atoms: &[&[u8]], word: u32) -> Result<Sizes, Refusal>
+    requires three { length atoms.now ≡ 3 }
+    requires few { word + 3 < 2 ^ 32 }
+    ensures sizes { IfOk result (λ sizes. map commands.size_number (map (λ a. a.now) atoms.now) ≡ Some (pos sizes.cell) ∷ Some (pos sizes.w) ∷ Some (pos sizes.h) ∷ []) }
+    ensures within { IfOk result (λ sizes. sizes.cell ≤ 999999999) }
+    ensures fault { IfErr result (λ refusal. commands.numbers_fault word 1 (map commands.size_number (map (λ a. a.now) atoms.now)) ≡ Some refusal) }
+{
+    let cell = read_size(atoms[0], word)?;
+    let w = read_size(atoms[1], word + 1)?;
+    let h = read_size(atoms[2], word + 2)?;
+    Ok(Sizes { cell, w, h })
+}
+
+/// The view, or why it is refused.
+fn checked(view: View) -> Result<CheckedView, Refusal>
+    requires corner { IsWithin VIEW_LIMIT view.corner }
+    requires cell { IsAtMost VIEW_LIMIT view.cell }
+    ensures { result ≡ view_unless_fault view }
+{
+    match CheckedView::of_view(view) {
+        Ok(view) => Ok(view),
+        Err(fault) => Err(Refusal::View(fault)),
+    }
+}
+
+/// Reads `X Y Z CELL W H`, the numbers of a view. The words are counted from `word`.
+fn read_view(dir: Dir, atoms: &[&[u8]], word: u32) -> Result<CheckedView, Refusal>
+    requires six { length atoms.now ≡ 6 }
+    requires few { word + 6 < 2 ^ 32 }
+    ensures { result ≡ view_read word dir (six_numbers (map (λ a. a.now) atoms.now)) }
+{
+    let mut corner = [0; 3];
+    if let Some(refusal) = read_numbers(&atoms[..3], word, VIEW_NUMBER, &mut corner) {
+        return Err(refusal);
+    }
+    let sizes = read_sizes(&atoms[3..], word + 3)?;
+    checked(View {
+        corner: vector_at(&corner, 0),
+        dir,
+        cell: i64::from(sizes.cell),
+        w: sizes.w,
+        h: sizes.h,
+    })
+}
+
+/// Reads `rt FILE DIR X Y Z CELL W H NAME ..`, with the direction read.
+fn picture_command(
+    alloc: Global,
+    file: &[u8],
+    dir: Dir,
+    numbers: &[&[u8]],
+    names: &[&[u8]],
+) -> Result<Command, LineFault>
+    requires six { length numbers.now ≡ 6 }
+    requires few { length names.now < 2 ^ 31 }
+    ensures { IsRead result (commands.picture_command file.now (Some dir) (six_numbers (map (λ a. a.now) numbers.now)) (map (λ a. a.now) names.now)) }
+{
+    let file = read_name(file, 2)?;
+    let names = NameList::of_vec(read_names(alloc, names, 10)?);
+    let view = read_view(dir, numbers, 4)?;
+    Ok(Command::Shoot(Shoot::Picture { file, view, names }))
+}
+
+/// Reads `rtcheck DIR X Y Z CELL W H NAME ..`, with the direction read.
+fn check_command(
+    alloc: Global,
+    dir: Dir,
+    numbers: &[&[u8]],
+    names: &[&[u8]],
+) -> Result<Command, LineFault>
+    requires six { length numbers.now ≡ 6 }
+    requires few { length names.now < 2 ^ 31 }
+    ensures { IsRead result (commands.check_command (Some dir) (six_numbers (map (λ a. a.now) numbers.now)) (map (λ a. a.now) names.now)) }
+{
+    let names = NameList::of_vec(read_names(alloc, names, 9)?);
+    let view = read_view(dir, numbers, 3)?;
+    Ok(Command::Shoot(Shoot::Check { view, names }))
+}
+
+/// Reads what follows `rt`: `FILE DIR X Y Z CELL W H NAME ..`.
+pub(crate) fn rt_command(alloc: Global, atoms: &[&[u8]]) -> Result<Command, LineFault>
+    requires { length atoms.now < 2 ^ 31 }
+    ensures { IsRead result (commands.rt_command (map (λ a. a.now) atoms.now)) }
+{
+    if atoms.len() < 9 {
+        return Err(LineFault::Refused(Refusal::Syntax));
+    }
+    match direction(atoms[1]) {
+        Some(dir) => picture_command(alloc, atoms[0], dir, &atoms[2..8], &atoms[8..]),
+        None => Err(LineFault::Refused(Refusal::Syntax)),
+    }
+}
+
+/// Reads what follows `rtcheck`: `DIR X Y Z CELL W H NAME ..`.
+pub(crate) fn rtcheck_command(alloc: Global, atoms: &[&[u8]]) -> Result<Command, LineFault>
+    requires { length atoms.now < 2 ^ 31 }
+    ensures { IsRead result (commands.rtcheck_command (map (λ a. a.now) atoms.now)) }
+{
+    if atoms.len() < 8 {
+        return Err(LineFault::Refused(Refusal::Syntax));
+    }
+    match direction(atoms[0]) {
+        Some(dir) => check_command(alloc, dir, &atoms[1..7], &atoms[7..]),
+        None => Err(LineFault::Refused(Refusal::Syntax)),
+    }
+}

@@ -13,6 +13,7 @@ mod scripts;
 mod settling;
 mod shots;
 mod texts;
+mod tiles;
 mod trees;
 mod weaves;
 
@@ -45,6 +46,7 @@ impl Tables for Rays {
             b"sizes" => scenes::answer_scene(alloc, scenes::Told::Sizes, given, out),
             b"shoot" => shots::answer_ray(alloc, shots::Asked::Partitions, given, out),
             b"check" => shots::answer_ray(alloc, shots::Asked::Overlaps, given, out),
+            b"tile" => tiles::answer_tile(alloc, given, out),
             b"report" => reports::answer_report(alloc, given, out),
             b"compare" => comparing::answer_compare(alloc, given, out),
             _ => Err(CaseFault::Kind),

@@ -1,4 +1,5 @@
 pub mod LineLaws
 pub mod ShotLaws
+pub mod OverlapLaws
 pub mod LeafLaws
 pub mod PushLaws

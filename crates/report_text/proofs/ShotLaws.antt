@@ -23,7 +23,7 @@ sign_lacks : (plus : Bool) → Lacks 10 (sign_text plus)
 sign_lacks true = computed 10 (codes "+") refl
 sign_lacks false = computed 10 (codes "-") refl
 
-position_lacks : (place : Pos) → Lacks 10 (position_text place)
+pub position_lacks : (place : Pos) → Lacks 10 (position_text place)
 position_lacks (Frac p q) =
     either_lacks (int_eq q (pos 1)) _ _ (signed_lacks p)
     (lacks_append 10 (signed_decimal p ++ codes "/") (signed_decimal q) (lacks_append 10 (signed_decimal p) (codes "/") (signed_lacks p) (computed 10 (codes "/") refl)) (signed_lacks q))
@@ -33,11 +33,11 @@ position_lacks (Surd a plus k) =
     let number : Lacks 10 (signed_decimal a ++ sign_text plus ++ codes "sqrt(" ++ decimal k) = lacks_append 10 _ (decimal k) root (number_lacks k) in
     lacks_append 10 _ (codes ")") number (computed 10 (codes ")") refl)
 
-path_lacks : (path : List ℕ) → IsPathText path → Lacks 10 path
+pub path_lacks : (path : List ℕ) → IsPathText path → Lacks 10 path
 path_lacks [] h = tt
 path_lacks (b ∷ bs) h = (All-head (λ byte. byte ≢ 10) b bs h, path_lacks bs (All-tail (λ byte. byte ≢ 10) b bs h))
 
-after_blank : (text : List ℕ) → Lacks 10 text → Lacks 10 (codes " " ++ text)
+pub after_blank : (text : List ℕ) → Lacks 10 text → Lacks 10 (codes " " ++ text)
 after_blank text h = lacks_append 10 (codes " ") text (computed 10 (codes " ") refl) h
 
 -- the line of a part has no line feed, where the region's path has none

@@ -1,4 +1,4 @@
--- The lines of small directories and of single shots, proved by computation.
+-- The lines of small directories, of single shots and of overlaps, proved by computation.
 use Rattle.std.specs.Prelude.{◌≡◌, refl, ℕ, pos, negsuc, List, [], ◌∷◌, None, Some, true, false, codes}
 use Rattle.std.specs.Fmt.{digits}
 use Rattle.surd_order.specs.declared.position.Pos.{Pos}
@@ -17,6 +17,7 @@ use Rattle.directory.specs.Walks.{Entries}
 use Rattle.report_text.specs.Listings.{listings, written_lines}
 use Rattle.report_text.specs.Names.{names_lines}
 use Rattle.report_text.specs.Shots.{shot_lines}
+use Rattle.report_text.specs.Overlaps.{overlap_lines}
 
 no_lines : names_lines [] ≡ []
 no_lines = refl
@@ -53,6 +54,24 @@ module _ (body : RegionBody) (hit : Hit) where
       ≡ codes "5 /b#1 0 5" ∷ codes "2 /a 5 10+sqrt(23)" ∷ []
   unfolding digits
   two_lines = refl
+
+-- regions that overlap, whatever their bodies are
+module _ (body : RegionBody) where
+  abbrev two_regions : List Region
+  two_regions = region_at body 1 (codes "/a.r") ∷ region_at body 2 (codes "/b.r") ∷ []
+
+  no_overlaps : overlap_lines two_regions [] ≡ []
+  no_overlaps = refl
+
+  an_overlap : overlap_lines two_regions (record { one = 1; two = 2; rays = 9; column = 1; row = 1; start = Frac (pos 10) (pos 1); end = Frac (pos 15) (pos 1) } ∷ []) ≡ codes "overlap 1 /a.r 2 /b.r rays 9 first 1 1 10 15" ∷ []
+  unfolding digits
+  an_overlap = refl
+
+  -- places are not those of the list where regions were left out of it
+  an_overlap_of_later_places : overlap_lines (region_at body 3 (codes "/c") ∷ region_at body 12 (codes "/d#2") ∷ [])
+      (record { one = 3; two = 12; rays = 4194304; column = 0; row = 7; start = Surd (pos 10) false 23; end = Frac (pos 27) (pos 2) } ∷ []) ≡ codes "overlap 3 /c 12 /d#2 rays 4194304 first 0 7 10-sqrt(23) 27/2" ∷ []
+  unfolding digits
+  an_overlap_of_later_places = refl
 
 -- whatever the placements are
 module _ (solid : AnySolid) (p : Placement) where

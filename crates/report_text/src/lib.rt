@@ -1,4 +1,4 @@
-//! The bodies of answers that list what the directory has, and what a ray meets.
+//! The bodies of answers that list what the directory has, what a ray meets, and what overlaps.
 #![tactic(auto)]
 
 mod fault;
@@ -6,12 +6,14 @@ mod leaves;
 mod lines;
 mod names;
 mod objects;
+mod overlaps;
 mod shots;
 mod trees;
 
 pub use fault::TextFault;
 pub use names::names_text;
 pub use objects::list_text;
+pub use overlaps::{overlap_laws, overlap_text};
 pub use shots::shot_text;
 pub use transcript::Body;
 pub use trees::tree_text;

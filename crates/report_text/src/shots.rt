@@ -1,41 +1,14 @@
-ghost use Rattle.std.specs.Prelude.{◌≡◌, ◌<◌, ◌++◌, ◌^◌, All, IfOk, OnOk, length, codes, decimal};
-ghost use Rattle.surd_order.specs.Text.{position_text};
+ghost use Rattle.std.specs.Prelude.{◌≡◌, ◌<◌, ◌^◌, All, IfOk, length};
 ghost use Rattle.transcript.specs.Lines.{Lacks};
 ghost use Rattle.report_text.specs.Shots.{part_line, shot_lines};
 ghost use Rattle.report_text.specs.Texts.{IsText};
 
 use crate::fault::TextFault;
-use crate::lines::push_line;
-use fixed_text::FixedText;
+use crate::lines::{push_line, push_number, push_position};
 use memory_core::Memory;
 use shot_core::{Lit, Scene, SceneRegion};
 use std::alloc::Global;
-use surd_order::{Pos, PosText};
 use transcript::Body;
-
-/// The digits of a place.
-type PlaceText = FixedText<16>;
-
-/// Puts the digits of a place at the end.
-fn push_place(line: &mut Vec<u8>, place: u32) -> Result<(), Memory>
-    ensures { OnOk result (line.new.items ≡ line.old.items ++ decimal place) }
-{
-    let mut text = PlaceText::new();
-    text.push_number(place);
-    line.extend_from_slice(text.bytes())?;
-    Ok(())
-}
-
-/// Puts a blank and a position at the end.
-fn push_position(line: &mut Vec<u8>, place: &Pos) -> Result<(), Memory>
-    ensures { OnOk result (line.new.items ≡ line.old.items ++ (codes " " ++ position_text place.now)) }
-{
-    let mut text = PosText::new();
-    place.write_text(&mut text);
-    line.extend_from_slice(b" ")?;
-    line.extend_from_slice(text.bytes())?;
-    Ok(())
-}
 
 /// The line of a part of a ray: the place and the path of its region, and where it starts and ends.
 fn line_of(alloc: Global, region: &SceneRegion, lit: &Lit) -> Result<Vec<u8>, Memory>
@@ -43,7 +16,7 @@ fn line_of(alloc: Global, region: &SceneRegion, lit: &Lit) -> Result<Vec<u8>, Me
     ensures one_line { IfOk result (λ _. Lacks 10 (part_line region.now lit.now)) }
 {
     let mut line = Vec::new(alloc);
-    push_place(&mut line, region.place())?;
+    push_number(&mut line, region.place())?;
     line.extend_from_slice(b" ")?;
     line.extend_from_slice(region.path().items())?;
     push_position(&mut line, &lit.start)?;

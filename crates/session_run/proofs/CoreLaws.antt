@@ -3,7 +3,7 @@ use Rattle.std.proofs.Common.{◌≡◌, ◌≤◌, ◌+◌, ◌^◌, ◌<◌, �
 use Rattle.std.specs.List.{AllByRecursion}
 use Rattle.std.specs.Option.{option_map, option_or}
 use Rattle.std.proofs.lemmas.Bool.{leb-true}
-use Rattle.lattice_core.specs.declared.ray.Ray.{Ray}
+use Rattle.lattice_core.specs.Tiles.{tiles_of}
 use Rattle.transcript.specs.Lines.{Lacks}
 use Rattle.transcript.proofs.LineLaws.{lacks_append}
 use Rattle.transcript.proofs.Printable.{says_memory, IsPrintableReply}
@@ -13,28 +13,31 @@ use Rattle.name_core.specs.declared.name.Name.{Name}
 use Rattle.scene_prep.specs.declared.fault.PrepFault.{PrepFault}
 use Rattle.scene_prep.specs.declared.fault.PrepFault.TheVariants as prep
 use Rattle.scene_prep.specs.declared.fault.PrepFault.TheVariants.{TooMany}
-use Rattle.scene_prep.specs.Outcomes.{first_missing, too_many}
+use Rattle.scene_prep.specs.Outcomes.{first_missing, too_many, prep_fault}
 use Rattle.scene_prep.specs.Scenes.{scene_of}
 use Rattle.scene_prep.specs.Sizes.{names_size, most_size, told_size}
 use Rattle.command_set.specs.Refusals.{refusal_text}
 use Rattle.command_set.specs.declared.command.Command.{Command}
-use Rattle.command_set.specs.declared.command.Command.TheVariants.{Bad, Edit as IsEdit, Query as IsQuery}
+use Rattle.command_set.specs.declared.command.Command.TheVariants.{Bad, Edit as IsEdit, Query as IsQuery, Shoot as IsShoot}
 use Rattle.command_set.specs.declared.command.Query.{Query}
 use Rattle.command_set.specs.declared.command.Query.TheVariants as queries
+use Rattle.command_set.specs.declared.command.Shoot.{Shoot}
+use Rattle.command_set.specs.declared.command.Shoot.TheVariants.{Picture, Check}
 use Rattle.command_set.specs.declared.refusal.Refusal.{Refusal}
 use Rattle.command_set.specs.declared.refusal.Refusal.TheVariants.{Quota}
 use Rattle.directory.specs.Listing.{Listing}
 use Rattle.directory.specs.Walks.{Entries, object_of}
 use Rattle.edit_core.specs.Edits.{made}
 use Rattle.edit_core.specs.Refused.{refusal_of, unless}
-use Rattle.mged_words.specs.Readable.{IsPlain, IsPlainRefusal, IsPlainQuery, ArePlain}
+use Rattle.mged_words.specs.Readable.{IsPlain, IsPlainRefusal, IsPlainQuery, IsPlainShoot, ArePlain}
 use Rattle.report_text.specs.Listings.{listings, written_lines}
 use Rattle.session_run.specs.declared.answer.Found.{Found}
 use Rattle.session_run.specs.declared.answer.Own.{Own}
-use Rattle.session_run.specs.Replies.{first_missing as first_absent, lines_unless_missing, Outcome, core_rules, most_used, size_of, within_quota, lines_unless, lines_of_scene, shot_of, found, edit_outcome, outcome_of, directory_made, shown}
-use Rattle.session_run.proofs.EditLaws.{MayBePlain, IsPlainName, IsPlainListing, HasPlainNames, find_plain, plain_names, plain_missing, plain_instances, refusal_plain, edit_keeps, names_plain, lines_few}
+use Rattle.session_run.specs.Replies.{first_missing as first_absent, lines_unless_missing, Outcome, core_rules, most_used, size_of, within_quota, found_unless, lines_alone, lines_of_scene, pictured, lines_of_check, viewed, found, edit_outcome, outcome_of, directory_made, shown}
+use Rattle.session_run.proofs.EditLaws.{MayBePlain, IsPlainName, IsPlainListing, find_plain, plain_names, plain_missing, plain_instances, refusal_plain, edit_keeps, names_plain, lines_few}
 use Rattle.session_run.proofs.ListingLaws.{written_plain, listings_plain}
-use Rattle.session_run.proofs.ShotLaws.{shot_plain}
+use Rattle.session_run.proofs.ShotLaws.{shot_plain, check_plain}
+use Rattle.session_run.proofs.PictureLaws.{picture_plain}
 
 abbrev pub Any_own : Own → Type 0
 Any_own own = Unit {0}
@@ -44,6 +47,7 @@ edited_fits : (d : Listing) (c : Command) → IsPlainListing d → IsPlain c →
 edited_fits d (Bad refusal) h k = tt
 edited_fits d (IsEdit edit) h k = edit_keeps d edit h k
 edited_fits d (IsQuery query) h k = tt
+edited_fits d (IsShoot shoot) h k = tt
 
 -- an outcome whose lines have no line feed
 abbrev IsPlainOutcome : Outcome → Type 0
@@ -67,18 +71,23 @@ within_fits used (Ok found) h =
     (λ e. let small : used + size_of found ≤ 67108864 = leb-true (used + size_of found) 67108864 e in omega (arith, small, lines_few found.body))
 within_fits used (Err refusal) h = h.one_line
 
-missing_plain : (missing : Option Name) (size : Option PrepFault) (lines : List (List ℕ)) → IsPlainName missing → IsPlainOutcome (lines_unless size lines) → IsPlainOutcome (lines_unless (option_or (option_map prep.Missing missing) size) lines)
-missing_plain None size lines h k = k
-missing_plain (Some name) size lines h k = plain_missing name h
+missing_plain : (missing : Option Name) (size : Option PrepFault) (found : Found) → IsPlainName missing → IsPlainOutcome (found_unless size found) → IsPlainOutcome (found_unless (option_or (option_map prep.Missing missing) size) found)
+missing_plain None size found h k = k
+missing_plain (Some name) size found h k = plain_missing name h
 
-size_plain : (t : Bool) (size : ℕ) (lines : List (List ℕ)) → AllByRecursion (Lacks 10) lines → IsPlainOutcome (lines_unless (cond t (Some (TooMany size)) None) lines)
-size_plain true size lines h = plain_instances size
-size_plain false size lines h = h
+size_plain : (t : Bool) (size : ℕ) (found : Found) → AllByRecursion (Lacks 10) found.body → IsPlainOutcome (found_unless (cond t (Some (TooMany size)) None) found)
+size_plain true size found h = plain_instances size
+size_plain false size found h = h
 
-shots_plain : (es : Entries) (ray : Ray) (names : List Name) → HasPlainNames es → ArePlain names → IsPlainOutcome (shot_of es ray names)
-shots_plain es ray names h k =
-    missing_plain (first_missing es names) (too_many es names) (lines_of_scene (scene_of es names) ray) (find_plain (λ name. not (is_some (object_of es name))) names k)
-    (size_plain (nat_lt most_size (names_size es names)) (told_size (names_size es names)) (lines_of_scene (scene_of es names) ray) (shot_plain es names ray h))
+-- what is found of the scene of names
+scene_fits : (es : Entries) (names : List Name) (found : Found) → ArePlain names → AllByRecursion (Lacks 10) found.body → IsPlainOutcome (found_unless (prep_fault es names) found)
+scene_fits es names found k h =
+    missing_plain (first_missing es names) (too_many es names) found (find_plain (λ name. not (is_some (object_of es name))) names k)
+    (size_plain (nat_lt most_size (names_size es names)) (told_size (names_size es names)) found h)
+
+viewed_plain : (d : Listing) (shoot : Shoot) → IsPlainListing d → IsPlainShoot shoot → IsPlainOutcome (viewed d shoot)
+viewed_plain d (Picture file view names) h k = scene_fits d.objects names (pictured (scene_of d.objects names) file view) k.1.one_line (picture_plain file view (tiles_of view) 0 k.0, tt)
+viewed_plain d (Check view names) h k = scene_fits d.objects names (lines_alone (lines_of_check (scene_of d.objects names) view)) k.one_line (check_plain d.objects names view (plain_names d.objects h))
 
 all_there_plain : (missing : Option Name) (lines : List (List ℕ)) → IsPlainName missing → AllByRecursion (Lacks 10) lines → IsPlainOutcome (lines_unless_missing missing lines)
 all_there_plain None lines h k = k
@@ -89,12 +98,13 @@ found_plain d (queries.List names) h k = all_there_plain (first_absent d.objects
 found_plain d queries.Names h k = names_plain d.objects (plain_names d.objects h)
 found_plain d (queries.Tree names) h k = all_there_plain (first_absent d.objects names) (listings d.objects names) (find_plain (λ name. is_none (object_of d.objects name)) names k) (listings_plain d.objects names h k)
 found_plain d (queries.Save file) h k = (lacks_append 10 (codes "saved ") file (computed 10 (codes "saved ") refl) k, tt)
-found_plain d (queries.Shot ray names) h k = shots_plain d.objects ray names (plain_names d.objects h) k.one_line
+found_plain d (queries.Shot ray names) h k = scene_fits d.objects names (lines_alone (lines_of_scene (scene_of d.objects names) ray)) k.one_line (shot_plain d.objects names ray (plain_names d.objects h))
 
 reply_fits : (d : Listing) (own : Own) (c : Command) → IsPlainListing d → Any_own own → IsPlain c → IsPrintableReply (shown (outcome_of d own.used c))
 reply_fits d own (Bad refusal) h q k = k.one_line
 reply_fits d own (IsEdit edit) h q k = edit_fits d (refusal_of d edit) (made d edit) (refusal_plain d edit k)
 reply_fits d own (IsQuery query) h q k = within_fits own.used (found d query) (found_plain d query h k)
+reply_fits d own (IsShoot shoot) h q k = within_fits own.used (viewed d shoot) (viewed_plain d shoot h k)
 
 -- none of them says memory
 edit_tells : (refusal : Option Refusal) (made : Listing) → MayBePlain refusal → says_memory (shown (edit_outcome (unless refusal made))) ≡ false
@@ -113,18 +123,20 @@ within_tells : (used : ℕ) (outcome : Outcome) → Tells outcome → says_memor
 within_tells used (Ok found) h = tells_by (nat_le (used + size_of found) most_used) found
 within_tells used (Err refusal) h = h
 
-missing_tells : (missing : Option Name) (size : Option PrepFault) (lines : List (List ℕ)) → Tells (lines_unless size lines) → Tells (lines_unless (option_or (option_map prep.Missing missing) size) lines)
-missing_tells None size lines k = k
-missing_tells (Some name) size lines k = refl
+missing_tells : (missing : Option Name) (size : Option PrepFault) (found : Found) → Tells (found_unless size found) → Tells (found_unless (option_or (option_map prep.Missing missing) size) found)
+missing_tells None size found k = k
+missing_tells (Some name) size found k = refl
 
-size_tells : (t : Bool) (size : ℕ) (lines : List (List ℕ)) → Tells (lines_unless (cond t (Some (TooMany size)) None) lines)
-size_tells true size lines = refl
-size_tells false size lines = tt
+size_tells : (t : Bool) (size : ℕ) (found : Found) → Tells (found_unless (cond t (Some (TooMany size)) None) found)
+size_tells true size found = refl
+size_tells false size found = tt
 
-shots_tell : (es : Entries) (ray : Ray) (names : List Name) → Tells (shot_of es ray names)
-shots_tell es ray names =
-    missing_tells (first_missing es names) (too_many es names) (lines_of_scene (scene_of es names) ray)
-    (size_tells (nat_lt most_size (names_size es names)) (told_size (names_size es names)) (lines_of_scene (scene_of es names) ray))
+scene_tells : (es : Entries) (names : List Name) (found : Found) → Tells (found_unless (prep_fault es names) found)
+scene_tells es names found = missing_tells (first_missing es names) (too_many es names) found (size_tells (nat_lt most_size (names_size es names)) (told_size (names_size es names)) found)
+
+viewed_tells : (d : Listing) (shoot : Shoot) → Tells (viewed d shoot)
+viewed_tells d (Picture file view names) = scene_tells d.objects names (pictured (scene_of d.objects names) file view)
+viewed_tells d (Check view names) = scene_tells d.objects names (lines_alone (lines_of_check (scene_of d.objects names) view))
 
 all_there_tell : (missing : Option Name) (lines : List (List ℕ)) → Tells (lines_unless_missing missing lines)
 all_there_tell None lines = tt
@@ -135,12 +147,13 @@ found_tells d (queries.List names) = all_there_tell (first_absent d.objects name
 found_tells d queries.Names = tt
 found_tells d (queries.Tree names) = all_there_tell (first_absent d.objects names) (listings d.objects names)
 found_tells d (queries.Save file) = tt
-found_tells d (queries.Shot ray names) = shots_tell d.objects ray names
+found_tells d (queries.Shot ray names) = scene_tells d.objects names (lines_alone (lines_of_scene (scene_of d.objects names) ray))
 
 reply_tells : (d : Listing) (own : Own) (c : Command) → IsPlain c → says_memory (shown (outcome_of d own.used c)) ≡ false
 reply_tells d own (Bad refusal) k = k.other
 reply_tells d own (IsEdit edit) k = edit_tells (refusal_of d edit) (made d edit) (refusal_plain d edit k)
 reply_tells d own (IsQuery query) k = within_tells own.used (found d query) (found_tells d query)
+reply_tells d own (IsShoot shoot) k = within_tells own.used (viewed d shoot) (viewed_tells d shoot)
 
 pub keeps : KeepsLines core_rules IsPlainListing Any_own IsPlain
 keeps = record { edited = edited_fits; kept = λ d own c h q k. tt; forgotten = λ own c q k. tt; reply = reply_fits; tells = reply_tells }

@@ -1,5 +1,5 @@
 -- What a ray meets of names without line feeds stands on lines of its own.
-use Rattle.std.proofs.Common.{◌≡◌, ◌++◌, ◌+◌, ℕ, zero, suc, Bool, true, false, cond, List, [], ◌∷◌, Option, Some, None, map, flat_map, codes, slice_get, refl, subst}
+use Rattle.std.proofs.Common.{◌≡◌, ◌++◌, ◌+◌, ◌==◌, find, ℕ, zero, suc, Bool, true, false, cond, List, [], ◌∷◌, Option, Some, None, map, flat_map, codes, slice_get, refl, subst}
 use Rattle.std.specs.List.{AllByRecursion, enumerate_from}
 use Rattle.lattice_core.specs.declared.placement.Placement.{Placement}
 use Rattle.lattice_core.specs.declared.ray.Ray.{Ray}
@@ -24,9 +24,14 @@ use Rattle.scene_prep.specs.Regions.{NamedRegion, placed_region, within_comb, un
 use Rattle.scene_prep.specs.Scenes.{node_text, path_text, region_at, scene_of}
 use Rattle.report_text.specs.Shots.{line_in, shot_lines}
 use Rattle.mged_words.specs.Readable.{ArePlain}
-use Rattle.session_run.specs.Replies.{lines_of_scene}
+use Rattle.session_run.specs.Replies.{lines_of_scene, lines_of_check}
 use Rattle.session_run.proofs.EditLaws.{HasPlainNames, same_plain}
 use Rattle.report_text.proofs.ShotLaws.{number_lacks, part_one_line}
+use Rattle.report_text.proofs.OverlapLaws.{pair_one_line}
+use Rattle.report_text.specs.Overlaps.{path_in, path_at, overlap_lines}
+use Rattle.shot_core.specs.declared.pair.Pair.{Pair}
+use Rattle.tile_shot.specs.Reports.{view_report}
+use Rattle.lattice_core.specs.declared.view.View.{View}
 
 -- a name that a directory has is plain as its names are
 key_step : (t : Bool) (name key : Name) (object o : Parts) (rest : Option Parts) → (t ≡ true → Lacks 10 name) → (rest ≡ Some o → Lacks 10 name) → cond t (Some object) rest ≡ Some o → Lacks 10 name
@@ -133,3 +138,19 @@ all_plain scene (l ∷ lit) h = (line_plain (slice_get scene l.region) l (λ reg
 
 pub shot_plain : (es : Entries) (names : List Name) (ray : Ray) → HasPlainNames es → AllByRecursion (Lacks 10) (lines_of_scene (scene_of es names) ray)
 shot_plain es names ray h = all_plain (scene_of es names) (lit_of (scene_of es names) ray) (scene_plain es names h)
+
+-- and of what overlaps
+path_step : (t : Bool) (region : Region) (rest : Option Region) → Lacks 10 region.path → Lacks 10 (path_in rest) → Lacks 10 (path_in (cond t (Some region) rest))
+path_step true region rest h k = h
+path_step false region rest h k = k
+
+path_plain : (scene : List Region) (place : ℕ) → HasPlainPaths scene → Lacks 10 (path_at scene place)
+path_plain [] place h = tt
+path_plain (r ∷ scene) place h = path_step (r.place == place) r (find (λ s. s.place == place) scene) h.0 (path_plain scene place h.1)
+
+pairs_plain : (scene : List Region) (pairs : List Pair) → HasPlainPaths scene → AllByRecursion (Lacks 10) (overlap_lines scene pairs)
+pairs_plain scene [] h = tt
+pairs_plain scene (p ∷ pairs) h = (pair_one_line scene p (path_plain scene p.one h) (path_plain scene p.two h), pairs_plain scene pairs h)
+
+pub check_plain : (es : Entries) (names : List Name) (view : View) → HasPlainNames es → AllByRecursion (Lacks 10) (lines_of_check (scene_of es names) view)
+check_plain es names view h = pairs_plain (scene_of es names) (view_report (scene_of es names) view) (scene_plain es names h)

@@ -2,12 +2,12 @@
 use Rattle.std.proofs.Common.{◌≡◌, ◌≤◌, ◌+◌, ℕ, Bool, true, false, cond, nat_le, Result, Ok, Err, refl, sym, arith}
 use Rattle.std.proofs.lemmas.Bool.{leb-true}
 use Rattle.command_set.specs.declared.command.Command.{Command}
-use Rattle.command_set.specs.declared.command.Command.TheVariants.{Bad, Edit as IsEdit, Query as IsQuery}
+use Rattle.command_set.specs.declared.command.Command.TheVariants.{Bad, Edit as IsEdit, Query as IsQuery, Shoot as IsShoot}
 use Rattle.command_set.specs.declared.refusal.Refusal.{Refusal}
 use Rattle.command_set.specs.declared.refusal.Refusal.TheVariants.{Quota}
 use Rattle.directory.specs.Listing.{Listing}
 use Rattle.edit_core.specs.Refused.{edited}
-use Rattle.session_run.specs.Replies.{Outcome, most_used, size_of, within_quota, found, edit_outcome, outcome_of, used_after}
+use Rattle.session_run.specs.Replies.{Outcome, most_used, size_of, within_quota, found, viewed, edit_outcome, outcome_of, used_after}
 use Rattle.session_run.specs.declared.answer.Found.{Found}
 
 by_room : (t : Bool) (used : ℕ) (f : Found) → t ≡ nat_le (used + size_of f) most_used → used ≤ most_used → used_after used (cond t (Ok f) (Err Quota)) ≤ most_used
@@ -26,3 +26,4 @@ pub used_within : (d : Listing) (used : ℕ) (command : Command) → used ≤ mo
 used_within d used (Bad refusal) h = h
 used_within d used (IsEdit edit) h = edit_within used (edited d edit) h
 used_within d used (IsQuery query) h = quota_within used (found d query) h
+used_within d used (IsShoot shoot) h = quota_within used (viewed d shoot) h

@@ -1,21 +1,23 @@
 -- Small directories, and what the definitions make of commands.
-use Rattle.std.specs.Prelude.{◌≡◌, refl, pos, [], ◌∷◌, None, Some, Ok, Err, codes}
+use Rattle.std.specs.Prelude.{◌≡◌, refl, pos, [], ◌∷◌, ◌++◌, None, Some, Ok, Err, codes}
 use Rattle.lattice_core.specs.declared.ray.Dir.TheVariants.{PlusX}
 use Rattle.lattice_core.specs.declared.ray.Ray.{Ray}
+use Rattle.lattice_core.specs.declared.view.View.{View}
 use Rattle.surd_order.specs.PlaceOrder.{place_cmp}
 use Rattle.std.specs.Fmt.{digits}
 use Rattle.region_attr.specs.Attrs.{group_attr, region_attr}
 use Rattle.solid_set.specs.declared.solid.Solid.TheVariants as solids
 use Rattle.object_set.specs.Objects.{Parts}
 use Rattle.object_set.specs.declared.object.Body.TheVariants.{Solid, Comb}
-use Rattle.command_set.specs.declared.command.Command.TheVariants.{Bad, Edit as IsEdit, Query as IsQuery}
+use Rattle.command_set.specs.declared.command.Command.TheVariants.{Bad, Edit as IsEdit, Query as IsQuery, Shoot as IsShoot}
 use Rattle.command_set.specs.declared.command.Edit.TheVariants.{Make, Kill}
 use Rattle.command_set.specs.declared.command.Query.TheVariants as queries
+use Rattle.command_set.specs.declared.command.Shoot.TheVariants.{Picture, Check}
 use Rattle.command_set.specs.declared.refusal.Refusal.TheVariants.{Syntax, Exists, Missing, Quota}
 use Rattle.directory.specs.Listing.{Listing}
 use Rattle.scene_prep.specs.Regions.{regions_of_name}
 use Rattle.scene_prep.specs.Sizes.{size_of_name}
-use Rattle.session_run.specs.Replies.{no_objects, lines_alone, outcome_of, directory_made, used_after}
+use Rattle.session_run.specs.Replies.{no_objects, lines_alone, picture_line, outcome_of, directory_made, used_after}
 
 -- the half-space of the points with x at most 5
 abbrev half : Parts
@@ -100,3 +102,31 @@ room_for_the_file = refl
 
 no_room_for_the_file : outcome_of no_objects 67108839 (IsQuery (queries.Save (codes "a"))) ≡ Err Quota
 no_room_for_the_file = refl
+
+-- one pixel
+abbrev at_once : View
+at_once = record { corner = record { x = pos 0; y = pos 0; z = pos 0 }; dir = PlusX; cell = pos 1; w = 1; h = 1 }
+
+-- a cut-off tile is one, too
+a_line_of_a_picture : picture_line (codes "p.ppm") (record at_once { w = 33; h = 16 }) 3 0 ≡ codes "picture p.ppm 33 16 tiles 3 shot 3 reused 0"
+unfolding digits
+a_line_of_a_picture = refl
+
+-- a ray that starts inside shows the colour itself, which is white where there is none
+a_picture : outcome_of three 0 (IsShoot (Picture (codes "p") at_once (codes "h" ∷ [])))
+    ≡ Ok (record { body = codes "picture p 1 1 tiles 1 shot 1 reused 0" ∷ []; file = Some (record { name = codes "p"; bytes = codes "P6\n1 1\n255\n" ++ 255 ∷ 255 ∷ 255 ∷ [] }) })
+unfolding place_cmp digits regions_of_name size_of_name
+a_picture = refl
+
+-- 38 bytes of the line and 14 of the file
+no_room_for_the_picture : outcome_of three 67108813 (IsShoot (Picture (codes "p") at_once (codes "h" ∷ []))) ≡ Err Quota
+unfolding place_cmp digits regions_of_name size_of_name
+no_room_for_the_picture = refl
+
+overlaps : outcome_of three 0 (IsShoot (Check at_once (codes "h" ∷ codes "g" ∷ codes "h" ∷ []))) ≡ Ok (lines_alone (codes "overlap 1 /h 2 /h rays 1 first 0 0 0 5" ∷ []))
+unfolding place_cmp digits regions_of_name size_of_name
+overlaps = refl
+
+no_overlaps_of_a_missing_name : outcome_of three 67108864 (IsShoot (Check at_once (codes "h" ∷ codes "x" ∷ []))) ≡ Err (Missing (codes "x"))
+unfolding size_of_name
+no_overlaps_of_a_missing_name = refl

@@ -1,5 +1,6 @@
 -- Scenes that sessions keep.
-use Rattle.std.specs.Prelude.{◌≡◌, ◌⊎◌, ◌+◌, ◌≤◌, ℕ, Ok, IfSome}
+use Rattle.std.specs.Prelude.{◌≡◌, ◌⊎◌, ◌+◌, ◌≤◌, ℕ, List, Ok, IfSome}
+use Rattle.name_core.specs.declared.name.Name.{Name}
 use Rattle.directory.specs.Walks.{Entries}
 use Rattle.scene_prep.specs.Outcomes.{IsSceneOf}
 use Rattle.session_run.specs.declared.answer.Book.{Book}
@@ -10,6 +11,10 @@ use Rattle.session_run.specs.declared.keep.Keep.{Keep}
 pub record IsOf (version : ℕ) (directory : Entries) (kept : KeptScene) : Type 0 where
   pub not_later : kept.version ≤ version
   pub scene_is : kept.version ≡ version → IsSceneOf (Ok kept.scene) directory kept.names.items
+
+-- a kept scene is that of these names in the directory of this version
+abbrev pub IsKeptOf : KeptScene → ℕ → Entries → List Name → Type 0
+IsKeptOf kept version directory names = IsOf version directory kept × IsSceneOf (Ok kept.scene) directory names
 
 -- what a session keeps can be used with the directory of this version
 abbrev pub IsCurrent : Keep → ℕ → Entries → Type 0

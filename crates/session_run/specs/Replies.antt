@@ -1,16 +1,20 @@
 -- What a command is answered, the directory after it, and the bytes that its session has used.
-use Rattle.std.specs.Prelude.{ℕ, ◌+◌, ◌++◌, ◌∷◌, nat_le, cond, find, is_none, List, [], Option, Some, None, Result, Ok, Err, length, codes}
+use Rattle.std.specs.Prelude.{ℕ, ◌+◌, ◌++◌, ◌∷◌, nat_le, cond, find, is_none, List, [], Option, Some, None, Result, Ok, Err, length, codes, decimal}
 use Rattle.std.specs.Result.{result_ok}
 use Rattle.name_core.specs.declared.name.Name.{Name}
 use Rattle.lattice_core.specs.declared.ray.Ray.{Ray}
+use Rattle.lattice_core.specs.declared.view.View.{View}
+use Rattle.lattice_core.specs.Tiles.{tiles_of}
 use Rattle.outside_core.specs.declared.traits.File.{File}
 use Rattle.transcript.specs.Lines.{text_of}
 use Rattle.transcript.specs.Run.{Reply, Accepted, Refused, Rules, State}
 use Rattle.command_set.specs.Refusals.{refusal_text}
 use Rattle.command_set.specs.declared.command.Command.{Command}
-use Rattle.command_set.specs.declared.command.Command.TheVariants.{Bad, Edit as IsEdit, Query as IsQuery}
+use Rattle.command_set.specs.declared.command.Command.TheVariants.{Bad, Edit as IsEdit, Query as IsQuery, Shoot as IsShoot}
 use Rattle.command_set.specs.declared.command.Query.{Query}
 use Rattle.command_set.specs.declared.command.Query.TheVariants as queries
+use Rattle.command_set.specs.declared.command.Shoot.{Shoot}
+use Rattle.command_set.specs.declared.command.Shoot.TheVariants.{Picture, Check}
 use Rattle.command_set.specs.declared.refusal.Refusal.{Refusal}
 use Rattle.command_set.specs.declared.refusal.Refusal.TheVariants.{Missing, Instances, Quota, Memory}
 use Rattle.asc_form.specs.Written.{written}
@@ -20,6 +24,10 @@ use Rattle.edit_core.specs.Refused.{edited}
 use Rattle.report_text.specs.Listings.{listings, written_lines}
 use Rattle.report_text.specs.Names.{names_lines}
 use Rattle.report_text.specs.Shots.{shot_lines}
+use Rattle.report_text.specs.Overlaps.{overlap_lines}
+use Rattle.ppm_write.specs.Pictures.{header_text}
+use Rattle.tile_shot.specs.Pixels.{view_bytes}
+use Rattle.tile_shot.specs.Reports.{view_report}
 use Rattle.shot_core.specs.Regions.{Region}
 use Rattle.shot_core.specs.Shots.{lit_of}
 use Rattle.scene_prep.specs.declared.fault.PrepFault.{PrepFault}
@@ -60,9 +68,9 @@ refusal_of_prep (prep.Missing name) = Missing name
 refusal_of_prep (prep.TooMany size) = Instances size
 refusal_of_prep prep.Memory = Memory
 
-abbrev pub lines_unless : Option PrepFault → List (List ℕ) → Outcome
-lines_unless None lines = Ok (lines_alone lines)
-lines_unless (Some fault) lines = Err (refusal_of_prep fault)
+abbrev pub found_unless : Option PrepFault → Found → Outcome
+found_unless None found = Ok found
+found_unless (Some fault) found = Err (refusal_of_prep fault)
 
 -- a line for each partition of a ray and a scene
 abbrev pub lines_of_scene : List Region → Ray → List (List ℕ)
@@ -70,7 +78,37 @@ lines_of_scene scene ray = shot_lines scene (lit_of scene ray)
 
 -- the partitions of a ray and the regions of the names, or why these make no scene
 abbrev pub shot_of : Entries → Ray → List Name → Outcome
-shot_of directory ray names = lines_unless (prep_fault directory names) (lines_of_scene (scene_of directory names) ray)
+shot_of directory ray names = found_unless (prep_fault directory names) (lines_alone (lines_of_scene (scene_of directory names) ray))
+
+-- `picture`, the file, its columns and rows, how many tiles it has, and how many of them were shot and how many reused
+abbrev pub picture_line : Name → View → ℕ → ℕ → List ℕ
+picture_line file view shot reused =
+    codes "picture " ++ (file ++ (codes " " ++ (decimal view.w ++ (codes " " ++ (decimal view.h ++ (codes " tiles " ++ (decimal (tiles_of view) ++ (codes " shot " ++ (decimal shot ++ (codes " reused " ++ decimal reused))))))))))
+
+-- a picture's file: its head, and the pixels of the view row by row
+abbrev pub picture_bytes : List Region → View → List ℕ
+picture_bytes scene view = header_text view.w view.h ++ view_bytes scene view
+
+-- the picture of a scene as a file, and its line. No tile is kept, so each is shot
+abbrev pub pictured : List Region → Name → View → Found
+pictured scene file view = record { body = picture_line file view (tiles_of view) 0 ∷ []; file = Some (record { name = file; bytes = picture_bytes scene view }) }
+
+-- the picture of the regions of the names, or why these make no scene
+abbrev pub picture_of : Entries → Name → View → List Name → Outcome
+picture_of directory file view names = found_unless (prep_fault directory names) (pictured (scene_of directory names) file view)
+
+-- a line for each two regions of a scene that overlap on some ray of a view
+abbrev pub lines_of_check : List Region → View → List (List ℕ)
+lines_of_check scene view = overlap_lines scene (view_report scene view)
+
+-- the overlaps of the regions of the names, or why these make no scene
+abbrev pub check_of : Entries → View → List Name → Outcome
+check_of directory view names = found_unless (prep_fault directory names) (lines_alone (lines_of_check (scene_of directory names) view))
+
+-- what a command that shoots each ray of a view finds
+abbrev pub viewed : Listing → Shoot → Outcome
+viewed d (Picture file view names) = picture_of d.objects file view names
+viewed d (Check view names) = check_of d.objects view names
 
 -- the first of the names that is not there
 abbrev pub first_missing : Entries → List Name → Option Name
@@ -101,12 +139,14 @@ abbrev pub outcome_of : Listing → ℕ → Command → Outcome
 outcome_of d used (Bad refusal) = Err refusal
 outcome_of d used (IsEdit edit) = edit_outcome (edited d edit)
 outcome_of d used (IsQuery query) = within_quota used (found d query)
+outcome_of d used (IsShoot shoot) = within_quota used (viewed d shoot)
 
 -- the new directory, exactly where the command is an edit that is accepted
 abbrev pub directory_made : Listing → Command → Option Listing
 directory_made d (Bad refusal) = None
 directory_made d (IsEdit edit) = result_ok (edited d edit)
 directory_made d (IsQuery query) = None
+directory_made d (IsShoot shoot) = None
 
 -- the bytes used after an answer: an accepted one adds those of its body and of its file
 abbrev pub used_after : ℕ → Outcome → ℕ

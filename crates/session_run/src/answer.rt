@@ -4,11 +4,10 @@ ghost use Rattle.std.specs.Result.{result_ok};
 ghost use Rattle.transcript.specs.Run.{answer_of, book_after, committed, own_after};
 ghost use Rattle.lattice_core.specs.declared.limit.TheConstants.{WORLD};
 ghost use Rattle.lattice_core.specs.Limits.{IsWithin};
-ghost use Rattle.lattice_core.specs.declared.ray.Ray.{Ray};
 ghost use Rattle.name_core.specs.declared.name.Name.{Name};
 ghost use Rattle.directory.specs.Walks.{Entries};
 ghost use Rattle.shot_core.specs.Shots.{lit_of};
-ghost use Rattle.scene_prep.specs.Outcomes.{IsSceneOf};
+ghost use Rattle.scene_prep.specs.Outcomes.{IsSceneOf, prep_fault};
 ghost use Rattle.edit_core.specs.Refused.{edited};
 ghost use Rattle.report_text.specs.Listings.{listings, written_lines};
 ghost use Rattle.report_text.specs.Names.{names_lines};
@@ -16,12 +15,15 @@ ghost use Rattle.report_text.specs.Texts.{IsText};
 ghost use Rattle.session_run.specs.Answers.{core_book, core_answer, unmarked};
 ghost use Rattle.session_run.specs.Kept.{IsCurrent, Moves};
 ghost use Rattle.session_run.specs.declared.keep.Keep.{Keep};
-ghost use Rattle.session_run.specs.Replies.{core_rules, most_used, lines_alone, size_of, within_quota, lines_of_scene, shot_of, first_missing, lines_unless_missing, saved, found, edit_outcome, outcome_of, directory_made, used_after};
+ghost use Rattle.session_run.specs.declared.answer.Found.{Found};
+ghost use Rattle.session_run.specs.Replies.{core_rules, most_used, lines_alone, size_of, within_quota, lines_of_scene, shot_of, found_unless, picture_of, check_of, viewed, first_missing, lines_unless_missing, saved, found, edit_outcome, outcome_of, directory_made, used_after};
 
+use crate::check::check_scene;
 use crate::keep::Keep;
 use crate::limit::MOST_USED;
+use crate::picture::shoot_picture;
 use asc_form::write_asc;
-use command_set::{Command, Edit, Query, Refusal, WorldRay};
+use command_set::{CheckedView, Command, Edit, Query, Refusal, Shoot, WorldRay};
 use directory::Directory;
 use edit_core::apply;
 use item_list::Items;
@@ -30,7 +32,7 @@ use memory_core::Memory;
 use name_core::Name;
 use outside_core::File;
 use report_text::{Body, TextFault, list_text, names_text, shot_text, tree_text};
-use scene_prep::{PrepFault, prepare};
+use scene_prep::PrepFault;
 use shot_core::{Lit, Scene, shoot};
 use std::alloc::Global;
 use std::marker::Brand;
@@ -71,7 +73,9 @@ fn lines_alone(body: Body) -> Found
 }
 
 /// A body, or the refusal of one for which there was no room.
-fn found_or_quota(text: Result<Body, TextFault>) -> Result<Result<Found, Refusal>, Memory>
+pub(crate) fn found_or_quota(
+    text: Result<Body, TextFault>,
+) -> Result<Result<Found, Refusal>, Memory>
     ensures { IfOk result (λ outcome. (lines : List (List ℕ)) (used : ℕ) → used ≤ most_used → IsText text lines (most_used - used) → outcome ≡ within_quota used (Ok (lines_alone lines))) }
 {
     match text {
@@ -222,36 +226,12 @@ fn shoot_scene(
 
 /// The refusal of names that make no scene.
 fn refused(fault: PrepFault) -> Result<Result<Found, Refusal>, Memory>
-    ensures { IfOk result (λ outcome. (directory : Entries) (names : List Name) → IsSceneOf (Err fault) directory names → (used : ℕ) (ray : Ray) → outcome ≡ within_quota used (shot_of directory ray names)) }
+    ensures { IfOk result (λ outcome. (directory : Entries) (names : List Name) → IsSceneOf (Err fault) directory names → (used : ℕ) (shown : Found) → outcome ≡ within_quota used (found_unless (prep_fault directory names) shown)) }
 {
     match fault {
         PrepFault::Missing(name) => Ok(Err(Refusal::Missing(name))),
         PrepFault::TooMany(size) => Ok(Err(Refusal::Instances(size))),
         PrepFault::Memory => Err(Memory),
-    }
-}
-
-/// The partitions of a ray and the regions of names, whose scene is prepared and kept.
-fn look_anew(
-    alloc: Global,
-    book: &Book,
-    keep: &mut Keep,
-    used: u64,
-    ray: &WorldRay,
-    names: &[Name],
-) -> Result<Result<Found, Refusal>, Memory>
-    requires quota { used ≤ most_used }
-    requires current { IsCurrent keep.old book.now.version book.now.directory.objects }
-    ensures outcome { IfOk result (λ outcome. outcome ≡ within_quota used (shot_of book.now.directory.objects ray.now names.now)) }
-    ensures current { IsCurrent keep.new book.now.version book.now.directory.objects }
-{
-    match prepare(alloc, &book.directory, names) {
-        Ok(scene) => {
-            let outcome = shoot_scene(alloc, &scene, used, ray);
-            keep.put(alloc, book.version, names, scene);
-            outcome
-        }
-        Err(fault) => refused(fault),
     }
 }
 
@@ -269,9 +249,85 @@ fn look_along(
     ensures outcome { IfOk result (λ outcome. outcome ≡ within_quota used (shot_of book.now.directory.objects ray.now names.now)) }
     ensures current { IsCurrent keep.new book.now.version book.now.directory.objects }
 {
-    match keep.scene(book.version, names) {
-        Some(scene) => shoot_scene(alloc, scene, used, ray),
-        None => look_anew(alloc, book, keep, used, ray, names),
+    match keep.scene(alloc, book.version, &book.directory, names) {
+        Ok(kept) => {
+            let outcome = shoot_scene(alloc, &kept.scene, used, ray);
+            keep.put(kept);
+            outcome
+        }
+        Err(fault) => refused(fault),
+    }
+}
+
+/// The picture of the regions of names.
+fn look_at_picture(
+    alloc: Global,
+    book: &Book,
+    keep: &mut Keep,
+    used: u64,
+    file: &Name,
+    view: &CheckedView,
+    names: &[Name],
+) -> Result<Result<Found, Refusal>, Memory>
+    requires quota { used ≤ most_used }
+    requires current { IsCurrent keep.old book.now.version book.now.directory.objects }
+    ensures outcome { IfOk result (λ outcome. outcome ≡ within_quota used (picture_of book.now.directory.objects file.now view.now names.now)) }
+    ensures current { IsCurrent keep.new book.now.version book.now.directory.objects }
+{
+    match keep.scene(alloc, book.version, &book.directory, names) {
+        Ok(kept) => {
+            let outcome = shoot_picture(alloc, &kept.scene, used, file, view);
+            keep.put(kept);
+            outcome
+        }
+        Err(fault) => refused(fault),
+    }
+}
+
+/// The overlaps of the regions of names.
+fn look_for_overlaps(
+    alloc: Global,
+    book: &Book,
+    keep: &mut Keep,
+    used: u64,
+    view: &CheckedView,
+    names: &[Name],
+) -> Result<Result<Found, Refusal>, Memory>
+    requires quota { used ≤ most_used }
+    requires current { IsCurrent keep.old book.now.version book.now.directory.objects }
+    ensures outcome { IfOk result (λ outcome. outcome ≡ within_quota used (check_of book.now.directory.objects view.now names.now)) }
+    ensures current { IsCurrent keep.new book.now.version book.now.directory.objects }
+{
+    match keep.scene(alloc, book.version, &book.directory, names) {
+        Ok(kept) => {
+            let outcome = check_scene(alloc, &kept.scene, used, view);
+            keep.put(kept);
+            outcome
+        }
+        Err(fault) => refused(fault),
+    }
+}
+
+/// What a command that shoots each ray of a view is answered.
+fn look_from(
+    alloc: Global,
+    book: &Book,
+    keep: &mut Keep,
+    used: u64,
+    shoot: &Shoot,
+) -> Result<Result<Found, Refusal>, Memory>
+    requires quota { used ≤ most_used }
+    requires current { IsCurrent keep.old book.now.version book.now.directory.objects }
+    ensures outcome { IfOk result (λ outcome. outcome ≡ within_quota used (viewed book.now.directory shoot.now)) }
+    ensures current { IsCurrent keep.new book.now.version book.now.directory.objects }
+{
+    match shoot {
+        Shoot::Picture { file, view, names } => {
+            look_at_picture(alloc, book, keep, used, file, view, names.items())
+        }
+        Shoot::Check { view, names } => {
+            look_for_overlaps(alloc, book, keep, used, view, names.items())
+        }
     }
 }
 
@@ -339,6 +395,7 @@ fn obey(
         Command::Bad(refusal) => Ok(Err(*refusal)),
         Command::Edit(edit) => edit_book(alloc, book, edit),
         Command::Query(query) => look(alloc, book, keep, used, query),
+        Command::Shoot(shoot) => look_from(alloc, book, keep, used, shoot),
     }
 }
 

@@ -2,9 +2,11 @@
 #![tactic(auto)]
 
 mod answer;
+mod check;
 mod keep;
 mod laws;
 mod limit;
+mod picture;
 
 pub use answer::{Answer, Book, Found, Own, answer_command};
 pub use keep::Keep;

@@ -1,4 +1,4 @@
-use Rattle.std.proofs.Common.{◌≡◌, ◌≤◌, ◌∙◌, subst, sym}
+use Rattle.std.proofs.Common.{◌≤◌, subst, sym}
 use Rattle.session_run.specs.Replies.{Outcome, most_used, used_after}
 use Rattle.session_run.proofs.UsedLaws.{used_within}
 use Rattle.session_run.proofs.answer.answer_command.Goals as goal

@@ -1,0 +1,11 @@
+use Rattle.std.proofs.Common.{◌≡◌, List, IfOk, sym, subst}
+use Rattle.name_core.specs.declared.name.Name.{Name}
+use Rattle.command_set.specs.declared.command.Shoot.{Shoot}
+use Rattle.session_run.specs.Replies.{within_quota, check_of, viewed}
+use Rattle.session_run.proofs.answer.look_from.Goals as goal
+
+pub returns-in-Check-clause-outcome : goal.returns-in-Check-clause-outcome
+returns-in-Check-clause-outcome c =
+    subst (λ (s : Shoot). IfOk c.look_for_overlaps.result (λ outcome. outcome ≡ within_quota c.args.used (viewed c.args.book.now.directory s))) (sym c.in-Check.is)
+    (subst (λ (ns : List Name). IfOk c.look_for_overlaps.result (λ outcome. outcome ≡ within_quota c.args.used (check_of c.args.book.now.directory.objects c.in-Check.view ns)))
+    c.items-in-Check.ensures.value c.look_for_overlaps.ensures.outcome)

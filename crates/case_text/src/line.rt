@@ -5,7 +5,7 @@ use crate::fault::CaseFault;
 use std::alloc::Global;
 
 /// The lines of a text, in order; a last piece that isn't empty is a line too.
-#[derive(Clone, Copy, Debug, Drop)]
+#[derive(Clone, Copy, Drop)]
 pub struct Lines<'a> {
     rest: &'a [u8],
 }
@@ -70,20 +70,15 @@ pub fn words_of<'a>(alloc: Global, text: &'a [u8]) -> Result<Vec<&'a [u8]>, Case
 
 /// The number that a word of digits is, below 2^32.
 pub fn number_of(word: &[u8]) -> Result<usize, CaseFault> {
-    if word.is_empty() {
+    if let [b'+', ..] = word {
         return Err(CaseFault::Number);
     }
-    let mut number = 0u32;
-    for byte in word {
-        if !byte.is_ascii_digit() {
-            return Err(CaseFault::Number);
-        }
-        let digit = u32::from(*byte - b'0');
-        number = number
-            .checked_mul(10)
-            .and_then(|tens| tens.checked_add(digit))
-            .ok_or(CaseFault::Number)?;
-    }
+    let Ok(digits) = str::from_utf8(word) else {
+        return Err(CaseFault::Number);
+    };
+    let Ok(number) = digits.parse::<u32>() else {
+        return Err(CaseFault::Number);
+    };
     Ok(number as usize)
 }
 
@@ -91,8 +86,12 @@ pub fn number_of(word: &[u8]) -> Result<usize, CaseFault> {
 pub fn numbers_of(alloc: Global, text: &[u8]) -> Result<Vec<i128>, CaseFault> {
     let mut numbers = Vec::new(alloc);
     for word in words_of(alloc, text)? {
-        let digits = str::from_utf8(word).map_err(|_fault| CaseFault::Number)?;
-        let number = digits.parse::<i128>().map_err(|_fault| CaseFault::Number)?;
+        let Ok(digits) = str::from_utf8(word) else {
+            return Err(CaseFault::Number);
+        };
+        let Ok(number) = digits.parse::<i128>() else {
+            return Err(CaseFault::Number);
+        };
         numbers.push(number)?;
     }
     Ok(numbers)

@@ -6,7 +6,7 @@ use crate::line::first_word;
 use std::alloc::Global;
 
 /// A row: its first word, the rest up to ` => `, and what stands behind that, as the bytes that they stand for.
-#[derive(Debug, Drop)]
+#[derive(Drop)]
 pub struct Row {
     pub kind: Vec<u8>,
     pub given: Vec<u8>,

@@ -21,7 +21,7 @@ pub trait Tables {
 }
 
 /// How many rows there were, and how many of these differ.
-#[derive(Clone, Copy, Debug, PartialEq, Eq, Drop)]
+#[derive(Clone, Copy, Drop)]
 pub struct Tally {
     rows: u64,
     differ: u64,

@@ -1,6 +1,8 @@
-//! Runs tables of models and of words of the command line: each row of a file of `data/` has a text, and says what it is
-//! read as.
+//! Runs tables of models, of demos and of words of the command line: each row of a file of `data/` has a text and says what
+//! it is read as, or the number of a demo and what this has.
 #![tactic(auto)]
+
+mod demos;
 
 use asc_form::{AscFault, AscKind, read_asc, write_asc};
 use case_text::{CaseFault, Tables, run_tables, words_of};
@@ -13,7 +15,7 @@ use std::process::ExitCode;
 /// The most bytes of a text in a row, and of one that is written of it.
 const MOST_BYTES: usize = 100_000_000;
 
-/// What rows may ask of the readers of models and of words.
+/// What rows may ask of the readers of models and of words, and of the demo of a number.
 struct ModelTables;
 
 /// The kind of a fault as the program prints it.
@@ -122,6 +124,9 @@ impl Tables for ModelTables {
         match kind {
             b"load" => push_loaded(alloc, given, out),
             b"options" => push_options(alloc, given, out),
+            b"size" | b"sum" | b"line" | b"loaded" | b"script" => {
+                demos::answer(alloc, kind, given, out)
+            }
             _ => Err(CaseFault::Kind),
         }
     }

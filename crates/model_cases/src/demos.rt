@@ -1,19 +1,14 @@
-//! Runs a table of demos: each row of a file of `data/` has a number, and says what its demo has. The rows are of the tool
-//! `dev/demo_text`, which makes demos from their rules alone.
-#![tactic(auto)]
+//! Rows of demos: each has a number, and says what its demo has. They are of the tool `dev/demo_text`, which makes demos
+//! from their rules alone.
 
 use asc_form::{AscFault, read_asc, write_asc};
-use case_text::{CaseFault, Lines, Tables, first_word, number_of, run_tables};
+use case_text::{CaseFault, Lines, first_word, number_of};
 use memory_core::Memory;
 use scene_make::{Demo, make_demo};
 use std::alloc::Global;
-use std::process::ExitCode;
 
 /// The most bytes of a model.
 const MOST_BYTES: usize = 16_777_216;
-
-/// What rows may ask of the demo of a number.
-struct DemoTables;
 
 /// The demo of the number in a word.
 fn demo_of(alloc: Global, word: &[u8]) -> Result<Demo, CaseFault> {
@@ -82,35 +77,27 @@ fn push_loaded(alloc: Global, text: &[u8], out: &mut Vec<u8>) -> Result<(), Case
 }
 
 /// `size N`, `sum N`, `line N PLACE`, `loaded N` and `script N`
-impl Tables for DemoTables {
-    fn answer(
-        &self,
-        alloc: Global,
-        kind: &[u8],
-        given: &[u8],
-        out: &mut Vec<u8>,
-    ) -> Result<(), CaseFault> {
-        let (number, place) = first_word(given);
-        let demo = demo_of(alloc, number)?;
-        let text = demo.load.items();
-        match kind {
-            b"size" => push_size(alloc, text, out),
-            b"sum" => {
-                let told = format!(in alloc; "{}", adler(text))?;
-                out.extend_from_slice(told.as_bytes())?;
-                Ok(())
-            }
-            b"line" => push_line_at(text, number_of(place)?, out),
-            b"loaded" => push_loaded(alloc, text, out),
-            b"script" => {
-                out.extend_from_slice(demo.script.items())?;
-                Ok(())
-            }
-            _ => Err(CaseFault::Kind),
+pub fn answer(
+    alloc: Global,
+    kind: &[u8],
+    given: &[u8],
+    out: &mut Vec<u8>,
+) -> Result<(), CaseFault> {
+    let (number, place) = first_word(given);
+    let demo = demo_of(alloc, number)?;
+    let text = demo.load.items();
+    match kind {
+        b"size" => push_size(alloc, text, out),
+        b"sum" => {
+            let told = format!(in alloc; "{}", adler(text))?;
+            out.extend_from_slice(told.as_bytes())?;
+            Ok(())
+        }
+        b"line" => push_line_at(text, number_of(place)?, out),
+        b"loaded" => push_loaded(alloc, text, out),
+        _ => {
+            out.extend_from_slice(demo.script.items())?;
+            Ok(())
         }
     }
-}
-
-fn main(rt: HostRuntime) -> ExitCode {
-    run_tables(&rt, &DemoTables)
 }

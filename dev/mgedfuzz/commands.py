@@ -1,6 +1,9 @@
 """Random commands, mostly well formed. Numbers come from a small grid, so that faces touch, rays lie in faces and
 regions overlap; names come from a small pool, so that edits meet."""
 
+from mgedmodel.pictures import ACROSS_AND_DOWN
+from mgedmodel.solids import DIRECTIONS as STEPS
+
 from . import texts
 
 SOLIDS = ("s", "t", "b1", "b2", "h", "w", "k", "p.s")
@@ -12,6 +15,10 @@ TRUTHS = ("yes", "no", "1", "0", "{yes}", "{ no }", "{1}", "YES", "yes no", "2")
 COLOURS = ("1 2 3", "1/2/3", "0 255 256", "{0 0 255}", "{ 1 2\t3 }", "1 / 2 / 3", "{1} 2 3", "1 {2 3}", "1 2", "1 2 3 4", "1/2 3", "+1 2.0 -0", "{1/2/3}", "{ 1/2/3 }")
 DEEP = ("{" * 4_100 + "}" * 4_100, "{" * 4_101 + "}" * 4_101)
 KEYS = {"region": TRUTHS, "inherit": TRUTHS, "id": COUNTS, "air": COUNTS, "los": COUNTS, "mater": COUNTS, "rgb": COLOURS}
+PICTURES = ("p.ppm", "q.ppm", "p.ppm", "s")
+SIZES = ((1, 1), (1, 1), (1, 4), (3, 1), (2, 2), (4, 3), (5, 5), (8, 6), (17, 2), (3, 18))
+ODD_SIZES = ((0, 5), (5, 0), (2_049, 1), (1, 2_049), (2_049, 0), (-1, 3), (3, "2.0"), ("2.5", 2), (999_999_999, 1), (1_000_000_000, 1))
+ODD_CELLS = (0, -1, 999_999_999, 1_000_000_000, 524_288, "1.0", "1.5")
 FAR = (-16_384, -16_383, -16_382, -1, 0, 0, 1, 2, 5_461, 16_383, 16_384)
 
 
@@ -131,8 +138,39 @@ class Maker:
             way = self.rng.choice(DIRECTIONS)
         if self.often(0.1):
             start[self.rng.randrange(3)] += self.rng.choice((-1, 1, 524_288, -524_289, 999_999_990))
-        names = [self.comb_name() if self.often(0.4) else self.name() for _ in range(self.rng.choice((1, 1, 2, 3, 4)))]
-        return f"nirt {start[0]} {start[1]} {start[2]} {way} " + " ".join(names)
+        return f"nirt {start[0]} {start[1]} {start[2]} {way} " + self.aims()
+
+    def aims(self):
+        return " ".join(self.comb_name() if self.often(0.4) else self.name() for _ in range(self.rng.choice((1, 1, 2, 3, 4))))
+
+    # Views.
+
+    def view(self):
+        """The words of a view whose rays come near a point of some solid, mostly."""
+        way, (width, height) = self.rng.choice(DIRECTIONS), self.rng.choice(SIZES)
+        cell = self.rng.choice((1, 1, 2, 3, 5)) * (self.scale if self.often(0.7) else 1)
+        centre = list(self.rng.choice(self.points)) if self.points and self.often(0.9) else self.point()
+        across, down = ACROSS_AND_DOWN[STEPS[way]]
+        back = self.rng.choice((524_288, 99_999) if self.is_far else (9 * self.scale, 9 * self.scale, 1, 0))
+        corner = [
+            part - cell * (width // 2 * u + height // 2 * v) - back * step for part, u, v, step in zip(centre, across, down, STEPS[way])
+        ]
+        if self.errs(0.06):
+            width, height = self.rng.choice(ODD_SIZES)
+        if self.errs(0.05):
+            cell = self.rng.choice(ODD_CELLS)
+        if self.errs(0.05):
+            corner[self.rng.randrange(3)] += self.rng.choice((-1, 1, 524_288, -524_289, 999_999_990))
+        return f"{way} {corner[0]} {corner[1]} {corner[2]} {cell} {width} {height}"
+
+    def picture(self):
+        return f"rt {self.rng.choice(PICTURES)} {self.view()} {self.aims()}"
+
+    def check(self):
+        return f"rtcheck {self.view()} {self.aims()}"
+
+    def shoot(self):
+        return self.pick((6, self.nirt), (2, self.picture), (2, self.check))
 
     # Texts and listings.
 
@@ -193,6 +231,9 @@ class Maker:
 
     def mark(self):
         return f"cattr {self.comb_name()} " + self.rng.choice(("region no", "region no", "region yes", "air 1", "air 0", "air 7"))
+
+    def colour(self):
+        return f"cattr {self.comb_name()} " + self.rng.choice(("rgb 255 0 0", "rgb 7/130/255", "rgb 1 2 3", "inherit yes", "inherit no"))
 
     def setting(self):
         key = self.rng.choice(list(KEYS))

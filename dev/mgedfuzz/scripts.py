@@ -27,7 +27,7 @@ def in_sessions(rng, lines):
 def rays_at_solids(maker):
     lines = maker.solids(maker.rng.randint(1, 4))
     for _ in range(maker.rng.randint(2, 14)):
-        lines.append(maker.pick((9, maker.nirt), (1, maker.solid)))
+        lines.append(maker.pick((9, maker.shoot), (1, maker.solid)))
     return lines
 
 
@@ -36,7 +36,7 @@ def rays_at_regions(maker):
     lines += [maker.comb() for _ in range(maker.rng.randint(1, 4))]
     lines += [f"cattr {name} region no" for name in maker.members if maker.often(0.5)]
     for _ in range(maker.rng.randint(3, 25)):
-        lines.append(maker.pick((10, maker.nirt), (2, maker.comb), (3, maker.place), (3, maker.mark), (1, maker.edit)))
+        lines.append(maker.pick((10, maker.shoot), (2, maker.comb), (3, maker.place), (3, maker.mark), (2, maker.colour), (1, maker.edit)))
     return lines
 
 
@@ -55,13 +55,16 @@ def turned(maker):
     for _ in range(rng.randint(3, 12)):
         x, y, names = rng.randint(-5, 5), rng.randint(-5, 5), " ".join(maker.comb_name() for _ in range(rng.randint(1, 3)))
         lines.append(f"nirt {rng.choice((f'-20 {x} {y} +x', f'{x} 20 {y} -y', f'{x} {y} -20 +z'))} {names}")
+        if rng.random() < 0.2:
+            view = rng.choice(("+x -20 6 6 2 6 6", "-x 20 -5 7 3 4 5", "+y -6 -20 6 4 4 3", "-y 6 20 6 1 9 9", "+z 6 6 -20 2 5 5", "-z -6 6 20 2 6 4"))
+            lines.append(rng.choice((f"rt p.ppm {view} {names}", f"rtcheck {view} {names}")))
     return lines
 
 
 def edits(maker):
     lines = maker.solids(maker.rng.randint(0, 3))
     for _ in range(maker.rng.randint(4, 30)):
-        lines.append(maker.pick((9, maker.edit), (2, maker.comb), (1, maker.nirt), (1, lambda: "ls"), (1, maker.listing)))
+        lines.append(maker.pick((9, maker.edit), (2, maker.comb), (1, maker.shoot), (1, lambda: "ls"), (1, maker.listing)))
     return lines
 
 
@@ -69,7 +72,7 @@ def texts(maker):
     """Objects that are put, with rays at them, edits and listings."""
     lines = [maker.put() for _ in range(maker.rng.randint(2, 8))]
     for _ in range(maker.rng.randint(3, 25)):
-        lines.append(maker.pick((5, maker.text), (4, maker.nirt), (4, maker.listing), (3, maker.edit), (1, maker.comb)))
+        lines.append(maker.pick((5, maker.text), (4, maker.shoot), (4, maker.listing), (3, maker.edit), (1, maker.comb)))
     return lines
 
 
@@ -81,7 +84,7 @@ def great(maker):
         maker.members[name] = names
         maker.there.append(name)
     for _ in range(maker.rng.randint(2, 6)):
-        lines.append(maker.pick((3, maker.comb), (2, maker.rm), (2, maker.listing), (1, maker.nirt), (1, maker.mvall)))
+        lines.append(maker.pick((3, maker.comb), (2, maker.rm), (2, maker.listing), (1, maker.shoot), (1, maker.mvall)))
     return lines
 
 

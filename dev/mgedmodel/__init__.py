@@ -10,7 +10,8 @@ attributes  the seven attributes of a combination
 directory   the named objects and what is kept with them, and their edits
 written     the written text of objects, and of all
 listings    the listings of trees
-shots       the regions of names, and the partitions of a ray
+shots       the regions of names, the partitions of a ray, and what it meets first
+pictures    views, the pictures of them, and the overlaps on their rays
 texts       objects, kept attributes and titles as words
 models      a whole model, read of a text
 lines       which command a line is, or why it is none

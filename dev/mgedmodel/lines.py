@@ -1,24 +1,24 @@
-"""Which command a line is, or why it is none: `syntax`, `name W`, `number W`, `view world`, `shape ..`, in this order."""
+"""Which command a line is, or why it is none: `syntax`, `name W`, `number W`, `view ..`, `shape ..`, in this order."""
 
 from collections import namedtuple
 
 from . import attributes
 from .listings import listings_of
+from .pictures import WORLD, View, overlap_report, picture
 from .refused import Refused, syntax_unless
 from .shots import shot
 from .solids import DIRECTIONS, FARTHEST, Arb8, Half, Ray, Sphere, box_of, placement_of
 from .texts import ANY_NUMBER, read_attr_set, read_put, read_title
 from .words import atom, counts_as_atom, name_at, number, number_at, read_words, text_from
-from .written import written_lines_of
+from .written import text_of, written_lines_of
 
-WORLD = 524_288
 OPERATORS = (b"u", b"+", b"-")
 
 FAULTS_OF_FORM = ("type", "attr", "tree", "name group")  # of the text form, all of which are `syntax` in a script
 
-# What a line asks for: whether it changes the directory; what it does to one, which answers the body's lines; and the name
-# of the file that it puts, the whole directory as a text, if any.
-Command = namedtuple("Command", "is_edit act file", defaults=[None])
+# What a line asks for: whether it changes the directory; and what it does to one, for which it is told how many bytes its body
+# and its files may have. It answers the lines of the body, and the files that are put, each a name and its bytes.
+Command = namedtuple("Command", "is_edit act")
 
 # The count of numbers of each kind of solid, and what makes a solid of them.
 SOLIDS = {
@@ -43,7 +43,11 @@ def of_atoms(read):
 
 
 def edit(act):
-    return Command(True, lambda directory: act(directory) or [])
+    return Command(True, lambda directory, room: (act(directory) or [], []))
+
+
+def query(find):
+    return Command(False, lambda directory, room: (find(directory), []))
 
 
 def names_from(atoms, *places):
@@ -142,7 +146,7 @@ def read_cattr(line, words, end):
 
 def read_ls(atoms):
     syntax_unless(len(atoms) == 1)
-    return Command(False, lambda directory: directory.listing())
+    return query(lambda directory: directory.listing())
 
 
 def of_names(find):
@@ -151,7 +155,7 @@ def of_names(find):
     def read(atoms):
         syntax_unless(len(atoms) > 1)
         names = names_from(atoms, *range(2, len(atoms) + 1))
-        return Command(False, lambda directory: find(directory, names))
+        return query(lambda directory: find(directory, names))
 
     return of_atoms(read)
 
@@ -159,7 +163,7 @@ def of_names(find):
 def read_save(atoms):
     syntax_unless(len(atoms) == 2)
     file = name_at(atoms, 2)
-    return Command(False, lambda directory: [f"saved {file}"], file)
+    return Command(False, lambda directory, room: ([f"saved {file}"], [(file, text_of(directory))]))
 
 
 def read_nirt(atoms):
@@ -169,7 +173,30 @@ def read_nirt(atoms):
     if any(abs(part) > WORLD for part in start):
         raise Refused("view world")
     ray = Ray(start, DIRECTIONS[atoms[4].decode()])
-    return Command(False, lambda directory: shot(directory, ray, names))
+    return query(lambda directory: shot(directory, ray, names))
+
+
+def read_rt(atoms):
+    syntax_unless(len(atoms) > 9 and atoms[2].decode("latin-1") in DIRECTIONS)
+    file, *names = names_from(atoms, 2, *range(10, len(atoms) + 1))
+    view = view_at(atoms, 3)
+    return Command(False, lambda directory, room: picture(directory, file, view, names, room))
+
+
+def read_rtcheck(atoms):
+    syntax_unless(len(atoms) > 8 and atoms[1].decode("latin-1") in DIRECTIONS)
+    names = names_from(atoms, *range(9, len(atoms) + 1))
+    view = view_at(atoms, 2)
+    return query(lambda directory: overlap_report(directory, view, names))
+
+
+def view_at(atoms, place):
+    """The view of the words from this one on: its direction, its corner, its cell, its columns and its rows."""
+    corner = tuple(number_at(atoms, place + axis, ANY_NUMBER) for axis in (1, 2, 3))
+    cell, width, height = (number_at(atoms, place + 4 + part, ANY_NUMBER, 0) for part in range(3))
+    view = View(corner, DIRECTIONS[atoms[place - 1].decode()], cell, width, height)
+    view.refuse_faulty()
+    return view
 
 
 READERS = {
@@ -189,4 +216,6 @@ READERS = {
     b"tree": of_names(listings_of),
     b"save": of_atoms(read_save),
     b"nirt": of_atoms(read_nirt),
+    b"rt": of_atoms(read_rt),
+    b"rtcheck": of_atoms(read_rtcheck),
 }

@@ -7,7 +7,6 @@ from .directory import Directory
 from .lines import read_line
 from .listings import MOST_USED
 from .refused import Refused
-from .written import text_of
 
 MOST_BYTES = 4_194_304
 MOST_LINES = 65_536
@@ -77,8 +76,7 @@ def run(script, directory=None):
         label = f"{number}.{session.count + 1}"
         try:
             command = read_line(line)
-            body = command.act(directory)
-            put = [(command.file, text_of(directory))] if command.file else []
+            body, put = command.act(directory, MOST_USED - session.used)
             size = sum(len(text) + 1 for text in body) + sum(len(text) for _, text in put)
             if session.used + size > MOST_USED:
                 raise Refused("quota")

@@ -11,8 +11,11 @@ FARTHEST = 16_384  # of a solid's numbers, and of a shift
 DIRECTIONS = {"+x": (1, 0, 0), "-x": (-1, 0, 0), "+y": (0, 1, 0), "-y": (0, -1, 0), "+z": (0, 0, 1), "-z": (0, 0, -1)}
 FACES = ((1, 2, 3, 4), (5, 6, 7, 8), (1, 2, 6, 5), (2, 3, 7, 6), (3, 4, 8, 7), (4, 1, 5, 8))
 
+BRIGHTEST = 255
+
 Ray = namedtuple("Ray", "start along")
 Plane = namedtuple("Plane", "normal d")  # it holds the points p with normal * p at most d
+Part = namedtuple("Part", "start end start_face end_face")  # what a solid has of a ray; the face is 0 at an end of the ray
 
 
 def dot(a, b):
@@ -64,18 +67,34 @@ def held_inside(plane):
     return next(part for part in plane.normal if part != 0) < 0
 
 
+def part_between(entered, left):
+    """The part from the last place where a face is entered to the first where one is left, or None. Both are pairs of a place
+    and a face; of the faces at one place the lowest counts."""
+    start = max([Position(0), *(place for place, _ in entered)])
+    end = min([Position(RAY_LENGTH), *(place for place, _ in left)])
+    face_at = lambda end, crossed: min((face for place, face in crossed if place == end), default=0)
+    return Part(start, end, face_at(start, entered), face_at(end, left)) if start < end else None
+
+
 def part_in_planes(planes, ray):
-    """The start and the end of a ray's part that all planes hold, or None."""
-    start, end = Position(0), Position(RAY_LENGTH)
-    for plane in planes:
+    """The part of a ray that all planes hold, which stand by the numbers of their faces, or None."""
+    entered, left = [], []
+    for face, plane in planes.items():
         slope, room = dot(plane.normal, ray.along), plane.d - dot(plane.normal, ray.start)
-        if slope > 0:
-            end = min(end, Position(Fraction(room, slope)))
-        elif slope < 0:
-            start = max(start, Position(Fraction(room, slope)))
+        if slope != 0:
+            (left if slope > 0 else entered).append((Position(Fraction(room, slope)), face))
         elif room < 0 or room == 0 and not held_inside(plane):
             return None
-    return (start, end) if start < end else None
+    return part_between(entered, left)
+
+
+def brightness(square):
+    """The level of a face, from the square of the cosine between the ray and the face's normal."""
+    return 55 + 200 * square.numerator // square.denominator
+
+
+def level_of_plane(plane, ray):
+    return brightness(Fraction(dot(plane.normal, ray.along) ** 2, dot(plane.normal, plane.normal)))
 
 
 class Half:
@@ -87,9 +106,15 @@ class Half:
     def written(self):
         return f"half N {group(self.plane.normal)} d {self.plane.d}"
 
-    def part(self, placement, ray):
+    def planes(self, placement):
         normal = placement.turned(self.plane.normal)
-        return part_in_planes([Plane(normal, self.plane.d + dot(normal, placement.shift))], ray)
+        return {1: Plane(normal, self.plane.d + dot(normal, placement.shift))}
+
+    def part(self, placement, ray):
+        return part_in_planes(self.planes(placement), ray)
+
+    def level(self, placement, face, ray):
+        return level_of_plane(self.planes(placement)[face], ray) if face else BRIGHTEST
 
 
 class Sphere:
@@ -101,14 +126,18 @@ class Sphere:
     def written(self):
         return f"sph V {group(self.centre)} r {self.radius}"
 
-    def part(self, placement, ray):
+    def crossed(self, placement, ray):
+        """Where the ray is nearest to the centre, and the square of half of what it has of the sphere, over 0 where it has any."""
         to_centre = less(placement.placed(self.centre), ray.start)
         nearest = dot(to_centre, ray.along)
-        k = self.radius**2 - (dot(to_centre, to_centre) - nearest**2)
-        if k <= 0:
-            return None
-        start, end = max(Position(0), Position(nearest, -1, k)), min(Position(RAY_LENGTH), Position(nearest, 1, k))
-        return (start, end) if start < end else None
+        return nearest, self.radius**2 - (dot(to_centre, to_centre) - nearest**2)
+
+    def part(self, placement, ray):
+        nearest, k = self.crossed(placement, ray)
+        return part_between([(Position(nearest, -1, k), 1)], [(Position(nearest, 1, k), 1)]) if k > 0 else None
+
+    def level(self, placement, face, ray):
+        return brightness(Fraction(self.crossed(placement, ray)[1], self.radius**2)) if face else BRIGHTEST
 
 
 class Arb8:
@@ -128,10 +157,17 @@ class Arb8:
     def written(self):
         return "arb8 " + " ".join(f"V{number} {group(vertex)}" for number, vertex in enumerate(self.vertices, 1))
 
-    def part(self, placement, ray):
+    def planes(self, placement):
+        """Of the faces 1 to 6, those that have a plane, and of 7 to 12, the sides of the box of the vertices."""
         vertices = [placement.placed(vertex) for vertex in self.vertices]
-        planes = [plane for plane in (plane_of(vertices, face) for face in range(6)) if plane]
-        return part_in_planes(planes + box_sides(vertices), ray)
+        sides = [plane_of(vertices, face) for face in range(6)] + box_sides(vertices)
+        return {face: plane for face, plane in enumerate(sides, 1) if plane}
+
+    def part(self, placement, ray):
+        return part_in_planes(self.planes(placement), ray)
+
+    def level(self, placement, face, ray):
+        return level_of_plane(self.planes(placement)[face], ray) if face else BRIGHTEST
 
 
 def box_of(numbers):

@@ -104,9 +104,9 @@ def name_at(atoms, place):
     return found
 
 
-def number_at(atoms, place, size):
-    """The number from -size to size that the word of this number is."""
-    found = number(atoms[place - 1], -size, size)
+def number_at(atoms, place, most, least=None):
+    """The number that the word of this number is, from the least, else the most with the other sign, to the most."""
+    found = number(atoms[place - 1], -most if least is None else least, most)
     if found is None:
         raise Refused(f"number {place}")
     return found

@@ -2,84 +2,68 @@
 use Rattle.std.proofs.Common.{◌↔◌, ℤ, pos, ◌*ℤ◌, ◌<ℤ◌, arith, inl, inr, subst, sym}
 use Rattle.std.proofs.lemmas.Int.{ints}
 use Rattle.lattice_core.specs.declared.vector.V3.{V3}
-use Rattle.lattice_core.specs.declared.boxes.Side.{Side}
+use Rattle.lattice_core.specs.declared.extent.Extent.{Extent}
 use Rattle.lattice_core.specs.declared.boxes.Box3.{Box3}
 use Rattle.lattice_core.specs.declared.boxes.Box3.TheVariants.{Empty, Span}
-use Rattle.lattice_core.specs.Boxes.{IsBetween, HasPoint, HasSome, IsTidy, IsInside, IsHull, IsMeet, Meets}
-use Rattle.lattice_core.specs.Extents.{IsOrdered, hull_low, hull_high}
+use Rattle.lattice_core.specs.Boxes.{HasPoint, HasSome, IsTidy, IsInside, IsHull, IsMeet, Meets}
 use Rattle.lattice_core.specs.Spans.{IsNonEmpty, IsTidyOf, hull_span, meet_span}
-use Rattle.lattice_core.proofs.Extending.{ordered, seen, seen_between, from_hull_first, from_hull_second, up_to_hull_first, up_to_hull_second, from_meet, up_to_meet, least_from, least_up_to}
+use Rattle.lattice_core.proofs.Extending.{ordered, seen, seen_between, ExtentInside, hull_holds_first, hull_holds_second, hull_is_least, meet_shares}
 
 pub point_ordered : (b : Box3) (v : V3) (w : ℤ) → pos 0 <ℤ w → HasPoint b v w → IsNonEmpty b
 point_ordered Empty v w some h = h
-point_ordered (Span xlo xhi ylo yhi zlo zhi) v w some h =
-    (ordered xlo xhi v.x w some h.0, ordered ylo yhi v.y w some h.1, ordered zlo zhi v.z w some h.2)
+point_ordered (Span x y z) v w some h = (ordered x v.x w some h.0, ordered y v.y w some h.1, ordered z v.z w some h.2)
 
 pub nonempty_some : (b : Box3) → IsNonEmpty b → HasSome b
 nonempty_some Empty h = absurd h
-nonempty_some (Span xlo xhi ylo yhi zlo zhi) h =
+nonempty_some (Span x y z) h =
     let one : pos 0 <ℤ pos 1 = omega (arith, ints) in
     record {
-      v = record { x = seen xlo xhi *ℤ pos 1; y = seen ylo yhi *ℤ pos 1; z = seen zlo zhi *ℤ pos 1 };
+      v = record { x = seen x *ℤ pos 1; y = seen y *ℤ pos 1; z = seen z *ℤ pos 1 };
       w = pos 1;
       positive = one;
-      inside = (seen_between xlo xhi (pos 1) one h.0, seen_between ylo yhi (pos 1) one h.1, seen_between zlo zhi (pos 1) one h.2);
+      inside = (seen_between x (pos 1) one h.0, seen_between y (pos 1) one h.1, seen_between z (pos 1) one h.2);
     }
 
 pub hull_first : (a b : Box3) → IsNonEmpty b → IsInside a (hull_span a b)
 hull_first Empty b q = λ v w some h. absurd h
-hull_first (Span xlo xhi ylo yhi zlo zhi) Empty q = λ v w some h. absurd q
-hull_first (Span xlo xhi ylo yhi zlo zhi) (Span xlo' xhi' ylo' yhi' zlo' zhi') q = λ v w some h. (
-  (from_hull_first xlo xlo' v.x w some h.0.0, up_to_hull_first xhi xhi' v.x w some h.0.1),
-  (from_hull_first ylo ylo' v.y w some h.1.0, up_to_hull_first yhi yhi' v.y w some h.1.1),
-  (from_hull_first zlo zlo' v.z w some h.2.0, up_to_hull_first zhi zhi' v.z w some h.2.1),
+hull_first (Span x y z) Empty q = λ v w some h. absurd q
+hull_first (Span x y z) (Span x' y' z') q = λ v w some h. (
+  hull_holds_first x x' v.x w some h.0,
+  hull_holds_first y y' v.y w some h.1,
+  hull_holds_first z z' v.z w some h.2,
 )
 
 pub hull_second : (a b : Box3) → IsNonEmpty a → IsInside b (hull_span a b)
 hull_second Empty b p = λ v w some h. absurd p
-hull_second (Span xlo xhi ylo yhi zlo zhi) Empty p = λ v w some h. absurd h
-hull_second (Span xlo xhi ylo yhi zlo zhi) (Span xlo' xhi' ylo' yhi' zlo' zhi') p = λ v w some h. (
-  (from_hull_second xlo xlo' v.x w some h.0.0, up_to_hull_second xhi xhi' v.x w some h.0.1),
-  (from_hull_second ylo ylo' v.y w some h.1.0, up_to_hull_second yhi yhi' v.y w some h.1.1),
-  (from_hull_second zlo zlo' v.z w some h.2.0, up_to_hull_second zhi zhi' v.z w some h.2.1),
+hull_second (Span x y z) Empty p = λ v w some h. absurd h
+hull_second (Span x y z) (Span x' y' z') p = λ v w some h. (
+  hull_holds_second x x' v.x w some h.0,
+  hull_holds_second y y' v.y w some h.1,
+  hull_holds_second z z' v.z w some h.2,
 )
 
--- an inclusion of boxes, axis by axis
-abbrev AxisInside : Side → Side → Side → Side → Type 0
-AxisInside low high low' high' = (x w : ℤ) → pos 0 <ℤ w → IsBetween low high x w → IsBetween low' high' x w
-
-inside_x : (xlo xhi ylo yhi zlo zhi xlo' xhi' ylo' yhi' zlo' zhi' : Side) → IsNonEmpty (Span xlo xhi ylo yhi zlo zhi)
-    → IsInside (Span xlo xhi ylo yhi zlo zhi) (Span xlo' xhi' ylo' yhi' zlo' zhi') → AxisInside xlo xhi xlo' xhi'
-inside_x xlo xhi ylo yhi zlo zhi xlo' xhi' ylo' yhi' zlo' zhi' p f = λ x w some h.
-    (f (record { x = x; y = seen ylo yhi *ℤ w; z = seen zlo zhi *ℤ w }) w some (h, seen_between ylo yhi w some p.1, seen_between zlo zhi w some p.2)).0
-
-inside_y : (xlo xhi ylo yhi zlo zhi xlo' xhi' ylo' yhi' zlo' zhi' : Side) → IsNonEmpty (Span xlo xhi ylo yhi zlo zhi)
-    → IsInside (Span xlo xhi ylo yhi zlo zhi) (Span xlo' xhi' ylo' yhi' zlo' zhi') → AxisInside ylo yhi ylo' yhi'
-inside_y xlo xhi ylo yhi zlo zhi xlo' xhi' ylo' yhi' zlo' zhi' p f = λ x w some h.
-    (f (record { x = seen xlo xhi *ℤ w; y = x; z = seen zlo zhi *ℤ w }) w some (seen_between xlo xhi w some p.0, h, seen_between zlo zhi w some p.2)).1
-
-inside_z : (xlo xhi ylo yhi zlo zhi xlo' xhi' ylo' yhi' zlo' zhi' : Side) → IsNonEmpty (Span xlo xhi ylo yhi zlo zhi)
-    → IsInside (Span xlo xhi ylo yhi zlo zhi) (Span xlo' xhi' ylo' yhi' zlo' zhi') → AxisInside zlo zhi zlo' zhi'
-inside_z xlo xhi ylo yhi zlo zhi xlo' xhi' ylo' yhi' zlo' zhi' p f = λ x w some h.
-    (f (record { x = seen xlo xhi *ℤ w; y = seen ylo yhi *ℤ w; z = x }) w some (seen_between xlo xhi w some p.0, seen_between ylo yhi w some p.1, h)).2
-
-axis_least : (la ha lb hb lo ho : Side) → IsOrdered la ha → IsOrdered lb hb → AxisInside la ha lo ho → AxisInside lb hb lo ho → AxisInside (hull_low la lb) (hull_high ha hb) lo ho
-axis_least la ha lb hb lo ho p q f g = λ x w some h. (
-  least_from la ha lb hb lo p q (λ y u s k. (f y u s k).0) (λ y u s k. (g y u s k).0) x w some h.0,
-  least_up_to la ha lb hb ho p q (λ y u s k. (f y u s k).1) (λ y u s k. (g y u s k).1) x w some h.1,
+-- where a box with points lies inside another, so do its extents
+pub extents_inside : (x y z x' y' z' : Extent) → IsNonEmpty (Span x y z) → IsInside (Span x y z) (Span x' y' z') → ExtentInside x x' × ExtentInside y y' × ExtentInside z z'
+extents_inside x y z x' y' z' p f = (
+  λ k w some h. (f (record { x = k; y = seen y *ℤ w; z = seen z *ℤ w }) w some (h, seen_between y w some p.1, seen_between z w some p.2)).0,
+  λ k w some h. (f (record { x = seen x *ℤ w; y = k; z = seen z *ℤ w }) w some (seen_between x w some p.0, h, seen_between z w some p.2)).1,
+  λ k w some h. (f (record { x = seen x *ℤ w; y = seen y *ℤ w; z = k }) w some (seen_between x w some p.0, seen_between y w some p.1, h)).2,
 )
 
 pub hull_least : (a b : Box3) → IsNonEmpty a → IsNonEmpty b → (other : Box3) → IsInside a other → IsInside b other → IsInside (hull_span a b) other
 hull_least Empty b p q other f g = absurd p
-hull_least (Span xlo xhi ylo yhi zlo zhi) Empty p q other f g = absurd q
-hull_least (Span xlo xhi ylo yhi zlo zhi) (Span xlo' xhi' ylo' yhi' zlo' zhi') p q Empty f g =
-    let some = nonempty_some (Span xlo xhi ylo yhi zlo zhi) p in
+hull_least (Span x y z) Empty p q other f g = absurd q
+hull_least (Span x y z) (Span x' y' z') p q Empty f g =
+    let some = nonempty_some (Span x y z) p in
     absurd (f some.v some.w some.positive some.inside)
-hull_least (Span xlo xhi ylo yhi zlo zhi) (Span xlo' xhi' ylo' yhi' zlo' zhi') p q (Span u1 u2 u3 u4 u5 u6) f g = λ v w some h. (
-  axis_least xlo xhi xlo' xhi' u1 u2 p.0 q.0 (inside_x xlo xhi ylo yhi zlo zhi u1 u2 u3 u4 u5 u6 p f) (inside_x xlo' xhi' ylo' yhi' zlo' zhi' u1 u2 u3 u4 u5 u6 q g) v.x w some h.0,
-  axis_least ylo yhi ylo' yhi' u3 u4 p.1 q.1 (inside_y xlo xhi ylo yhi zlo zhi u1 u2 u3 u4 u5 u6 p f) (inside_y xlo' xhi' ylo' yhi' zlo' zhi' u1 u2 u3 u4 u5 u6 q g) v.y w some h.1,
-  axis_least zlo zhi zlo' zhi' u5 u6 p.2 q.2 (inside_z xlo xhi ylo yhi zlo zhi u1 u2 u3 u4 u5 u6 p f) (inside_z xlo' xhi' ylo' yhi' zlo' zhi' u1 u2 u3 u4 u5 u6 q g) v.z w some h.2,
-)
+hull_least (Span x y z) (Span x' y' z') p q (Span u v w) f g =
+    let first = extents_inside x y z u v w p f in
+    let second = extents_inside x' y' z' u v w q g in
+    λ t n some h. (
+      hull_is_least x x' u p.0 q.0 first.0 second.0 t.x n some h.0,
+      hull_is_least y y' v p.1 q.1 first.1 second.1 t.y n some h.1,
+      hull_is_least z z' w p.2 q.2 first.2 second.2 t.z n some h.2,
+    )
 
 pub hull_is : (a b : Box3) → IsNonEmpty a → IsNonEmpty b → IsHull (hull_span a b) a b
 hull_is a b p q = record { first = hull_first a b q; second = hull_second a b p; least = hull_least a b p q }
@@ -113,23 +97,13 @@ hull_none a b p q = record {
 
 pub meet_is : (a b : Box3) → IsMeet (meet_span a b) a b
 meet_is Empty b = λ v w some. (λ h. absurd h, λ h. h.0)
-meet_is (Span xlo xhi ylo yhi zlo zhi) Empty = λ v w some. (λ h. absurd h, λ h. h.1)
-meet_is (Span xlo xhi ylo yhi zlo zhi) (Span xlo' xhi' ylo' yhi' zlo' zhi') = λ v w some.
-    let x1 = from_meet xlo xlo' v.x w some in
-    let x2 = up_to_meet xhi xhi' v.x w some in
-    let y1 = from_meet ylo ylo' v.y w some in
-    let y2 = up_to_meet yhi yhi' v.y w some in
-    let z1 = from_meet zlo zlo' v.z w some in
-    let z2 = up_to_meet zhi zhi' v.z w some in (
-      λ (x, y, z). (
-        (((x1.0 x.0).0, (x2.0 x.1).0), ((y1.0 y.0).0, (y2.0 y.1).0), ((z1.0 z.0).0, (z2.0 z.1).0)),
-        (((x1.0 x.0).1, (x2.0 x.1).1), ((y1.0 y.0).1, (y2.0 y.1).1), ((z1.0 z.0).1, (z2.0 z.1).1)),
-      ),
-      λ (a, b). (
-        (x1.1 (a.0.0, b.0.0), x2.1 (a.0.1, b.0.1)),
-        (y1.1 (a.1.0, b.1.0), y2.1 (a.1.1, b.1.1)),
-        (z1.1 (a.2.0, b.2.0), z2.1 (a.2.1, b.2.1)),
-      ),
+meet_is (Span x y z) Empty = λ v w some. (λ h. absurd h, λ h. h.1)
+meet_is (Span x y z) (Span x' y' z') = λ v w some.
+    let in_x = meet_shares x x' v.x w some in
+    let in_y = meet_shares y y' v.y w some in
+    let in_z = meet_shares z z' v.z w some in (
+      λ h. (((in_x.0 h.0).0, (in_y.0 h.1).0, (in_z.0 h.2).0), ((in_x.0 h.0).1, (in_y.0 h.1).1, (in_z.0 h.2).1)),
+      λ h. (in_x.1 (h.0.0, h.1.0), in_y.1 (h.0.1, h.1.1), in_z.1 (h.0.2, h.1.2)),
     )
 
 pub meet_none : (a b : Box3) → ¬ IsNonEmpty (meet_span a b) → IsMeet Empty a b

@@ -3,8 +3,8 @@ pub mod Turning
 pub mod Placing
 pub mod Extending
 pub mod Boxing
-pub mod Meeting
 pub mod Reaching
+pub mod Meeting
 pub mod Viewing
 pub mod Tiling
 pub mod TileBoxes

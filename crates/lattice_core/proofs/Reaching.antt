@@ -6,20 +6,19 @@ use Rattle.lattice_core.specs.declared.ray.Dir.{Dir}
 use Rattle.lattice_core.specs.declared.ray.Dir.TheVariants.{PlusX, MinusX, PlusY, MinusY, PlusZ, MinusZ}
 use Rattle.lattice_core.specs.declared.ray.Ray.{Ray}
 use Rattle.lattice_core.specs.declared.limit.TheConstants.{FAR}
-use Rattle.lattice_core.specs.declared.boxes.Side.{Side}
-use Rattle.lattice_core.specs.declared.boxes.Side.TheVariants.{At}
+use Rattle.lattice_core.specs.declared.extent.Extent.{Extent}
 use Rattle.lattice_core.specs.declared.boxes.Box3.TheVariants.{Span}
 use Rattle.lattice_core.specs.Units.{unit_of}
 use Rattle.lattice_core.specs.Rays.{IsOnRay}
 use Rattle.lattice_core.specs.Boxes.{IsBetween, IsRayBox}
-use Rattle.lattice_core.specs.Extents.{reach_low, reach_high}
+use Rattle.lattice_core.specs.Extents.{reach_low, reach_high, reach_extent}
 use Rattle.lattice_core.specs.Spans.{reach_span}
 use Rattle.lattice_core.proofs.Products.{add_mul}
 use Rattle.lattice_core.proofs.Turning.{vector_same}
 
 -- a coordinate of the points of a ray, by the step along its axis
 abbrev Reaches : ℤ → ℤ → ℤ → ℤ → Type 0
-Reaches o step x w = IsBetween (At (reach_low o step)) (At (reach_high o step)) x w
+Reaches o step x w = IsBetween (reach_extent o step) x w
 
 abbrev IsCoordinate : ℤ → ℤ → ℤ → ℤ → ℤ → Type 0
 IsCoordinate o step p x w = x ≡ (o *ℤ w) +ℤ (step *ℤ p)
@@ -149,5 +148,5 @@ reach_is_at o MinusZ = λ v w some. (
 pub reach_is : (ray : Ray) → IsRayBox (reach_span ray.origin (unit_of ray.dir)) ray
 reach_is ray = reach_is_at ray.origin ray.dir
 
-pub spans_same : {a b c d e f a' b' c' d' e' f' : Side} → a ≡ a' → b ≡ b' → c ≡ c' → d ≡ d' → e ≡ e' → f ≡ f' → Span a b c d e f ≡ Span a' b' c' d' e' f'
-spans_same p q r s t u = cc
+pub spans_same : {x y z x' y' z' : Extent} → x ≡ x' → y ≡ y' → z ≡ z' → Span x y z ≡ Span x' y' z'
+spans_same p q r = cc

@@ -7,11 +7,12 @@ use Rattle.lattice_core.specs.declared.ray.Ray.{Ray}
 use Rattle.lattice_core.specs.declared.view.View.{View}
 use Rattle.lattice_core.specs.declared.boxes.Side.{Side}
 use Rattle.lattice_core.specs.declared.boxes.Side.TheVariants.{Open, At}
+use Rattle.lattice_core.specs.declared.extent.Extent.{Extent}
 use Rattle.lattice_core.specs.declared.boxes.Box3.{Box3}
 use Rattle.lattice_core.specs.declared.boxes.Box3.TheVariants.{Empty, Span}
 use Rattle.lattice_core.specs.Units.{unit_of}
 use Rattle.lattice_core.specs.Rays.{scaled_point}
-use Rattle.lattice_core.specs.Boxes.{IsFrom, IsUpTo, HasPoint, IsInside, IsHull, Meets, MeetsRay, IsRayBox}
+use Rattle.lattice_core.specs.Boxes.{IsFrom, IsUpTo, IsBetween, HasPoint, IsInside, IsHull, Meets, MeetsRay, IsRayBox}
 use Rattle.lattice_core.specs.Views.{pixel_ray}
 use Rattle.lattice_core.specs.Tiles.{span_of, IsPartOf, IsIn, HasRaysOf, IsTileBox, MeetsTile}
 use Rattle.lattice_core.proofs.Products.{mul_at_most}
@@ -26,12 +27,15 @@ up_to_amid : (side : Side) (a x b w : ℤ) → IsAmid a x b → IsUpTo side a w 
 up_to_amid Open a x b w m p q = tt
 up_to_amid (At l) a x b w m p q = omega (arith, ints, m, p, q)
 
+extent_amid : (e : Extent) (a x b w : ℤ) → IsAmid a x b → IsBetween e a w → IsBetween e b w → IsBetween e x w
+extent_amid e a x b w m p q = (from_amid e.low a x b w m p.0 q.0, up_to_amid e.high a x b w m p.1 q.1)
+
 point_amid : (b : Box3) (u v t : V3) (w : ℤ) → AreAmid u v t → HasPoint b u w → HasPoint b t w → HasPoint b v w
 point_amid Empty u v t w m p q = p
-point_amid (Span xlo xhi ylo yhi zlo zhi) u v t w m p q = (
-  (from_amid xlo u.x v.x t.x w m.x p.0.0 q.0.0, up_to_amid xhi u.x v.x t.x w m.x p.0.1 q.0.1),
-  (from_amid ylo u.y v.y t.y w m.y p.1.0 q.1.0, up_to_amid yhi u.y v.y t.y w m.y p.1.1 q.1.1),
-  (from_amid zlo u.z v.z t.z w m.z p.2.0 q.2.0, up_to_amid zhi u.z v.z t.z w m.z p.2.1 q.2.1),
+point_amid (Span x y z) u v t w m p q = (
+  extent_amid x u.x v.x t.x w m.x p.0 q.0,
+  extent_amid y u.y v.y t.y w m.y p.1 q.1,
+  extent_amid z u.z v.z t.z w m.z p.2 q.2,
 )
 
 -- points of three rays of one direction, at one fraction

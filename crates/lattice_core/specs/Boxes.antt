@@ -3,6 +3,7 @@ use Rattle.std.specs.Prelude.{◌≡◌, ◌↔◌, ◌⊎◌, ℤ, pos, ◌*ℤ
 use Rattle.lattice_core.specs.declared.vector.V3.{V3}
 use Rattle.lattice_core.specs.declared.boxes.Side.{Side}
 use Rattle.lattice_core.specs.declared.boxes.Side.TheVariants.{Open, At}
+use Rattle.lattice_core.specs.declared.extent.Extent.{Extent}
 use Rattle.lattice_core.specs.declared.boxes.Box3.{Box3}
 use Rattle.lattice_core.specs.declared.boxes.Box3.TheVariants.{Empty, Span}
 use Rattle.lattice_core.specs.declared.ray.Ray.{Ray}
@@ -18,13 +19,14 @@ abbrev pub IsUpTo : Side → ℤ → ℤ → Type 0
 IsUpTo Open x w = Unit {0}
 IsUpTo (At high) x w = x ≤ℤ (high *ℤ w)
 
-abbrev pub IsBetween : Side → Side → ℤ → ℤ → Type 0
-IsBetween low high x w = IsFrom low x w × IsUpTo high x w
+-- x / w lies in the extent, between its sides
+abbrev pub IsBetween : Extent → ℤ → ℤ → Type 0
+IsBetween extent x w = IsFrom extent.low x w × IsUpTo extent.high x w
 
--- the box has the point v / w
+-- the box has the point v / w: its three coordinates lie in the box's extents
 abbrev pub HasPoint : Box3 → V3 → ℤ → Type 0
 HasPoint Empty v w = ⊥
-HasPoint (Span xlo xhi ylo yhi zlo zhi) v w = IsBetween xlo xhi v.x w × IsBetween ylo yhi v.y w × IsBetween zlo zhi v.z w
+HasPoint (Span x y z) v w = IsBetween x v.x w × IsBetween y v.y w × IsBetween z v.z w
 
 -- the box has some point
 pub record HasSome (b : Box3) : Type 0 where

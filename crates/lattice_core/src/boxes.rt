@@ -6,10 +6,7 @@ ghost use Rattle.lattice_core.specs.Limits.{IsWithin};
 ghost use Rattle.lattice_core.specs.Boxes.{IsHull, IsMeet, IsTidy, Meets, MeetsRay, IsRayBox};
 ghost use Rattle.lattice_core.specs.Spans.{IsNonEmpty, IsTidyOf, hull_span, meet_span, reach_span};
 
-use crate::extent::{
-    greatest_on_ray, hull_high, hull_low, is_ordered, least_on_ray, meet_high, meet_low,
-    meets_reach,
-};
+use crate::extent::Extent;
 use crate::ray::Ray;
 use crate::vector::V3;
 
@@ -20,19 +17,12 @@ pub enum Side {
     At(i64),
 }
 
-/// A closed box along the axes, without points or with six sides. A span of which a low side lies beyond the high one
-/// has no points either.
+/// A closed box along the axes: it has no points, or those of which the three coordinates lie in its extents. A span of which
+/// an extent has no coordinates has no points either.
 #[derive(Clone, Copy, Debug, PartialEq, Eq, Hash)]
 pub enum Box3 {
     Empty,
-    Span {
-        xlo: Side,
-        xhi: Side,
-        ylo: Side,
-        yhi: Side,
-        zlo: Side,
-        zhi: Side,
-    },
+    Span { x: Extent, y: Extent, z: Extent },
 }
 
 /// The least box that holds the points of two.
@@ -56,29 +46,16 @@ fn hull_of_spans(a: &Box3, b: &Box3) -> Box3
 {
     match (*a, *b) {
         (
+            Box3::Span { x, y, z },
             Box3::Span {
-                xlo,
-                xhi,
-                ylo,
-                yhi,
-                zlo,
-                zhi,
-            },
-            Box3::Span {
-                xlo: xlo_2,
-                xhi: xhi_2,
-                ylo: ylo_2,
-                yhi: yhi_2,
-                zlo: zlo_2,
-                zhi: zhi_2,
+                x: x_2,
+                y: y_2,
+                z: z_2,
             },
         ) => Box3::Span {
-            xlo: hull_low(xlo, xlo_2),
-            xhi: hull_high(xhi, xhi_2),
-            ylo: hull_low(ylo, ylo_2),
-            yhi: hull_high(yhi, yhi_2),
-            zlo: hull_low(zlo, zlo_2),
-            zhi: hull_high(zhi, zhi_2),
+            x: x.hull(x_2),
+            y: y.hull(y_2),
+            z: z.hull(z_2),
         },
         _ => Box3::Empty,
     }
@@ -97,29 +74,16 @@ fn meet_of_spans(a: &Box3, b: &Box3) -> Box3
 {
     match (*a, *b) {
         (
+            Box3::Span { x, y, z },
             Box3::Span {
-                xlo,
-                xhi,
-                ylo,
-                yhi,
-                zlo,
-                zhi,
-            },
-            Box3::Span {
-                xlo: xlo_2,
-                xhi: xhi_2,
-                ylo: ylo_2,
-                yhi: yhi_2,
-                zlo: zlo_2,
-                zhi: zhi_2,
+                x: x_2,
+                y: y_2,
+                z: z_2,
             },
         ) => Box3::Span {
-            xlo: meet_low(xlo, xlo_2),
-            xhi: meet_high(xhi, xhi_2),
-            ylo: meet_low(ylo, ylo_2),
-            yhi: meet_high(yhi, yhi_2),
-            zlo: meet_low(zlo, zlo_2),
-            zhi: meet_high(zhi, zhi_2),
+            x: x.meet(x_2),
+            y: y.meet(y_2),
+            z: z.meet(z_2),
         },
         _ => Box3::Empty,
     }
@@ -146,12 +110,9 @@ fn reach_of(origin: V3, step: V3) -> Box3
     ensures { result ≡ reach_span origin step }
 {
     Box3::Span {
-        xlo: least_on_ray(origin.x, step.x),
-        xhi: greatest_on_ray(origin.x, step.x),
-        ylo: least_on_ray(origin.y, step.y),
-        yhi: greatest_on_ray(origin.y, step.y),
-        zlo: least_on_ray(origin.z, step.z),
-        zhi: greatest_on_ray(origin.z, step.z),
+        x: Extent::of_ray(origin.x, step.x),
+        y: Extent::of_ray(origin.y, step.y),
+        z: Extent::of_ray(origin.z, step.z),
     }
 }
 
@@ -160,25 +121,17 @@ pub fn box_meets_ray(b: &Box3, ray: &Ray) -> bool
     requires { IsWithin WORLD ray.now.origin }
     ensures { IsTrue result ↔ MeetsRay b.now ray.now }
 {
-    let Box3::Span {
-        xlo,
-        xhi,
-        ylo,
-        yhi,
-        zlo,
-        zhi,
-    } = *b
-    else {
+    let Box3::Span { x, y, z } = *b else {
         return false;
     };
     let step = ray.dir.unit();
-    if !meets_reach(xlo, xhi, ray.origin.x, step.x) {
+    if !x.meets_ray(ray.origin.x, step.x) {
         return false;
     }
-    if !meets_reach(ylo, yhi, ray.origin.y, step.y) {
+    if !y.meets_ray(ray.origin.y, step.y) {
         return false;
     }
-    meets_reach(zlo, zhi, ray.origin.z, step.z)
+    z.meets_ray(ray.origin.z, step.z)
 }
 
 fn has_points(b: &Box3) -> bool
@@ -186,18 +139,11 @@ fn has_points(b: &Box3) -> bool
 {
     match *b {
         Box3::Empty => false,
-        Box3::Span {
-            xlo,
-            xhi,
-            ylo,
-            yhi,
-            zlo,
-            zhi,
-        } => {
-            let x = is_ordered(xlo, xhi);
-            let y = is_ordered(ylo, yhi);
-            let z = is_ordered(zlo, zhi);
-            x && y && z
+        Box3::Span { x, y, z } => {
+            let in_x = x.is_ordered();
+            let in_y = y.is_ordered();
+            let in_z = z.is_ordered();
+            in_x && in_y && in_z
         }
     }
 }

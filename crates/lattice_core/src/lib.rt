@@ -13,6 +13,7 @@ mod vector;
 mod view;
 
 pub use boxes::{Box3, Side, box_meets_ray, boxes_meet, hull, meet, ray_box};
+pub use extent::Extent;
 pub use limit::{
     COORD, FAR, PICTURE_SIDE, PLACED, REACH, SHIFT, TILE_SIDE, VIEW_NUMBER, WIDE, WORLD, limit_laws,
 };

@@ -4,9 +4,9 @@ ghost use Rattle.std.specs.Prelude.{◌≡◌, All};
 ghost use Rattle.lattice_core.specs.declared.limit.TheConstants.{COORD, PLACED, SHIFT};
 ghost use Rattle.lattice_core.specs.Limits.{IsAtMost, IsWithin};
 ghost use Rattle.lattice_core.specs.Placements.{placed};
-ghost use Rattle.prim_arb8.specs.Bounds.{HoldsVertices, box_of, farthest, low_side, reach_of};
+ghost use Rattle.prim_arb8.specs.Bounds.{HoldsVertices, box_of, extent_along, farthest, reach_of};
 
-use lattice_core::{Box3, Dir, Placement, Side, V3};
+use lattice_core::{Box3, Dir, Extent, Placement, V3};
 
 /// Where the placement takes a vertex.
 fn placed_point(p: V3, by: &Placement) -> V3
@@ -42,13 +42,13 @@ fn farthest(v: &[V3; 8], by: &Placement, dir: Dir) -> i64
     most
 }
 
-/// The side at which the vertices end in a direction against an axis.
-fn low_side(v: &[V3; 8], by: &Placement, dir: Dir) -> Side
+/// How far the vertices that are placed reach along an axis, of which these are the directions down and up.
+fn extent_along(v: &[V3; 8], by: &Placement, down: Dir, up: Dir) -> Extent
     requires points { All (IsWithin COORD) v.now }
     requires shift { IsWithin SHIFT by.now.shift }
-    ensures { result ≡ low_side by.now v.now dir }
+    ensures { result ≡ extent_along by.now v.now down up }
 {
-    Side::At(-farthest(v, by, dir))
+    Extent::between(-farthest(v, by, down), farthest(v, by, up))
 }
 
 /// The least box that holds the vertices where they are placed.
@@ -59,11 +59,8 @@ pub fn bounds_at(v: &[V3; 8], by: &Placement) -> Box3
     ensures holds { HoldsVertices result by.now v.now }
 {
     Box3::Span {
-        xlo: low_side(v, by, Dir::MinusX),
-        xhi: Side::At(farthest(v, by, Dir::PlusX)),
-        ylo: low_side(v, by, Dir::MinusY),
-        yhi: Side::At(farthest(v, by, Dir::PlusY)),
-        zlo: low_side(v, by, Dir::MinusZ),
-        zhi: Side::At(farthest(v, by, Dir::PlusZ)),
+        x: extent_along(v, by, Dir::MinusX, Dir::PlusX),
+        y: extent_along(v, by, Dir::MinusY, Dir::PlusY),
+        z: extent_along(v, by, Dir::MinusZ, Dir::PlusZ),
     }
 }

@@ -4,6 +4,7 @@ use Rattle.lattice_core.specs.declared.limit.TheConstants.{COORD}
 use Rattle.lattice_core.specs.declared.boxes.Box3.{Box3}
 use Rattle.lattice_core.specs.declared.boxes.Box3.TheVariants.{Span}
 use Rattle.lattice_core.specs.declared.boxes.Side.TheVariants.{Open}
+use Rattle.lattice_core.specs.declared.extent.Extent.{Extent}
 use Rattle.lattice_core.specs.declared.vector.V3.{V3}
 use Rattle.lattice_core.specs.Boxes.{HasPoint}
 use Rattle.lattice_core.specs.Limits.{IsAtMost, IsWithin}
@@ -25,9 +26,13 @@ pub record IsHalf (normal : V3) (distance : ℤ) : Type 0 where
 abbrev pub plane_of_half : HalfSpace → Plane
 plane_of_half half = record { n = half.normal; d = half.distance }
 
+-- the extent without sides
+abbrev pub all_of_axis : Extent
+all_of_axis = record { low = Open; high = Open }
+
 -- the box without sides
 abbrev pub all_of_space : Box3
-all_of_space = Span Open Open Open Open Open Open
+all_of_space = Span all_of_axis all_of_axis all_of_axis
 
 -- the box holds every point
 abbrev pub HoldsAll : Box3 → Type 0

@@ -10,7 +10,7 @@ ghost use Rattle.prim_half.specs.Halves.{all_of_space, HoldsAll};
 ghost use Rattle.plane_geom.specs.declared.fault.ShapeFault.{ShapeFault};
 ghost use Rattle.plane_geom.specs.declared.fault.ShapeFault.TheVariants.{ZeroNormal};
 
-use lattice_core::{Box3, Placement, Ray, Side, V3};
+use lattice_core::{Box3, Extent, Placement, Ray, Side, V3};
 use plane_geom::{Crossing, Plane, ShapeFault};
 use std::marker::Model;
 
@@ -116,13 +116,14 @@ pub fn bounds_at() -> Box3
     ensures value { result ≡ all_of_space }
     ensures holds { HoldsAll result }
 {
+    let all = Extent {
+        low: Side::Open,
+        high: Side::Open,
+    };
     Box3::Span {
-        xlo: Side::Open,
-        xhi: Side::Open,
-        ylo: Side::Open,
-        yhi: Side::Open,
-        zlo: Side::Open,
-        zhi: Side::Open,
+        x: all,
+        y: all,
+        z: all,
     }
 }
 

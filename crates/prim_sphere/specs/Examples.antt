@@ -2,8 +2,8 @@
 use Rattle.std.specs.Prelude.{◌≡◌, refl, Some, None, ℤ, pos, negsuc}
 use Rattle.lattice_core.specs.declared.ray.Ray.{Ray}
 use Rattle.lattice_core.specs.declared.ray.Dir.TheVariants.{PlusX}
-use Rattle.lattice_core.specs.declared.boxes.Side.TheVariants.{At}
 use Rattle.lattice_core.specs.declared.boxes.Box3.TheVariants.{Span}
+use Rattle.lattice_core.specs.Extents.{extent_between}
 use Rattle.lattice_core.specs.Vectors.{zero_vector}
 use Rattle.prim_sphere.specs.Spheres.{nearest_on, distance_squared, half_chord_squared, chord_at, level_of, box_of}
 
@@ -38,5 +38,5 @@ level_beside_the_centre = refl
 level_through_the_centre : level_of (record { a = pos 10; k = 25 }) (pos 5) ≡ 255
 level_through_the_centre = refl
 
-box_around : box_of zero_vector (pos 5) ≡ Span (At (negsuc 4)) (At (pos 5)) (At (negsuc 4)) (At (pos 5)) (At (negsuc 4)) (At (pos 5))
+box_around : box_of zero_vector (pos 5) ≡ Span (extent_between (negsuc 4) (pos 5)) (extent_between (negsuc 4) (pos 5)) (extent_between (negsuc 4) (pos 5))
 box_around = refl

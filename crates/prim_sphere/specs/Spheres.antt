@@ -5,10 +5,10 @@ use Rattle.std.specs.Int.RustNames.{unsigned_abs}
 use Rattle.lattice_core.specs.declared.limit.TheConstants.{COORD}
 use Rattle.lattice_core.specs.declared.vector.V3.{V3}
 use Rattle.lattice_core.specs.declared.ray.Ray.{Ray}
-use Rattle.lattice_core.specs.declared.boxes.Side.TheVariants.{At}
 use Rattle.lattice_core.specs.declared.boxes.Box3.{Box3}
 use Rattle.lattice_core.specs.declared.boxes.Box3.TheVariants.{Span}
 use Rattle.lattice_core.specs.Boxes.{HasPoint}
+use Rattle.lattice_core.specs.Extents.{extent_between}
 use Rattle.lattice_core.specs.Limits.{IsWithin}
 use Rattle.lattice_core.specs.Rays.{scaled_point}
 use Rattle.lattice_core.specs.Units.{unit_of}
@@ -91,7 +91,7 @@ pub record IsSmallChord (radius : ℤ) (chord : Chord) : Type 0 where
 
 -- the box from the centre less the radius to the centre and the radius
 abbrev pub box_of : V3 → ℤ → Box3
-box_of c r = Span (At (c.x -ℤ r)) (At (c.x +ℤ r)) (At (c.y -ℤ r)) (At (c.y +ℤ r)) (At (c.z -ℤ r)) (At (c.z +ℤ r))
+box_of c r = Span (extent_between (c.x -ℤ r) (c.x +ℤ r)) (extent_between (c.y -ℤ r) (c.y +ℤ r)) (extent_between (c.z -ℤ r) (c.z +ℤ r))
 
 -- the box holds every point of the sphere
 abbrev pub HoldsPointsOf : V3 → ℤ → Box3 → Type 0

@@ -9,7 +9,7 @@ ghost use Rattle.lattice_core.specs.Vectors.{vector_difference};
 ghost use Rattle.prim_sphere.specs.Spheres.{IsRadius, nearest_on, half_chord_squared, squared, length_squared, chord_at, chord_of, IsSmallChord, HoldsBetween, HoldsOnceAtMost, box_of, HoldsPointsOf, level_of, chord_level};
 
 use crate::limit::REMOTE;
-use lattice_core::{Box3, Ray, Side, V3};
+use lattice_core::{Box3, Extent, Ray, V3};
 
 /// Where a ray runs through a sphere: from `a - √k` to `a + √k` millimetres from its origin, with `k` over 0.
 #[derive(Clone, Copy, Debug, PartialEq, Eq)]
@@ -93,12 +93,9 @@ pub fn bounds_at(centre: V3, radius: i64) -> Box3
     ensures tidy { IsTidy result }
 {
     Box3::Span {
-        xlo: Side::At(centre.x - radius),
-        xhi: Side::At(centre.x + radius),
-        ylo: Side::At(centre.y - radius),
-        yhi: Side::At(centre.y + radius),
-        zlo: Side::At(centre.z - radius),
-        zhi: Side::At(centre.z + radius),
+        x: Extent::between(centre.x - radius, centre.x + radius),
+        y: Extent::between(centre.y - radius, centre.y + radius),
+        z: Extent::between(centre.z - radius, centre.z + radius),
     }
 }
 

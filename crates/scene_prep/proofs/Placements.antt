@@ -11,9 +11,10 @@ use Rattle.lattice_core.specs.declared.ray.Dir.{Dir}
 use Rattle.lattice_core.specs.declared.ray.Dir.TheVariants.{PlusX, MinusX, PlusY, MinusY, PlusZ, MinusZ}
 use Rattle.lattice_core.specs.declared.boxes.Box3.{Box3}
 use Rattle.lattice_core.specs.declared.boxes.Box3.TheVariants.{Span}
-use Rattle.lattice_core.specs.declared.boxes.Side.TheVariants.{At}
+use Rattle.lattice_core.specs.declared.extent.Extent.{Extent}
 use Rattle.lattice_core.specs.Vectors.{dot_product, vector_sum, zero_vector}
 use Rattle.lattice_core.specs.Turns.{turned, row_of}
+use Rattle.lattice_core.specs.Extents.{extent_between}
 use Rattle.lattice_core.specs.Placements.{placed}
 use Rattle.lattice_core.specs.Units.{unit_of}
 use Rattle.lattice_core.proofs.Products.{mul_add}
@@ -159,11 +160,11 @@ at_once_is by placements all (solids.Half half) = ap (λ (p : Plane). HalfSpace 
 abbrev farthest_by : (V3 → V3) → List V3 → Dir → ℤ
 farthest_by f vertices direction = fold (λ most p. int_max most (dot_product (unit_of direction) (f p))) (dot_product (unit_of direction) (f (vertex_at vertices 1))) vertices
 
+abbrev extent_by : (V3 → V3) → List V3 → Dir → Dir → Extent
+extent_by f vertices down up = extent_between (pos 0 -ℤ farthest_by f vertices down) (farthest_by f vertices up)
+
 abbrev pub box_by : (V3 → V3) → List V3 → Box3
-box_by f vertices =
-    Span (At (pos 0 -ℤ farthest_by f vertices MinusX)) (At (farthest_by f vertices PlusX))
-    (At (pos 0 -ℤ farthest_by f vertices MinusY)) (At (farthest_by f vertices PlusY))
-    (At (pos 0 -ℤ farthest_by f vertices MinusZ)) (At (farthest_by f vertices PlusZ))
+box_by f vertices = Span (extent_by f vertices MinusX PlusX) (extent_by f vertices MinusY PlusY) (extent_by f vertices MinusZ PlusZ)
 
 bounds_are : (by : Placement) (placements : List Placement) → DoesAll by placements → (solid : Solid) → bounds_under placements solid ≡ bounds_of solid by
 bounds_are by placements all (solids.Arb8 solid) = ap (λ (f : V3 → V3). box_by f solid.vertices) (sym (fun_ext all))

@@ -9,7 +9,7 @@ use Rattle.lattice_core.specs.declared.placement.Placement.{Placement}
 use Rattle.lattice_core.specs.declared.vector.V3.{V3}
 use Rattle.lattice_core.specs.Vectors.{vector, zero_vector}
 use Rattle.lattice_core.specs.declared.boxes.Box3.TheVariants.{Span}
-use Rattle.lattice_core.specs.declared.boxes.Side.TheVariants.{At}
+use Rattle.lattice_core.specs.Extents.{extent_between}
 use Rattle.region_attr.specs.declared.attr.Attr.{Attr}
 use Rattle.region_attr.specs.declared.attr.Rgb.{Rgb}
 use Rattle.region_attr.specs.Attrs.{region_attr, group_attr}
@@ -306,5 +306,5 @@ turned_then_shifted : surface_under (shifted ∷ turned ∷ []) (Ball (vector (p
 turned_then_shifted = refl
 
 its_box : box_under (shifted ∷ turned ∷ []) (vector (pos 0) (pos 0) (pos 0) ∷ vector (pos 1) (pos 2) (pos 3) ∷ [])
-    ≡ Span (At (pos 9)) (At (pos 10)) (At (pos 0)) (At (pos 3)) (At (negsuc 1)) (At (pos 0))
+    ≡ Span (extent_between (pos 9) (pos 10)) (extent_between (pos 0) (pos 3)) (extent_between (negsuc 1) (pos 0))
 its_box = refl

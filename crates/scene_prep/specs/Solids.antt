@@ -5,11 +5,12 @@ use Rattle.std.specs.Int.{int_max}
 use Rattle.tree_forms.specs.Trees.{Tree, Leaf, Join, leaves, map_leaves}
 use Rattle.lattice_core.specs.declared.boxes.Box3.{Box3}
 use Rattle.lattice_core.specs.declared.boxes.Box3.TheVariants.{Span}
-use Rattle.lattice_core.specs.declared.boxes.Side.TheVariants.{At}
+use Rattle.lattice_core.specs.declared.extent.Extent.{Extent}
 use Rattle.lattice_core.specs.declared.placement.Placement.{Placement}
 use Rattle.lattice_core.specs.declared.ray.Dir.{Dir}
 use Rattle.lattice_core.specs.declared.ray.Dir.TheVariants.{PlusX, MinusX, PlusY, MinusY, PlusZ, MinusZ}
 use Rattle.lattice_core.specs.declared.vector.V3.{V3}
+use Rattle.lattice_core.specs.Extents.{extent_between}
 use Rattle.lattice_core.specs.Placements.{placed}
 use Rattle.lattice_core.specs.Units.{unit_of}
 use Rattle.lattice_core.specs.Vectors.{dot_product}
@@ -78,12 +79,13 @@ farthest_under placements vertices direction =
     fold (λ most p. int_max most (dot_product (unit_of direction) (point_under placements p)))
     (dot_product (unit_of direction) (point_under placements (vertex_at vertices 1))) vertices
 
+-- along an axis, from the vertex that the placements take farthest down it to the one that they take farthest up it
+abbrev pub extent_under : List Placement → List V3 → Dir → Dir → Extent
+extent_under placements vertices down up = extent_between (pos 0 -ℤ farthest_under placements vertices down) (farthest_under placements vertices up)
+
 -- the closed box of at least one vertex where the placements take the vertices
 abbrev pub box_under : List Placement → List V3 → Box3
-box_under placements vertices =
-    Span (At (pos 0 -ℤ farthest_under placements vertices MinusX)) (At (farthest_under placements vertices PlusX))
-    (At (pos 0 -ℤ farthest_under placements vertices MinusY)) (At (farthest_under placements vertices PlusY))
-    (At (pos 0 -ℤ farthest_under placements vertices MinusZ)) (At (farthest_under placements vertices PlusZ))
+box_under placements vertices = Span (extent_under placements vertices MinusX PlusX) (extent_under placements vertices MinusY PlusY) (extent_under placements vertices MinusZ PlusZ)
 
 -- the box of a solid where the placements take it: of its vertices, from its centre by its radius, or all of space
 abbrev pub bounds_under : List Placement → Solid → Box3

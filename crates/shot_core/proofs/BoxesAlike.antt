@@ -4,30 +4,21 @@ use Rattle.std.proofs.lemmas.Int.{ints, clamps}
 use Rattle.std.specs.Int.{int_min, int_max}
 use Rattle.lattice_core.specs.declared.boxes.Side.{Side}
 use Rattle.lattice_core.specs.declared.boxes.Side.TheVariants.{Open, At}
+use Rattle.lattice_core.specs.declared.extent.Extent.{Extent}
 use Rattle.lattice_core.specs.declared.boxes.Box3.{Box3}
 use Rattle.lattice_core.specs.declared.boxes.Box3.TheVariants.{Empty, Span}
 use Rattle.lattice_core.specs.Boxes.{IsFrom, IsUpTo, IsBetween, HasSome, IsTidy, IsInside, IsHull, IsMeet}
-use Rattle.lattice_core.specs.Extents.{IsOrdered}
+use Rattle.lattice_core.specs.Extents.{AreOrdered, IsOrdered}
 use Rattle.lattice_core.specs.Spans.{IsNonEmpty}
-use Rattle.lattice_core.proofs.Extending.{seen, seen_between}
-use Rattle.lattice_core.proofs.Boxing.{point_ordered}
-
-abbrev AxisInside : Side → Side → Side → Side → Type 0
-AxisInside low high low' high' = (x w : ℤ) → pos 0 <ℤ w → IsBetween low high x w → IsBetween low' high' x w
+use Rattle.lattice_core.proofs.Extending.{extent, extents_same, low_in, high_in, ExtentInside}
+use Rattle.lattice_core.proofs.Boxing.{point_ordered, extents_inside}
+use Rattle.lattice_core.proofs.Reaching.{spans_same}
 
 one : pos 0 <ℤ pos 1
 one = omega (arith, ints)
 
-low_in : (a : ℤ) (high : Side) → IsOrdered (At a) high → IsBetween (At a) high a (pos 1)
-low_in a Open h = (omega (arith, ints), tt)
-low_in a (At b) h = (omega (arith, ints), omega (arith, ints))
-
-high_in : (low : Side) (b : ℤ) → IsOrdered low (At b) → IsBetween low (At b) b (pos 1)
-high_in Open b h = (tt, omega (arith, ints))
-high_in (At a) b h = (omega (arith, ints), omega (arith, ints))
-
 -- no whole number is the least where the low side is open
-open_low : (a : ℤ) (high : Side) → ((x w : ℤ) → pos 0 <ℤ w → IsBetween Open high x w → IsFrom (At a) x w) → ⊥
+open_low : (a : ℤ) (high : Side) → ((x w : ℤ) → pos 0 <ℤ w → IsBetween (extent Open high) x w → IsFrom (At a) x w) → ⊥
 open_low a Open f =
     let no : (a *ℤ pos 1) ≤ℤ (a -ℤ pos 1) = f (a -ℤ pos 1) (pos 1) one (tt, tt) in
     omega (arith, ints)
@@ -35,7 +26,7 @@ open_low a (At b) f =
     let no : (a *ℤ pos 1) ≤ℤ int_min (a -ℤ pos 1) b = f (int_min (a -ℤ pos 1) b) (pos 1) one (tt, omega (arith, ints, clamps)) in
     omega (arith, ints, clamps)
 
-open_high : (b : ℤ) (low : Side) → ((x w : ℤ) → pos 0 <ℤ w → IsBetween low Open x w → IsUpTo (At b) x w) → ⊥
+open_high : (b : ℤ) (low : Side) → ((x w : ℤ) → pos 0 <ℤ w → IsBetween (extent low Open) x w → IsUpTo (At b) x w) → ⊥
 open_high b Open f =
     let no : (b +ℤ pos 1) ≤ℤ (b *ℤ pos 1) = f (b +ℤ pos 1) (pos 1) one (tt, tt) in
     omega (arith, ints)
@@ -43,7 +34,7 @@ open_high b (At a) f =
     let no : int_max (b +ℤ pos 1) a ≤ℤ (b *ℤ pos 1) = f (int_max (b +ℤ pos 1) a) (pos 1) one (omega (arith, ints, clamps), tt) in
     omega (arith, ints, clamps)
 
-low_same : (low high low' high' : Side) → IsOrdered low high → IsOrdered low' high' → AxisInside low high low' high' → AxisInside low' high' low high → low ≡ low'
+low_same : (low high low' high' : Side) → AreOrdered low high → AreOrdered low' high' → ExtentInside (extent low high) (extent low' high') → ExtentInside (extent low' high') (extent low high) → low ≡ low'
 low_same Open high Open high' p q f g = refl
 low_same Open high (At b) high' p q f g = absurd (open_low b high (λ x w some h. (f x w some h).0))
 low_same (At a) high Open high' p q f g = absurd (open_low a high' (λ x w some h. (g x w some h).0))
@@ -53,7 +44,7 @@ low_same (At a) high (At b) high' p q f g =
     let e : a ≡ b = omega (arith, ints) in
     ap (λ z. At z) e
 
-high_same : (low high low' high' : Side) → IsOrdered low high → IsOrdered low' high' → AxisInside low high low' high' → AxisInside low' high' low high → high ≡ high'
+high_same : (low high low' high' : Side) → AreOrdered low high → AreOrdered low' high' → ExtentInside (extent low high) (extent low' high') → ExtentInside (extent low' high') (extent low high) → high ≡ high'
 high_same low Open low' Open p q f g = refl
 high_same low Open low' (At b) p q f g = absurd (open_high b low (λ x w some h. (f x w some h).1))
 high_same low (At a) low' Open p q f g = absurd (open_high a low' (λ x w some h. (g x w some h).1))
@@ -63,32 +54,16 @@ high_same low (At a) low' (At b) p q f g =
     let e : a ≡ b = omega (arith, ints) in
     ap (λ z. At z) e
 
-module _ (xlo xhi ylo yhi zlo zhi u1 u2 u3 u4 u5 u6 : Side) (p : IsNonEmpty (Span xlo xhi ylo yhi zlo zhi)) (f : IsInside (Span xlo xhi ylo yhi zlo zhi) (Span u1 u2 u3 u4 u5 u6)) where
-  inside_x : AxisInside xlo xhi u1 u2
-  inside_x = λ x w some h. (f (record { x = x; y = seen ylo yhi *ℤ w; z = seen zlo zhi *ℤ w }) w some (h, seen_between ylo yhi w some p.1, seen_between zlo zhi w some p.2)).0
-
-  inside_y : AxisInside ylo yhi u3 u4
-  inside_y = λ x w some h. (f (record { x = seen xlo xhi *ℤ w; y = x; z = seen zlo zhi *ℤ w }) w some (seen_between xlo xhi w some p.0, h, seen_between zlo zhi w some p.2)).1
-
-  inside_z : AxisInside zlo zhi u5 u6
-  inside_z = λ x w some h. (f (record { x = seen xlo xhi *ℤ w; y = seen ylo yhi *ℤ w; z = x }) w some (seen_between xlo xhi w some p.0, seen_between ylo yhi w some p.1, h)).2
-
-spans_same : {a b c d e f a' b' c' d' e' f' : Side} → a ≡ a' → b ≡ b' → c ≡ c' → d ≡ d' → e ≡ e' → f ≡ f' → Span a b c d e f ≡ Span a' b' c' d' e' f'
-spans_same p q r s t u = cc
+extent_same : (a b : Extent) → IsOrdered a → IsOrdered b → ExtentInside a b → ExtentInside b a → a ≡ b
+extent_same a b p q f g = extents_same (low_same a.low a.high b.low b.high p q f g) (high_same a.low a.high b.low b.high p q f g)
 
 nonempty_same : (a b : Box3) → IsNonEmpty a → IsNonEmpty b → IsInside a b → IsInside b a → a ≡ b
 nonempty_same Empty b p q f g = absurd p
-nonempty_same (Span xlo xhi ylo yhi zlo zhi) Empty p q f g = absurd q
-nonempty_same (Span xlo xhi ylo yhi zlo zhi) (Span u1 u2 u3 u4 u5 u6) p q f g =
-    let x = inside_x xlo xhi ylo yhi zlo zhi u1 u2 u3 u4 u5 u6 p f in
-    let x' = inside_x u1 u2 u3 u4 u5 u6 xlo xhi ylo yhi zlo zhi q g in
-    let y = inside_y xlo xhi ylo yhi zlo zhi u1 u2 u3 u4 u5 u6 p f in
-    let y' = inside_y u1 u2 u3 u4 u5 u6 xlo xhi ylo yhi zlo zhi q g in
-    let z = inside_z xlo xhi ylo yhi zlo zhi u1 u2 u3 u4 u5 u6 p f in
-    let z' = inside_z u1 u2 u3 u4 u5 u6 xlo xhi ylo yhi zlo zhi q g in
-    spans_same (low_same xlo xhi u1 u2 p.0 q.0 x x') (high_same xlo xhi u1 u2 p.0 q.0 x x')
-    (low_same ylo yhi u3 u4 p.1 q.1 y y') (high_same ylo yhi u3 u4 p.1 q.1 y y')
-    (low_same zlo zhi u5 u6 p.2 q.2 z z') (high_same zlo zhi u5 u6 p.2 q.2 z z')
+nonempty_same (Span x y z) Empty p q f g = absurd q
+nonempty_same (Span x y z) (Span x' y' z') p q f g =
+    let there = extents_inside x y z x' y' z' p f in
+    let back = extents_inside x' y' z' x y z q g in
+    spans_same (extent_same x x' p.0 q.0 there.0 back.0) (extent_same y y' p.1 q.1 there.1 back.1) (extent_same z z' p.2 q.2 there.2 back.2)
 
 some_nonempty : (b : Box3) → HasSome b → IsNonEmpty b
 some_nonempty b h = point_ordered b h.v h.w h.positive h.inside

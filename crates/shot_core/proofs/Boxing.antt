@@ -8,36 +8,40 @@ use Rattle.std.specs.declared.cmp.Ordering.{Ordering}
 use Rattle.std.specs.declared.cmp.Ordering.TheVariants.{Less, Equal, Greater}
 use Rattle.lattice_core.specs.declared.boxes.Side.{Side}
 use Rattle.lattice_core.specs.declared.boxes.Side.TheVariants.{Open, At}
+use Rattle.lattice_core.specs.declared.extent.Extent.{Extent}
 use Rattle.lattice_core.specs.declared.boxes.Box3.{Box3}
 use Rattle.lattice_core.specs.declared.boxes.Box3.TheVariants.{Empty, Span}
 use Rattle.lattice_core.specs.declared.ray.Ray.{Ray}
 use Rattle.lattice_core.specs.Boxes.{IsHull, IsTidy, MeetsRay}
-use Rattle.lattice_core.specs.Extents.{IsOrdered, meet_low, meet_high, reach_low, reach_high}
-use Rattle.lattice_core.specs.Spans.{IsNonEmpty, IsTidyOf, hull_span, meet_span}
+use Rattle.lattice_core.specs.Extents.{AreOrdered, IsOrdered}
+use Rattle.lattice_core.specs.Spans.{IsNonEmpty, IsTidyOf, hull_span, meet_span, reach_span}
 use Rattle.lattice_core.specs.Units.{unit_of}
 use Rattle.lattice_core.proofs.Boxing.{nonempty_some, hull_is, hull_tidy, hull_none_with, hull_first_none, tidy_is, meet_tidy}
 use Rattle.lattice_core.proofs.Meeting.{meets_is}
-use Rattle.shot_core.specs.TreeBoxes.{is_ordered, has_points, tidy, hull_of, meet_of, AreHullAndMeet}
-use Rattle.shot_core.specs.MetBoxes.{comes_between, meets_ray, TellsWhetherMet}
+use Rattle.shot_core.specs.TreeBoxes.{are_ordered, is_ordered, has_points, tidy, hull_of, meet_of, AreHullAndMeet}
+use Rattle.shot_core.specs.MetBoxes.{meets_ray, TellsWhetherMet}
 
 not_over : (x y : ℤ) (r : Ordering) → r ≡ int_cmp x y → IsTrue (not (is_gt r)) ↔ (x ≤ℤ y)
 not_over x y Less is = let lt : x <ℤ y = int_ranked x y Less is in (λ h. omega (arith, ints), λ h. refl)
 not_over x y Equal is = let e : x ≡ y = int_ranked x y Equal is in (λ h. omega (arith, ints), λ h. refl)
 not_over x y Greater is = let lt : y <ℤ x = int_ranked x y Greater is in (λ h. absurd (true≢false (sym h)), λ h. absurd (omega (arith, ints)))
 
-ordered_tells : (low high : Side) → IsTrue (is_ordered low high) ↔ IsOrdered low high
-ordered_tells Open high = (λ h. tt, λ h. refl)
-ordered_tells (At a) Open = (λ h. tt, λ h. refl)
-ordered_tells (At a) (At b) = not_over a b (int_cmp a b) refl
+sides_tell : (low high : Side) → IsTrue (are_ordered low high) ↔ AreOrdered low high
+sides_tell Open high = (λ h. tt, λ h. refl)
+sides_tell (At a) Open = (λ h. tt, λ h. refl)
+sides_tell (At a) (At b) = not_over a b (int_cmp a b) refl
+
+ordered_tells : (e : Extent) → IsTrue (is_ordered e) ↔ IsOrdered e
+ordered_tells e = sides_tell e.low e.high
 
 pub has_points_tells : (b : Box3) → IsTrue (has_points b) ↔ IsNonEmpty b
 has_points_tells Empty = (λ h. true≢false (sym h), λ h. absurd h)
-has_points_tells (Span xlo xhi ylo yhi zlo zhi) = (
+has_points_tells (Span x y z) = (
   λ h.
-      let a = and_parts (is_ordered xlo xhi) (is_ordered ylo yhi && is_ordered zlo zhi) h in
-      let b = and_parts (is_ordered ylo yhi) (is_ordered zlo zhi) a.1 in
-      ((ordered_tells xlo xhi).0 a.0, (ordered_tells ylo yhi).0 b.0, (ordered_tells zlo zhi).0 b.1),
-  λ h. and_from _ _ ((ordered_tells xlo xhi).1 h.0) (and_from _ _ ((ordered_tells ylo yhi).1 h.1) ((ordered_tells zlo zhi).1 h.2)),
+      let a = and_parts (is_ordered x) (is_ordered y && is_ordered z) h in
+      let b = and_parts (is_ordered y) (is_ordered z) a.1 in
+      ((ordered_tells x).0 a.0, (ordered_tells y).0 b.0, (ordered_tells z).0 b.1),
+  λ h. and_from _ _ ((ordered_tells x).1 h.0) (and_from _ _ ((ordered_tells y).1 h.1) ((ordered_tells z).1 h.2)),
 )
 
 no_points : (b : Box3) → has_points b ≡ false → ¬ IsNonEmpty b
@@ -69,18 +73,10 @@ are_hull_and_meet = record {
 }
 
 pub met_tells : TellsWhetherMet
-met_tells Empty ray = (λ h. absurd (true≢false (sym h)), λ m. absurd m.inside)
-met_tells (Span xlo xhi ylo yhi zlo zhi) ray =
-    let is = meets_is xlo xhi ylo yhi zlo zhi ray in
-    let tells = λ (low high : Side) (o s : ℤ). ordered_tells (meet_low low (At (reach_low o s))) (meet_high high (At (reach_high o s))) in (
-      λ h.
-          let a = and_parts (comes_between xlo xhi ray.origin.x (unit_of ray.dir).x) _ h in
-          let b = and_parts (comes_between ylo yhi ray.origin.y (unit_of ray.dir).y) (comes_between zlo zhi ray.origin.z (unit_of ray.dir).z) a.1 in
-          is.0 ((tells xlo xhi ray.origin.x (unit_of ray.dir).x).0 a.0, (tells ylo yhi ray.origin.y (unit_of ray.dir).y).0 b.0, (tells zlo zhi ray.origin.z (unit_of ray.dir).z).0 b.1),
-      λ m.
-          let k = is.1 m in
-          and_from _ _ ((tells xlo xhi ray.origin.x (unit_of ray.dir).x).1 k.0) (and_from _ _ ((tells ylo yhi ray.origin.y (unit_of ray.dir).y).1 k.1) ((tells zlo zhi ray.origin.z (unit_of ray.dir).z).1 k.2)),
-    )
+met_tells b ray =
+    let some = has_points_tells (meet_span b (reach_span ray.origin (unit_of ray.dir))) in
+    let meet = meets_is b ray in
+    (λ h. meet.0 (some.0 h), λ m. some.1 (meet.1 m))
 
 pub same_bool : (a b : Bool) → (a ≡ true → b ≡ true) → (b ≡ true → a ≡ true) → a ≡ b
 same_bool true true f g = refl

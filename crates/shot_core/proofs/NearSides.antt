@@ -37,12 +37,12 @@ falling (At side) o p q h = omega (arith, ints, h, sub_by o side q)
 -- a point of the box is not before its near side
 near_in : (dir : Dir) (o : V3) (b : Box3) (p q : ℤ) → HasPoint b (scaled_point (record { origin = o; dir = dir }) p q) q → IsFrom (near_by dir o b) p q
 near_in dir o Empty p q h = absurd h
-near_in PlusX o (Span xlo xhi ylo yhi zlo zhi) p q h = rising xlo o.x p q h.0.0
-near_in MinusX o (Span xlo xhi ylo yhi zlo zhi) p q h = falling xhi o.x p q h.0.1
-near_in PlusY o (Span xlo xhi ylo yhi zlo zhi) p q h = rising ylo o.y p q h.1.0
-near_in MinusY o (Span xlo xhi ylo yhi zlo zhi) p q h = falling yhi o.y p q h.1.1
-near_in PlusZ o (Span xlo xhi ylo yhi zlo zhi) p q h = rising zlo o.z p q h.2.0
-near_in MinusZ o (Span xlo xhi ylo yhi zlo zhi) p q h = falling zhi o.z p q h.2.1
+near_in PlusX o (Span x y z) p q h = rising x.low o.x p q h.0.0
+near_in MinusX o (Span x y z) p q h = falling x.high o.x p q h.0.1
+near_in PlusY o (Span x y z) p q h = rising y.low o.y p q h.1.0
+near_in MinusY o (Span x y z) p q h = falling y.high o.y p q h.1.1
+near_in PlusZ o (Span x y z) p q h = rising z.low o.z p q h.2.0
+near_in MinusZ o (Span x y z) p q h = falling z.high o.z p q h.2.1
 
 pub near_from_point : (b : Box3) (ray : Ray) (p q : ℤ) → HasPoint b (scaled_point ray p q) q → IsFrom (near_by ray.dir ray.origin b) p q
 near_from_point b ray p q h = near_in ray.dir ray.origin b p q h

@@ -1,11 +1,11 @@
 -- Shots of small scenes, proved by computation.
 use Rattle.std.specs.Prelude.{◌≡◌, refl, ℕ, ℤ, pos, negsuc, true, false, List, [], ◌∷◌, Some, None}
-use Rattle.lattice_core.specs.declared.boxes.Side.TheVariants.{At}
 use Rattle.lattice_core.specs.declared.boxes.Box3.{Box3}
 use Rattle.lattice_core.specs.declared.boxes.Box3.TheVariants.{Empty, Span}
 use Rattle.lattice_core.specs.declared.ray.Ray.{Ray}
 use Rattle.lattice_core.specs.declared.ray.Dir.TheVariants.{PlusX}
 use Rattle.lattice_core.specs.declared.view.View.{View}
+use Rattle.lattice_core.specs.Extents.{extent_between}
 use Rattle.lattice_core.specs.Vectors.{vector, zero_vector}
 use Rattle.prim_arb8.specs.Faces.{planes_of}
 use Rattle.prim_sphere.specs.Spheres.{box_of as ball_box}
@@ -28,7 +28,7 @@ use Rattle.shot_core.specs.Candidates.{candidates_of}
 
 -- a box by its least and greatest x, y and z
 abbrev span : ℤ → ℤ → ℤ → ℤ → ℤ → ℤ → Box3
-span xlo xhi ylo yhi zlo zhi = Span (At xlo) (At xhi) (At ylo) (At yhi) (At zlo) (At zhi)
+span xlo xhi ylo yhi zlo zhi = Span (extent_between xlo xhi) (extent_between ylo yhi) (extent_between zlo zhi)
 
 abbrev box : ℤ → ℤ → ℤ → ℤ → ℤ → ℤ → Instance
 box xlo xhi ylo yhi zlo zhi = record { surface = Planes (planes_of (rpp_vertices xlo xhi ylo yhi zlo zhi)); bounds = span xlo xhi ylo yhi zlo zhi }

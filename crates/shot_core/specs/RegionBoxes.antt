@@ -45,12 +45,12 @@ ahead_falling (At side) origin = At (origin -ℤ side)
 -- how far from a ray's origin a box begins, in the ray's direction; Open where it has no side there
 abbrev pub near_by : Dir → V3 → Box3 → Side
 near_by dir origin Empty = Open
-near_by PlusX origin (Span xlo xhi ylo yhi zlo zhi) = ahead_rising xlo origin.x
-near_by MinusX origin (Span xlo xhi ylo yhi zlo zhi) = ahead_falling xhi origin.x
-near_by PlusY origin (Span xlo xhi ylo yhi zlo zhi) = ahead_rising ylo origin.y
-near_by MinusY origin (Span xlo xhi ylo yhi zlo zhi) = ahead_falling yhi origin.y
-near_by PlusZ origin (Span xlo xhi ylo yhi zlo zhi) = ahead_rising zlo origin.z
-near_by MinusZ origin (Span xlo xhi ylo yhi zlo zhi) = ahead_falling zhi origin.z
+near_by PlusX origin (Span x y z) = ahead_rising x.low origin.x
+near_by MinusX origin (Span x y z) = ahead_falling x.high origin.x
+near_by PlusY origin (Span x y z) = ahead_rising y.low origin.y
+near_by MinusY origin (Span x y z) = ahead_falling y.high origin.y
+near_by PlusZ origin (Span x y z) = ahead_rising z.low origin.z
+near_by MinusZ origin (Span x y z) = ahead_falling z.high origin.z
 
 abbrev pub near_side : Box3 → Ray → Side
 near_side b ray = near_by ray.dir ray.origin b

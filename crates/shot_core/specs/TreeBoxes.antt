@@ -3,6 +3,7 @@ use Rattle.std.specs.Prelude.{ℕ, List, Bool, true, false, cond, ◌&&◌, not,
 use Rattle.std.specs.Ordering.{int_cmp, is_gt}
 use Rattle.lattice_core.specs.declared.boxes.Side.{Side}
 use Rattle.lattice_core.specs.declared.boxes.Side.TheVariants.{Open, At}
+use Rattle.lattice_core.specs.declared.extent.Extent.{Extent}
 use Rattle.lattice_core.specs.declared.boxes.Box3.{Box3}
 use Rattle.lattice_core.specs.declared.boxes.Box3.TheVariants.{Empty, Span}
 use Rattle.lattice_core.specs.Spans.{hull_span, meet_span}
@@ -12,15 +13,19 @@ use Rattle.tree_forms.specs.declared.Op.TheVariants.{U, N, Minus}
 use Rattle.tree_forms.specs.Trees.{fold}
 use Rattle.bool_weave.specs.Masks.{Mask}
 
--- whether some coordinate lies between two sides
-abbrev pub is_ordered : Side → Side → Bool
-is_ordered Open high = true
-is_ordered (At low) Open = true
-is_ordered (At low) (At high) = not (is_gt (int_cmp low high))
+-- whether a low side is at most a high one
+abbrev pub are_ordered : Side → Side → Bool
+are_ordered Open high = true
+are_ordered (At low) Open = true
+are_ordered (At low) (At high) = not (is_gt (int_cmp low high))
+
+-- whether some coordinate lies in an extent
+abbrev pub is_ordered : Extent → Bool
+is_ordered extent = are_ordered extent.low extent.high
 
 abbrev pub has_points : Box3 → Bool
 has_points Empty = false
-has_points (Span xlo xhi ylo yhi zlo zhi) = is_ordered xlo xhi && (is_ordered ylo yhi && is_ordered zlo zhi)
+has_points (Span x y z) = is_ordered x && (is_ordered y && is_ordered z)
 
 -- the box, or the empty one where it has no points
 abbrev pub tidy : Box3 → Box3

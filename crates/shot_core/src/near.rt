@@ -36,24 +36,16 @@ fn ahead_falling(side: Side, origin: i64) -> Option<i128>
 fn near_side(b: &Box3, ray: &Ray) -> Option<i128>
     ensures { side_of result ≡ near_side b.now ray.now }
 {
-    let Box3::Span {
-        xlo,
-        xhi,
-        ylo,
-        yhi,
-        zlo,
-        zhi,
-    } = *b
-    else {
+    let Box3::Span { x, y, z } = *b else {
         return None;
     };
     match ray.dir {
-        Dir::PlusX => ahead_rising(xlo, ray.origin.x),
-        Dir::MinusX => ahead_falling(xhi, ray.origin.x),
-        Dir::PlusY => ahead_rising(ylo, ray.origin.y),
-        Dir::MinusY => ahead_falling(yhi, ray.origin.y),
-        Dir::PlusZ => ahead_rising(zlo, ray.origin.z),
-        Dir::MinusZ => ahead_falling(zhi, ray.origin.z),
+        Dir::PlusX => ahead_rising(x.low, ray.origin.x),
+        Dir::MinusX => ahead_falling(x.high, ray.origin.x),
+        Dir::PlusY => ahead_rising(y.low, ray.origin.y),
+        Dir::MinusY => ahead_falling(y.high, ray.origin.y),
+        Dir::PlusZ => ahead_rising(z.low, ray.origin.z),
+        Dir::MinusZ => ahead_falling(z.high, ray.origin.z),
     }
 }
 

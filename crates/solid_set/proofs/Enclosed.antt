@@ -16,6 +16,7 @@ use Rattle.lattice_core.specs.declared.ray.Dir.TheVariants.{PlusX, MinusX, PlusY
 use Rattle.lattice_core.specs.declared.ray.Ray.{Ray}
 use Rattle.lattice_core.specs.declared.vector.V3.{V3}
 use Rattle.lattice_core.specs.Boxes.{HasPoint, IsFrom, IsUpTo}
+use Rattle.lattice_core.specs.Extents.{extent_between}
 use Rattle.lattice_core.specs.Placements.{placed}
 use Rattle.lattice_core.specs.Rays.{scaled_point}
 use Rattle.lattice_core.specs.Turns.{turned}
@@ -146,7 +147,7 @@ low_from d x q h = omega (arith, ints, h, sub_mul (pos 0) d q, zero-*ℤ q)
 
 -- a point that lies nowhere farther than the box has it
 box_has : (far : Dir → ℤ) (u : V3) (q : ℤ) → ((to : Dir) → dot_product (unit_of to) u ≤ℤ (far to *ℤ q))
-    → HasPoint (Span (At (pos 0 -ℤ far MinusX)) (At (far PlusX)) (At (pos 0 -ℤ far MinusY)) (At (far PlusY)) (At (pos 0 -ℤ far MinusZ)) (At (far PlusZ))) u q
+    → HasPoint (Span (extent_between (pos 0 -ℤ far MinusX) (far PlusX)) (extent_between (pos 0 -ℤ far MinusY) (far PlusY)) (extent_between (pos 0 -ℤ far MinusZ) (far PlusZ))) u q
 box_has far u q h =
     let a = h MinusX in
     let b = h PlusX in
@@ -183,7 +184,7 @@ up_to_prop (At high) x w = hlevel T_prop
 
 point_prop : (b : Box3) (v : V3) (w : ℤ) → IsProp (HasPoint b v w)
 point_prop Empty v w = hlevel
-point_prop (Span xlo xhi ylo yhi zlo zhi) v w = hlevel (from_prop, up_to_prop)
+point_prop (Span x y z) v w = hlevel (from_prop, up_to_prop)
 
 pub enclosed : (surface : Surface) (bounds : Box3) → ∥ IsMade surface bounds ∥₁ → HoldsInside surface bounds
 enclosed surface bounds made ray p q some inside =

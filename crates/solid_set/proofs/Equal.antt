@@ -1,5 +1,5 @@
 -- `==` on surfaces and boxes says whether they are one.
-use Rattle.std.proofs.Common.{◌≡◌, ◌∙◌, ℤ, ℕ, zero, suc, List, Option, Some, None, refl, ap}
+use Rattle.std.proofs.Common.{◌≡◌, ◌∙◌, ℤ, List, Option, Some, None, refl, ap}
 use Rattle.std.specs.Bool.{Decides}
 use Rattle.std.specs.Option.{option_eq}
 use Rattle.std.specs.Cmp.Lexicographic.{pointwise}
@@ -8,10 +8,12 @@ use Rattle.std.proofs.lemmas.Slice.Eq.{slice_eq-Decides}
 use Rattle.lattice_core.specs.declared.vector.V3.{V3}
 use Rattle.lattice_core.specs.declared.boxes.Side.{Side}
 use Rattle.lattice_core.specs.declared.boxes.Side.TheVariants.{Open, At}
+use Rattle.lattice_core.specs.declared.extent.Extent.{Extent}
 use Rattle.lattice_core.specs.declared.boxes.Box3.{Box3}
 use Rattle.lattice_core.specs.declared.boxes.Box3.TheVariants.{Empty, Span}
 use Rattle.lattice_core.specs.contracts.vector.V3PartialEq.TheImpl as vectors
 use Rattle.lattice_core.specs.contracts.boxes.SidePartialEq.TheImpl as sides
+use Rattle.lattice_core.specs.contracts.extent.ExtentPartialEq.TheImpl as extents
 use Rattle.lattice_core.specs.contracts.boxes.Box3PartialEq.TheImpl as boxes
 use Rattle.plane_geom.specs.declared.plane.Plane.{Plane}
 use Rattle.plane_geom.specs.contracts.plane.PlanePartialEq.TheImpl as planes
@@ -85,21 +87,30 @@ side_decides Open (At y) = (λ h. cc, λ e. cc)
 side_decides (At x) Open = (λ h. cc, λ e. cc)
 side_decides (At x) (At y) = Decides-like _ (λ e. ap At e) (λ e. ap (height_in x) e) (Decides-int_eq x y)
 
-abbrev side_in : ℕ → Side → Box3 → Side
-side_in n other Empty = other
-side_in zero other (Span a b c d e f) = a
-side_in (suc zero) other (Span a b c d e f) = b
-side_in (suc (suc zero)) other (Span a b c d e f) = c
-side_in (suc (suc (suc zero))) other (Span a b c d e f) = d
-side_in (suc (suc (suc (suc zero)))) other (Span a b c d e f) = e
-side_in (suc (suc (suc (suc (suc n))))) other (Span a b c d e f) = f
+same_extent : (a b : Extent) → a.low ≡ b.low → a.high ≡ b.high → a ≡ b
+same_extent a b p q = λ i. record { low = p i; high = q i }
+
+extent_decides : (a b : Extent) → Decides (extents.eq-value.it a b) (a ≡ b)
+extent_decides a b =
+    Decides-like _ (λ h. same_extent a b h.0 h.1) (λ e. (ap (λ (x : Extent). x.low) e, ap (λ (x : Extent). x.high) e))
+    (Decides-and _ _ (side_decides a.low b.low) (side_decides a.high b.high))
+
+abbrev x_in : Extent → Box3 → Extent
+x_in other Empty = other
+x_in other (Span x y z) = x
+
+abbrev y_in : Extent → Box3 → Extent
+y_in other Empty = other
+y_in other (Span x y z) = y
+
+abbrev z_in : Extent → Box3 → Extent
+z_in other Empty = other
+z_in other (Span x y z) = z
 
 pub box_decides : (a b : Box3) → Decides (boxes.eq-value.it a b) (a ≡ b)
 box_decides Empty Empty = (λ h. refl, λ e. refl)
-box_decides Empty (Span a b c d e f) = (λ h. cc, λ e. cc)
-box_decides (Span a b c d e f) Empty = (λ h. cc, λ e. cc)
-box_decides (Span a b c d e f) (Span g h j k l m) =
-    Decides-like _ (λ p. λ i. Span (p.0 i) (p.1.0 i) (p.1.1.0 i) (p.1.1.1.0 i) (p.1.1.1.1.0 i) (p.1.1.1.1.1 i))
-    (λ p. (ap (side_in 0 a) p, (ap (side_in 1 a) p, (ap (side_in 2 a) p, (ap (side_in 3 a) p, (ap (side_in 4 a) p, ap (side_in 5 a) p))))))
-    (Decides-and _ _ (side_decides a g)
-    (Decides-and _ _ (side_decides b h) (Decides-and _ _ (side_decides c j) (Decides-and _ _ (side_decides d k) (Decides-and _ _ (side_decides e l) (side_decides f m))))))
+box_decides Empty (Span x y z) = (λ h. cc, λ e. cc)
+box_decides (Span x y z) Empty = (λ h. cc, λ e. cc)
+box_decides (Span x y z) (Span x' y' z') =
+    Decides-like _ (λ p. λ i. Span (p.0 i) (p.1.0 i) (p.1.1 i)) (λ e. (ap (x_in x) e, (ap (y_in y) e, ap (z_in z) e)))
+    (Decides-and _ _ (extent_decides x x') (Decides-and _ _ (extent_decides y y') (extent_decides z z')))

@@ -1,6 +1,6 @@
 -- Reports of small views, proved by computation.
 use Rattle.std.specs.Prelude.{◌≡◌, refl, ℕ, ℤ, pos, negsuc, ◌-ℤ◌, [], ◌∷◌, Some}
-use Rattle.lattice_core.specs.declared.boxes.Side.TheVariants.{At}
+use Rattle.lattice_core.specs.Extents.{extent_between}
 use Rattle.lattice_core.specs.declared.boxes.Box3.TheVariants.{Span}
 use Rattle.lattice_core.specs.declared.ray.Dir.TheVariants.{PlusX}
 use Rattle.lattice_core.specs.declared.view.View.{View}
@@ -58,7 +58,7 @@ box place air xlo xhi = record {
     air = air;
     rgb = record { r = 0; g = 0; b = 0 };
     tree = Leaf (Some 0);
-    instances = record { surface = Planes (Some (record { n = vector (negsuc 0) (pos 0) (pos 0); d = (pos 0 -ℤ xlo) }) ∷ Some (record { n = vector (pos 1) (pos 0) (pos 0); d = xhi }) ∷ Some (record { n = vector (pos 0) (negsuc 0) (pos 0); d = (pos 0) }) ∷ Some (record { n = vector (pos 0) (pos 1) (pos 0); d = (pos 10) }) ∷ Some (record { n = vector (pos 0) (pos 0) (negsuc 0); d = (pos 0) }) ∷ Some (record { n = vector (pos 0) (pos 0) (pos 1); d = (pos 10) }) ∷ []); bounds = Span (At xlo) (At xhi) (At (pos 0)) (At (pos 10)) (At (pos 0)) (At (pos 10)) } ∷ [];
+    instances = record { surface = Planes (Some (record { n = vector (negsuc 0) (pos 0) (pos 0); d = (pos 0 -ℤ xlo) }) ∷ Some (record { n = vector (pos 1) (pos 0) (pos 0); d = xhi }) ∷ Some (record { n = vector (pos 0) (negsuc 0) (pos 0); d = (pos 0) }) ∷ Some (record { n = vector (pos 0) (pos 1) (pos 0); d = (pos 10) }) ∷ Some (record { n = vector (pos 0) (pos 0) (negsuc 0); d = (pos 0) }) ∷ Some (record { n = vector (pos 0) (pos 0) (pos 1); d = (pos 10) }) ∷ []); bounds = Span (extent_between xlo xhi) (extent_between (pos 0) (pos 10)) (extent_between (pos 0) (pos 10)) } ∷ [];
   };
 }
 

@@ -8,3 +8,5 @@ mod adapters;
 mod counting;
 #[cfg(test)]
 mod gates;
+#[cfg(test)]
+mod sharing;

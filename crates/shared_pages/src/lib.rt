@@ -1,0 +1,22 @@
+//! Values by name, held so that a copy shares them all and a change copies only what it touches.
+#![tactic(auto)]
+
+mod blank;
+mod gathering;
+mod hash;
+mod limit;
+mod map;
+mod page;
+mod page_list;
+mod pairs;
+mod put;
+mod row;
+mod search;
+mod shares;
+
+pub use gathering::Gathering;
+pub use limit::{MOST_PAIRS, limit_laws};
+pub use map::SharedMap;
+pub use page::Page;
+pub use page_list::PageList;
+pub use pairs::Pairs;

@@ -1,0 +1,218 @@
+ghost use Rattle.std.specs.Prelude.{◌≡◌, ◌<◌, ◌≤◌, ◌++◌, ◌∷◌, [], ℕ, List, Some, None, length, slice_get, nat_eq, IfOk, IsSome};
+ghost use Rattle.std.specs.Arc.{arc_value};
+ghost use Rattle.std.specs.Option.{option_copied, option_map};
+ghost use Rattle.std.specs.List.{IsDistinct};
+ghost use Rattle.std.specs.Map.{lookup, keys_of, set_value, remove_entry};
+ghost use Rattle.std.specs.Map.Iter.{deref_pair};
+ghost use Rattle.name_core.specs.declared.name.Name.{Name as Bytes};
+ghost use Rattle.name_core.specs.Same.{same_name};
+ghost use Rattle.shared_pages.specs.Pages.{most_pairs, pairs_of, page_of, set_page, pushed, last_number, ArePages};
+
+use crate::page::Page;
+use crate::pairs::Pairs;
+use crate::put::{push_pair, put_page};
+use crate::search::{find, place_of};
+use crate::shares::Shares;
+use memory_core::Memory;
+use name_core::Name;
+use std::alloc::Global;
+use std::marker::Model;
+use std::sync::Arc;
+
+/// Pairs on pages, in order, of which a copy shares all pages. A page has 1 to 128 pairs and keeps its number as long as it
+/// has one, and the numbers rise from page to page. Contracts see the pages with their numbers and pairs.
+#[derive(Drop)]
+pub struct PageList<V> {
+    pages: Shares<Page<V>>,
+    /// The number of all pairs.
+    count: usize,
+}
+
+impl<V> Model for PageList<V> {
+    ghost use Rattle.shared_pages.specs.Pages.{Pages, ArePages};
+
+    ghost Value = { Pages V };
+
+    ghost view = { λ s. s.pages };
+
+    ghost invariant = { λ s. ArePages s.pages s.count };
+}
+
+impl<V: Drop> PageList<V> {
+    /// No pages. It takes no memory.
+    pub fn new(alloc: Global) -> PageList<V>
+        ensures { result ≡ [] }
+    {
+        PageList {
+            pages: Shares::new(alloc),
+            count: 0,
+        }
+    }
+
+    /// The number of all pairs.
+    pub fn len(&self) -> usize
+        ensures value { result ≡ length (pairs_of self.now) }
+
+        // The numbers of the pages rise, and each has 1 to 128 pairs.
+        ensures pages { ArePages self.now result }
+    {
+        self.count
+    }
+
+    /// Lends the page at the place, counted from 0, or `None` exactly past the end.
+    pub fn page_at(&self, place: usize) -> Option<&Page<V>>
+        ensures { option_copied result ≡ slice_get self.now place }
+    {
+        self.pages.get(place)
+    }
+
+    /// The same pages again. They are all shared.
+    pub fn copy(&self) -> Result<PageList<V>, Memory>
+        ensures { IfOk result (λ l. l ≡ self.now) }
+    {
+        let pages = self.pages.copy()?;
+        Ok(PageList {
+            pages,
+            count: self.count,
+        })
+    }
+
+    /// Lends the pairs of the page of the number, or `None` exactly where there is no such page.
+    pub fn page(&self, number: u64) -> Option<&Pairs<V>>
+        ensures { option_copied result ≡ lookup (nat_eq number) self.now }
+    {
+        match place_of(&self.pages, number) {
+            Some(place) => match self.pages.get(place) {
+                Some(page) => Some(page.pairs()),
+                None => unreachable!(),
+            },
+            None => None,
+        }
+    }
+
+    /// The number of pairs on the page of the number.
+    fn len_of(&self, number: u64) -> usize
+        ensures { result ≡ length (page_of self.now number) }
+    {
+        match self.page(number) {
+            Some(pairs) => pairs.len(),
+            None => 0,
+        }
+    }
+
+    /// The list with these pairs on the page of the number, and without the page where there are none. Where there is no
+    /// such page the list is as before. All other pages are shared with this list, which stays as it is.
+    pub fn with_page(
+        &self,
+        alloc: Global,
+        number: u64,
+        pairs: Pairs<V>,
+    ) -> Result<PageList<V>, Memory>
+        requires { length pairs ≤ most_pairs }
+        ensures { IfOk result (λ l. l ≡ set_page self.now number pairs) }
+    {
+        let Some(place) = place_of(&self.pages, number) else {
+            return self.copy();
+        };
+        let rest = self.count - self.len_of(number);
+        let Some(count) = rest.checked_add(pairs.len()) else {
+            return Err(Memory);
+        };
+        let mut pages = self.pages.copy()?;
+        put_page(alloc, &mut pages, place, number, pairs)?;
+        Ok(PageList { pages, count })
+    }
+
+    /// This list with a pair more at the end, and the number of the page on which it stands. A last page that no other list
+    /// shares is not copied, so a list is gathered pair by pair at the cost of one insert each.
+    pub fn push(
+        self,
+        alloc: Global,
+        name: &Name,
+        value: Arc<V>,
+    ) -> Result<(PageList<V>, u64), Memory>
+        requires { lookup (same_name name.now) (pairs_of self) ≡ None }
+        ensures list { IfOk result (λ r. r.0 ≡ pushed self name.now (arc_value value)) }
+        ensures number { IfOk result (λ r. r.1 ≡ last_number r.0) }
+        ensures pairs { IfOk result (λ r. pairs_of r.0 ≡ pairs_of self ++ (name.now, arc_value value) ∷ []) }
+    {
+        let PageList { mut pages, count } = self;
+        let Some(count) = count.checked_add(1) else {
+            return Err(Memory);
+        };
+        let number = push_pair(alloc, &mut pages, name, value)?;
+        Ok((PageList { pages, count }, number))
+    }
+
+    /// The list with a pair more at the end, and the number of the page on which it stands. All other pages are shared with
+    /// this list, which stays as it is.
+    pub fn pushed(
+        &self,
+        alloc: Global,
+        name: &Name,
+        value: Arc<V>,
+    ) -> Result<(PageList<V>, u64), Memory>
+        requires { lookup (same_name name.now) (pairs_of self.now) ≡ None }
+        ensures list { IfOk result (λ r. r.0 ≡ pushed self.now name.now (arc_value value)) }
+        ensures number { IfOk result (λ r. r.1 ≡ last_number r.0) }
+        ensures pairs { IfOk result (λ r. pairs_of r.0 ≡ pairs_of self.now ++ (name.now, arc_value value) ∷ []) }
+    {
+        let list = self.copy()?;
+        list.push(alloc, name, value)
+    }
+
+    /// A copy of the pairs of the page of the number, none where there is no such page.
+    fn page_copy(&self, alloc: Global, number: u64) -> Result<Pairs<V>, Memory>
+        ensures { IfOk result (λ p. p ≡ page_of self.now number) }
+    {
+        match self.page(number) {
+            Some(pairs) => pairs.copy(),
+            None => Ok(Pairs::new(alloc)),
+        }
+    }
+
+    /// The list in which a name on the page of the number has this value, in its place. All other pages are shared with
+    /// this list, which stays as it is.
+    pub fn with(
+        &self,
+        alloc: Global,
+        number: u64,
+        name: &Name,
+        value: Arc<V>,
+    ) -> Result<PageList<V>, Memory>
+        requires { IsSome (lookup (same_name name.now) (page_of self.now number)) }
+        ensures list { IfOk result (λ l. l ≡ set_page self.now number (set_value (same_name name.now) (page_of self.now number) (arc_value value))) }
+
+        // The name keeps its place among all pairs, of which no two have one name.
+        ensures pairs { IfOk result (λ l. IsDistinct same_name (keys_of (pairs_of self.now)) → pairs_of l ≡ set_value (same_name name.now) (pairs_of self.now) (arc_value value)) }
+    {
+        let _count = self.len();
+        let mut pairs = self.page_copy(alloc, number)?;
+        pairs.insert(name, value)?;
+        self.with_page(alloc, number, pairs)
+    }
+
+    /// The list without a name on the page of the number. All other pages are shared with this list, which stays as it is.
+    pub fn without(&self, alloc: Global, number: u64, name: &Name) -> Result<PageList<V>, Memory>
+        requires { IsSome (lookup (same_name name.now) (page_of self.now number)) }
+        ensures list { IfOk result (λ l. l ≡ set_page self.now number (remove_entry (same_name name.now) (page_of self.now number))) }
+        ensures pairs { IfOk result (λ l. IsDistinct same_name (keys_of (pairs_of self.now)) → pairs_of l ≡ remove_entry (same_name name.now) (pairs_of self.now)) }
+    {
+        let _count = self.len();
+        let mut pairs = self.page_copy(alloc, number)?;
+        pairs.remove(name);
+        self.with_page(alloc, number, pairs)
+    }
+
+    /// Lends the name and the value at the place among all pairs, counted from 0, or `None` exactly past the end. It walks
+    /// over the pages before it.
+    pub fn at(&self, place: usize) -> Option<(&Name, &V)>
+        ensures { option_map deref_pair result ≡ slice_get (pairs_of self.now) place }
+    {
+        let (page, rest) = find(&self.pages, place);
+        match self.pages.get(page) {
+            Some(page) => page.pairs().at(rest),
+            None => None,
+        }
+    }
+}

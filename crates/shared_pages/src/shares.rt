@@ -1,0 +1,124 @@
+ghost use Rattle.std.specs.Prelude.{◌≡◌, ◌<◌, ◌++◌, ◌∷◌, [], length, slice_get, slice_set, remove, OnOk, OnErr, IfOk, IfSome, IfNone};
+ghost use Rattle.std.specs.Arc.{arc_value};
+ghost use Rattle.std.specs.Option.{option_copied};
+
+use crate::blank::Blank;
+use memory_core::Memory;
+use std::alloc::Global;
+use std::marker::Model;
+use std::sync::Arc;
+
+/// A list of shared values, of which a copy shares them all. Contracts see it as the list of the values.
+#[derive(Drop)]
+pub struct Shares<T> {
+    items: Vec<Arc<T>>,
+}
+
+impl<T> Model for Shares<T> {
+    ghost use Rattle.std.specs.Prelude.{List, map};
+    ghost use Rattle.std.specs.Arc.{arc_value};
+
+    ghost Value = { List T };
+
+    ghost view = { λ s. map arc_value s.items.items };
+}
+
+impl<T: Drop> Shares<T> {
+    /// The empty list. It takes no memory until a value is put in.
+    pub fn new(alloc: Global) -> Shares<T>
+        ensures { result ≡ [] }
+    {
+        Shares {
+            items: Vec::new(alloc),
+        }
+    }
+
+    /// The number of values.
+    pub fn len(&self) -> usize
+        ensures { result ≡ length self.now }
+    {
+        self.items.len()
+    }
+
+    /// Lends the value at the place, counted from 0, or `None` exactly past the end.
+    pub fn get(&self, place: usize) -> Option<&T>
+        ensures { option_copied result ≡ slice_get self.now place }
+    {
+        match self.items.get(place) {
+            Some(item) => Some(&**item),
+            None => None,
+        }
+    }
+
+    /// The same list again. It shares every value.
+    pub fn copy(&self) -> Result<Shares<T>, Memory>
+        ensures { IfOk result (λ s. s ≡ self.now) }
+    {
+        let items = self.items.clone()?;
+        Ok(Shares { items })
+    }
+
+    /// Puts a value at the end.
+    pub fn push(&mut self, alloc: Global, value: T) -> Result<(), Memory>
+        ensures ok { OnOk result (self.new ≡ self.old ++ value ∷ []) }
+        ensures err { OnErr result (self.new ≡ self.old) }
+    {
+        let item = Arc::new(alloc, value)?;
+        self.items.push(item)?;
+        Ok(())
+    }
+
+    /// Puts a value in the place of another one, which other lists keep.
+    pub fn set(&mut self, alloc: Global, place: usize, value: T) -> Result<(), Memory>
+        requires { place < length self.old }
+        ensures ok { OnOk result (self.new ≡ slice_set self.old place value) }
+        ensures err { OnErr result (self.new ≡ self.old) }
+    {
+        let item = Arc::new(alloc, value)?;
+        self.items[place] = item;
+        Ok(())
+    }
+
+    /// Takes a share of the last value out of this list, where there is one.
+    pub(crate) fn take_last(&mut self) -> Option<Arc<T>>
+        ensures some { IfSome result (λ share. self.old ≡ self.new ++ arc_value share ∷ []) }
+        ensures none { IfNone result ((self.old ≡ []) × (self.new ≡ [])) }
+    {
+        self.items.pop()
+    }
+
+    /// Takes the value at the place out of this list.
+    pub fn remove(&mut self, place: usize)
+        requires { place < length self.old }
+        ensures { self.new ≡ remove self.old place }
+    {
+        let _item = self.items.remove(place);
+    }
+}
+
+impl<T: Blank> Shares<T> {
+    ghost use Rattle.std.specs.Prelude.{◌≡◌, ◌≤◌, ◌<◌, ◌^◌, ℕ, length, slice_index_or, IfOk};
+    ghost use Rattle.shared_pages.specs.Buckets.{PutsAt};
+
+    /// A copy with so many places at least. The new ones are empty.
+    fn padded(&self, alloc: Global, len: usize) -> Result<Shares<T>, Memory>
+        ensures items { IfOk result (λ s. (i : ℕ) → slice_index_or s i T.empty ≡ slice_index_or self.now i T.empty) }
+        ensures len { IfOk result (λ s. len ≤ length s) }
+    {
+        let mut list = self.copy()?;
+        while list.len() < len {
+            list.push(alloc, T::blank(alloc))?;
+        }
+        Ok(list)
+    }
+
+    /// A copy with this value at the place. Places before it that were not there are empty.
+    pub(crate) fn with(&self, alloc: Global, place: usize, value: T) -> Result<Shares<T>, Memory>
+        requires { place < 2 ^ 32 }
+        ensures { IfOk result (PutsAt T.empty self.now place value) }
+    {
+        let mut list = self.padded(alloc, place + 1)?;
+        list.set(alloc, place, value)?;
+        Ok(list)
+    }
+}

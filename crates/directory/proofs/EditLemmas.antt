@@ -128,10 +128,10 @@ length-removed [] a = omega arith
 length-removed ((k, o) ∷ es) a = elim (name_tells a k) [ inl t ↦ rw t.0 (omega arith) | inr t ↦ rw t.0 (omega (arith, length-removed es a)) ]
 
 -- ---- `rename_all`
-other : (x k : Name) → x ≢ k → same_name x k ≡ false
+pub other : (x k : Name) → x ≢ k → same_name x k ≡ false
 other x k apart = elim (name_tells x k) [ inl p ↦ absurd (apart p.1) | inr p ↦ p.0 ]
 
-rename_gone : (es : Entries) (a b x : Name) → x ≢ b → x ≡ a → object_of (renamed_all es a b) x ≡ None
+pub rename_gone : (es : Entries) (a b x : Name) → x ≢ b → x ≡ a → object_of (renamed_all es a b) x ≡ None
 rename_gone [] a b x apart here = refl
 rename_gone ((k, o) ∷ es) a b x apart here =
     elim (name_tells k a) [
@@ -139,7 +139,7 @@ rename_gone ((k, o) ∷ es) a b x apart here =
       | inr t ↦ rw (t.0, other x k (λ e. t.1 (sym e ∙ here))) (rename_gone es a b x apart here)
     ]
 
-rename_kept : (es : Entries) (a b x : Name) → x ≢ b → x ≢ a → object_of (renamed_all es a b) x ≡ option_map (renamed_object a b) (object_of es x)
+pub rename_kept : (es : Entries) (a b x : Name) → x ≢ b → x ≢ a → object_of (renamed_all es a b) x ≡ option_map (renamed_object a b) (object_of es x)
 rename_kept [] a b x apart away = refl
 rename_kept ((k, o) ∷ es) a b x apart away =
     elim (name_tells k a) [
@@ -206,7 +206,7 @@ renamed_apart a b k l apart kb lb =
       | inr t ↦ elim (name_tells l a) [ inl s ↦ rw (t.0, s.0) kb | inr s ↦ rw (t.0, s.0) apart ]
     ]
 
-absent_head : (b k : Name) (o : Parts) (es : Entries) → object_of ((k, o) ∷ es) b ≡ None → (k ≢ b) × (object_of es b ≡ None)
+pub absent_head : (b k : Name) (o : Parts) (es : Entries) → object_of ((k, o) ∷ es) b ≡ None → (k ≢ b) × (object_of es b ≡ None)
 absent_head b k o es h =
     elim (name_tells b k) [
       | inl t ↦ let wrong : Some o ≡ None = rw t.0 at h in cc

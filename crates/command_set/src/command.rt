@@ -1,4 +1,5 @@
 use crate::checked_view::CheckedView;
+use crate::held_object::HeldObject;
 use crate::kept_pairs::KeptPairs;
 use crate::member_list::MemberList;
 use crate::name_list::NameList;
@@ -8,7 +9,6 @@ use crate::setting::Setting;
 use crate::title_text::TitleText;
 use crate::world_ray::WorldRay;
 use name_core::Name;
-use object_set::Object;
 
 /// A command that changes the directory.
 #[derive(Debug, Drop)]
@@ -16,7 +16,7 @@ pub enum Edit {
     /// Appends a new object.
     Make {
         name: Name,
-        object: Object,
+        object: HeldObject,
     },
     /// Makes a region of a list of members, or appends the list to a combination, which becomes a region.
     Region {

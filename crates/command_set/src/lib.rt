@@ -3,6 +3,7 @@
 
 mod checked_view;
 mod command;
+mod held_object;
 mod kept_pairs;
 mod member_list;
 mod name_list;
@@ -14,6 +15,7 @@ mod world_ray;
 
 pub use checked_view::CheckedView;
 pub use command::{Command, Edit, Query, Shoot};
+pub use held_object::HeldObject;
 pub use kept_pairs::KeptPairs;
 pub use lattice_core::ViewFault;
 pub use member_list::MemberList;

@@ -165,7 +165,7 @@ pub fn apply(alloc: Global, directory: &mut Directory, edit: &Edit) -> Result<()
     ensures means { Tells result (made directory.old edit.now) }
 {
     match edit {
-        Edit::Make { name, object } => make(alloc, directory, name, object),
+        Edit::Make { name, object } => make(alloc, directory, name, object.object()),
         Edit::Region { name, list } => extend(alloc, directory, name, list, true),
         Edit::Group { name, list } => extend(alloc, directory, name, list, false),
         Edit::Remove { comb, members } => remove(alloc, directory, comb, members),

@@ -9,6 +9,7 @@ use command_set::{Command, Edit, NameList, Query, Refusal};
 use std::alloc::Global;
 
 /// Reads what follows `rm`: `COMB MEMBER ..`.
+#[inline(never)]
 pub(crate) fn rm_command(alloc: Global, atoms: &[&[u8]]) -> Result<Command, LineFault>
     requires { length atoms.now < 2 ^ 31 }
     ensures { IsRead result (commands.rm_command (map (λ a. a.now) atoms.now)) }
@@ -24,6 +25,7 @@ pub(crate) fn rm_command(alloc: Global, atoms: &[&[u8]]) -> Result<Command, Line
 }
 
 /// Reads what follows `kill`: `NAME ..`.
+#[inline(never)]
 pub(crate) fn kill_command(alloc: Global, atoms: &[&[u8]]) -> Result<Command, LineFault>
     requires { length atoms.now < 2 ^ 31 }
     ensures { IsRead result (commands.kill_command (map (λ a. a.now) atoms.now)) }
@@ -36,6 +38,7 @@ pub(crate) fn kill_command(alloc: Global, atoms: &[&[u8]]) -> Result<Command, Li
 }
 
 /// Reads what follows `mvall`: `OLD NEW`.
+#[inline(never)]
 pub(crate) fn mvall_command(atoms: &[&[u8]]) -> Result<Command, LineFault>
     ensures { IsRead result (commands.mvall_command (map (λ a. a.now) atoms.now)) }
 {
@@ -48,6 +51,7 @@ pub(crate) fn mvall_command(atoms: &[&[u8]]) -> Result<Command, LineFault>
 }
 
 /// Reads what follows `ls`: nothing.
+#[inline(never)]
 pub(crate) fn ls_command(atoms: &[&[u8]]) -> Result<Command, LineFault>
     ensures { IsRead result (commands.ls_command (map (λ a. a.now) atoms.now)) }
 {
@@ -59,6 +63,7 @@ pub(crate) fn ls_command(atoms: &[&[u8]]) -> Result<Command, LineFault>
 }
 
 /// Reads what follows `l`: `NAME ..`.
+#[inline(never)]
 pub(crate) fn l_command(alloc: Global, atoms: &[&[u8]]) -> Result<Command, LineFault>
     requires { length atoms.now < 2 ^ 31 }
     ensures { IsRead result (commands.l_command (map (λ a. a.now) atoms.now)) }
@@ -71,6 +76,7 @@ pub(crate) fn l_command(alloc: Global, atoms: &[&[u8]]) -> Result<Command, LineF
 }
 
 /// Reads what follows `tree`: `NAME ..`.
+#[inline(never)]
 pub(crate) fn tree_command(alloc: Global, atoms: &[&[u8]]) -> Result<Command, LineFault>
     requires { length atoms.now < 2 ^ 31 }
     ensures { IsRead result (commands.tree_command (map (λ a. a.now) atoms.now)) }
@@ -83,6 +89,7 @@ pub(crate) fn tree_command(alloc: Global, atoms: &[&[u8]]) -> Result<Command, Li
 }
 
 /// Reads what follows `save`: `FILE`.
+#[inline(never)]
 pub(crate) fn save_command(atoms: &[&[u8]]) -> Result<Command, LineFault>
     ensures { IsRead result (commands.save_command (map (λ a. a.now) atoms.now)) }
 {

@@ -85,6 +85,7 @@ fn is_set(word: Option<&[u8]>) -> bool
 }
 
 /// Reads what follows `attr`: `set NAME KEY VALUE ..`.
+#[inline(never)]
 pub(crate) fn attr_command(
     alloc: Global,
     line: &[u8],

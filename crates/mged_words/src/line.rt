@@ -39,7 +39,7 @@ fn atom_command(alloc: Global, word: &[u8], atoms: &[&[u8]]) -> Result<Command, 
     ensures { IsRead result (commands.atom_command word.now (map (λ a. a.now) atoms.now)) }
 {
     if word == b"in".as_slice() {
-        Ok(in_command(alloc, atoms))
+        in_command(alloc, atoms)
     } else if word == b"nirt".as_slice() {
         nirt_command(alloc, atoms)
     } else if word == b"rt".as_slice() {

@@ -85,6 +85,7 @@ fn region_command(alloc: Global, name: &[u8], words: &[&[u8]]) -> Result<Command
 }
 
 /// Reads what follows `r`: `NAME OP MEMBER ..`.
+#[inline(never)]
 pub(crate) fn r_command(alloc: Global, atoms: &[&[u8]]) -> Result<Command, LineFault>
     requires { length atoms.now < 2 ^ 31 }
     ensures { IsRead result (commands.r_command (map (λ a. a.now) atoms.now)) }
@@ -109,6 +110,7 @@ fn union_of(alloc: Global, names: &[Name]) -> Result<Vec<ListEntry>, Memory>
 }
 
 /// Reads what follows `g`: `NAME MEMBER ..`.
+#[inline(never)]
 pub(crate) fn g_command(alloc: Global, atoms: &[&[u8]]) -> Result<Command, LineFault>
     requires { length atoms.now < 2 ^ 31 }
     ensures { IsRead result (commands.g_command (map (λ a. a.now) atoms.now)) }

@@ -101,6 +101,7 @@ fn place_with(
 }
 
 /// Reads what follows `place`: `COMB MEMBER` and sixteen numbers, or one group of them.
+#[inline(never)]
 pub(crate) fn place_command(
     alloc: Global,
     line: &[u8],

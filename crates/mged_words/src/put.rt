@@ -6,7 +6,7 @@ ghost use Rattle.mged_words.specs.Commands as commands;
 ghost use Rattle.mged_words.specs.Readings.{IsRead};
 
 use crate::fault::LineFault;
-use command_set::{Command, Edit, Refusal};
+use command_set::{Command, Edit, HeldObject, Refusal};
 use put_form::read_put;
 use std::alloc::Global;
 use tcl_words::{Token, Word, atom_text};
@@ -25,10 +25,12 @@ fn made_command(
     ensures { IsRead result (commands.put_made (put_of line.now tokens.now words.now)) }
 {
     let (name, object) = read_put(alloc, line, tokens, words)?;
+    let object = HeldObject::new(alloc, object)?;
     Ok(Command::Edit(Edit::Make { name, object }))
 }
 
 /// Reads `put NAME TYPE KEY VALUE ..`, the command's own word among the words.
+#[inline(never)]
 pub(crate) fn put_command(
     alloc: Global,
     line: &[u8],

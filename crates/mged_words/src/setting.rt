@@ -47,6 +47,7 @@ fn set_command(alloc: Global, name: &[u8], key: &[u8], value: &[u8]) -> Result<C
 }
 
 /// Reads what follows `cattr`: `NAME KEY VALUE ..`.
+#[inline(never)]
 pub(crate) fn cattr_command(
     alloc: Global,
     line: &[u8],

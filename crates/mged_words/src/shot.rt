@@ -57,6 +57,7 @@ fn shot_command(
 }
 
 /// Reads what follows `nirt`: `X Y Z DIR NAME ..`.
+#[inline(never)]
 pub(crate) fn nirt_command(alloc: Global, atoms: &[&[u8]]) -> Result<Command, LineFault>
     requires { length atoms.now < 2 ^ 31 }
     ensures { IsRead result (commands.nirt_command (map (λ a. a.now) atoms.now)) }

@@ -23,6 +23,7 @@ fn text_command(alloc: Global, text: &[u8]) -> Result<Command, LineFault>
 }
 
 /// Reads what follows `title`: `TEXT ..`.
+#[inline(never)]
 pub(crate) fn title_command(
     alloc: Global,
     line: &[u8],

@@ -116,6 +116,7 @@ fn check_command(
 }
 
 /// Reads what follows `rt`: `FILE DIR X Y Z CELL W H NAME ..`.
+#[inline(never)]
 pub(crate) fn rt_command(alloc: Global, atoms: &[&[u8]]) -> Result<Command, LineFault>
     requires { length atoms.now < 2 ^ 31 }
     ensures { IsRead result (commands.rt_command (map (λ a. a.now) atoms.now)) }
@@ -130,6 +131,7 @@ pub(crate) fn rt_command(alloc: Global, atoms: &[&[u8]]) -> Result<Command, Line
 }
 
 /// Reads what follows `rtcheck`: `DIR X Y Z CELL W H NAME ..`.
+#[inline(never)]
 pub(crate) fn rtcheck_command(alloc: Global, atoms: &[&[u8]]) -> Result<Command, LineFault>
     requires { length atoms.now < 2 ^ 31 }
     ensures { IsRead result (commands.rtcheck_command (map (λ a. a.now) atoms.now)) }

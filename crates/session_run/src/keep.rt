@@ -1,4 +1,4 @@
-//! The scene that a session prepared last, which is shot at again while the version stands.
+//! The scenes that a session prepared lately, which are shot at again while the version stands.
 ghost use Rattle.std.specs.Prelude.{◌≡◌, ℕ, true, Ok, Err, IfOk, IfErr, IfSome};
 ghost use Rattle.directory.specs.Walks.{Entries};
 ghost use Rattle.scene_prep.specs.Outcomes.{IsSceneOf};
@@ -9,6 +9,18 @@ use name_core::Name;
 use scene_prep::{PrepFault, prepare};
 use shot_core::Scene;
 use std::alloc::Global;
+use std::collections::HashMap;
+
+/// How many small scenes a session keeps at most.
+const MOST_SMALL: usize = 512;
+
+/// How many regions, and how many solids, a small scene has at most.
+const FEW: u32 = 16;
+
+/// Whether a scene is a small one.
+fn is_small(scene: &Scene) -> bool {
+    scene.regions().len() <= FEW as usize && scene.instance(FEW).is_none()
+}
 
 /// A scene, the names that it is of, and the version of the directory from which it was prepared.
 #[derive(Drop)]
@@ -27,35 +39,64 @@ impl KeptScene {
     }
 }
 
-/// The scene that a session prepared last, if it has prepared one. To prepare a scene costs far more than a shot at it.
+/// The scenes that a session prepared lately: the last one that is large, and small ones by the first of their names. To
+/// prepare a scene costs far more than a shot at it.
 #[derive(Drop)]
 pub struct Keep {
-    kept: Option<KeptScene>,
+    large: Option<KeptScene>,
+    small: HashMap<Name, KeptScene>,
 }
 
 impl Keep {
     /// Nothing is kept. It takes no memory.
-    pub fn new() -> Keep
+    pub fn new(alloc: Global) -> Keep
         ensures { (version : ℕ) (directory : Entries) → IsCurrent result version directory }
     {
-        Keep { kept: None }
+        Keep {
+            large: None,
+            small: HashMap::new(alloc),
+        }
     }
 
-    /// Takes the kept scene, where it is of these names and was prepared at this version.
-    fn take(&mut self, version: u32, names: &[Name]) -> Option<KeptScene>
+    /// Takes the small scene that is kept under the first of the names.
+    fn take_small(&mut self, names: &[Name]) -> Option<KeptScene>
+        ensures taken { IfSome result (λ kept. (version : ℕ) (directory : Entries) → IsCurrent self.old version directory → IsOf version directory kept) }
+        ensures rest { (version : ℕ) (directory : Entries) → IsCurrent self.old version directory → IsCurrent self.new version directory }
+    {
+        match names.first() {
+            Some(first) => self.small.remove(first),
+            None => None,
+        }
+    }
+
+    /// Takes the large scene, where it is of these names and was prepared at this version.
+    fn take_large(&mut self, version: u32, names: &[Name]) -> Option<KeptScene>
         ensures taken { IfSome result (λ kept. (directory : Entries) → IsCurrent self.old version directory → IsKeptOf kept version directory names.now) }
         ensures rest { (directory : Entries) → IsCurrent self.old version directory → IsCurrent self.new version directory }
     {
-        match self.kept.take() {
+        match self.large.take() {
             Some(kept) => {
                 if kept.is_of(version, names) {
                     return Some(kept);
                 }
-                self.kept = Some(kept);
+                self.large = Some(kept);
                 None
             }
             None => None,
         }
+    }
+
+    /// Takes a kept scene that is of these names and was prepared at this version.
+    fn take(&mut self, version: u32, names: &[Name]) -> Option<KeptScene>
+        ensures taken { IfSome result (λ kept. (directory : Entries) → IsCurrent self.old version directory → IsKeptOf kept version directory names.now) }
+        ensures rest { (directory : Entries) → IsCurrent self.old version directory → IsCurrent self.new version directory }
+    {
+        if let Some(kept) = self.take_small(names) {
+            if kept.is_of(version, names) {
+                return Some(kept);
+            }
+        }
+        self.take_large(version, names)
     }
 
     /// Takes the scene of these names in a directory of this version: the one that is kept, or else one that is prepared.
@@ -85,10 +126,27 @@ impl Keep {
         }
     }
 
-    /// Keeps a scene in the place of what was kept.
-    pub(crate) fn put(&mut self, kept: KeptScene)
-        ensures { (version : ℕ) (directory : Entries) → IsOf version directory kept → IsCurrent self.new version directory }
+    /// Keeps a small scene. Where there is no room for one more, the others go.
+    fn put_small(&mut self, first: Name, kept: KeptScene)
+        ensures { (version : ℕ) (directory : Entries) → IsOf version directory kept → IsCurrent self.old version directory → IsCurrent self.new version directory }
     {
-        self.kept = Some(kept);
+        if self.small.len() >= MOST_SMALL {
+            self.small.clear();
+        }
+        let _before = self.small.insert(first, kept);
+    }
+
+    /// Keeps a scene: a large one in the place of the last, a small one beside the others.
+    pub(crate) fn put(&mut self, kept: KeptScene)
+        ensures { (version : ℕ) (directory : Entries) → IsOf version directory kept → IsCurrent self.old version directory → IsCurrent self.new version directory }
+    {
+        if is_small(&kept.scene) {
+            if let Some(first) = kept.names.first() {
+                let first = *first;
+                self.put_small(first, kept);
+            }
+        } else {
+            self.large = Some(kept);
+        }
     }
 }

@@ -1,23 +1,25 @@
 -- What a call says, put together from what its stages give.
-use Rattle.std.proofs.Common.{◌≡◌, ◌≢◌, ◌∙◌, ◌⊎◌, inl, inr, ℕ, Bool, true, false, List, [], Option, Some, None, IfSome, Result, Ok, Err, is_some, take, refl, ap, ap₂, sym, subst}
-use Rattle.std.specs.Option.{option_and_then}
+use Rattle.std.proofs.Common.{◌≡◌, ◌≢◌, ◌∙◌, ◌⊎◌, inl, inr, ℕ, Bool, true, false, List, [], Option, Some, None, IfSome, Result, Ok, Err, is_some, map, take, refl, ap, ap₂, sym, subst}
+use Rattle.std.specs.Option.{option_and_then, option_map_or}
 use Rattle.std.specs.Io.KnownBytes.{Keeps}
-use Rattle.name_core.specs.declared.name.Name.{Name}
 use Rattle.outside_core.specs.Faults.{Rose}
 use Rattle.outside_core.specs.Told.{Advances, Stays}
 use Rattle.outside_core.specs.declared.traits.File.{File}
-use Rattle.transcript.specs.Merge.{Entry}
-use Rattle.command_set.specs.declared.command.Command.{Command}
 use Rattle.directory.specs.Listing.{Listing}
-use Rattle.option_words.specs.Grammar.{Asked, asked_of}
+use Rattle.option_words.specs.Grammar.{asked_of}
+use Rattle.option_words.specs.declared.options.Model.{Model}
+use Rattle.option_words.specs.declared.options.Options.{Options}
+use Rattle.mged_words.specs.Entries.{command_entry}
+use Rattle.mged_words.specs.Scripts.{script_of}
 use Rattle.mged_words.specs.declared.script.ScriptFlaw.{ScriptFlaw}
-use Rattle.mged_top.specs.Calls.{IsRefused, IsSourceFault, IsLoadingFault, IsReadFault, AreFilesCut, IsWriteFault, IsWantOfMemory, Explains, ComesTo, IsRunStatus, IsComplete}
-use Rattle.mged_top.specs.Courses.{Course, Stops, Runs, course_of, course_asked, course_with, course_from, loaded}
-use Rattle.mged_top.specs.Outcomes.{AreTold, Ran, IsWritten}
+use Rattle.mged_top.specs.Calls.{is_of_file, IsRefused, IsSourceFault, IsLoadingFault, IsReadFault, AreFilesCut, IsWriteFault, IsWantOfMemory, Explains, ComesTo, IsRunStatus, IsComplete}
+use Rattle.mged_top.specs.Courses.{Course, Stops, Runs, course_of, course_asked, course_with, course_from, has_own_script, loaded, own_script, script_run}
+use Rattle.mged_top.specs.Outcomes.{AreInputs, AreTold, IsSourceRead, Ran, IsWritten}
 use Rattle.mged_top.specs.Outside.{Outside, outside, IsQuiet, IsFaultless, IsUnwritten}
-use Rattle.mged_top.specs.Stages.{CanLoad, CanRead, WasRead, IsLoad, IsRead, load_status, script_status, IsRun, IsWhole, IsTextShort, AreFilesShort, Writes, files_among}
+use Rattle.mged_top.specs.Stages.{CanLoad, CanRead, IsLoad, IsReadBy, load_status, script_status, IsRun, IsWhole, IsTextShort, AreFilesShort, Writes, files_among}
 use Rattle.mged_top.specs.declared.load.LoadStop.{LoadStop}
 use Rattle.mged_top.specs.declared.load.LoadStop.TheVariants as load
+use Rattle.mged_top.specs.declared.load.Start.{Start}
 use Rattle.mged_top.specs.declared.read.ScriptStop.{ScriptStop}
 use Rattle.mged_top.specs.declared.read.ScriptStop.TheVariants as script
 use Rattle.mged_top.specs.declared.status.LoadFault.{LoadFault}
@@ -42,52 +44,68 @@ usage_refused words before after none unwritten quiet = record {
   files = known [] before.files;
   script = known [] before.left;
   told = record { files_told = known_told [] before.files; script_told = known_told [] before.left };
-  course = ap (λ (asked : Option Asked). course_asked asked (known [] before.files) (known [] before.left)) none;
+  course = ap (λ (asked : Option Options). course_asked asked (known [] before.files) (known [] before.left)) none;
   unwritten = unwritten;
   quiet = quiet;
 }
 
--- the course where the words ask for this file
-course_by : (words : List (List ℕ)) (load : Option Name) (files : List File) (script : List ℕ) (start : Result Listing LoadFault)
-    → asked_of words ≡ Some (record { load = load }) → loaded load files ≡ start → course_of words files script ≡ course_with start script
-course_by words load files script start asked is = ap (λ (a : Option Asked). course_asked a files script) asked ∙ ap (λ (s : Result Listing LoadFault). course_with s script) is
+-- the course where the words ask for this model
+course_by : (words : List (List ℕ)) (model : Model) (own : Option (List ℕ)) (files : List File) (script : List ℕ) (start : Result Listing LoadFault)
+    → asked_of words ≡ Some (record { model = model }) → own_script model ≡ own → loaded model files ≡ start → course_of words files script ≡ course_with start (script_run own script)
+course_by words model own files script start asked is loads =
+    ap (λ (a : Option Options). course_asked a files script) asked ∙ ap₂ (λ (s : Result Listing LoadFault) (o : Option (List ℕ)). course_with s (script_run o script)) loads is
 
-pub load_refused : (words : List (List ℕ)) (before after : Outside) (load : Option Name) (fault : LoadFault) → asked_of words ≡ Some (record { load = load })
-    → CanLoad before.files load (Err fault) → IsUnwritten before after → IsQuiet before after → IsRefused words before after (LoadRefused fault)
-load_refused words before after load fault asked can unwritten quiet = record {
+-- and whether they ask for a script with it
+scripted : (words : List (List ℕ)) (model : Model) (own : Option (List ℕ)) → asked_of words ≡ Some (record { model = model }) → own_script model ≡ own → has_own_script words ≡ is_some own
+scripted words model own asked is = ap (λ (a : Option Options). is_some (option_and_then (λ (options : Options). own_script options.model) a)) asked ∙ ap is_some is
+
+pub load_refused : (words : List (List ℕ)) (before after : Outside) (model : Model) (fault : LoadFault) → asked_of words ≡ Some (record { model = model })
+    → CanLoad before.files model (Err fault) → IsUnwritten before after → IsQuiet before after → IsRefused words before after (LoadRefused fault)
+load_refused words before after model fault asked can unwritten quiet = record {
   files = can.files;
   script = known [] before.left;
   told = record { files_told = can.as_told; script_told = known_told [] before.left };
-  course = course_by words load can.files (known [] before.left) (Err fault) asked can.gives;
+  course = course_by words model (own_script model) can.files (known [] before.left) (Err fault) asked refl can.gives;
   unwritten = unwritten;
   quiet = quiet;
 }
 
-pub script_refused : (words : List (List ℕ)) (before after : Outside) (load : Option Name) (start : Listing) (flaw : ScriptFlaw) → asked_of words ≡ Some (record { load = load })
-    → CanLoad before.files load (Ok start) → CanRead before.left (Err flaw) → IsUnwritten before after → IsQuiet before after → IsRefused words before after (ScriptRefused flaw)
-script_refused words before after load start flaw asked can read unwritten quiet = record {
+pub script_refused : (words : List (List ℕ)) (before after : Outside) (model : Model) (start : Listing) (flaw : ScriptFlaw) → asked_of words ≡ Some (record { model = model }) → own_script model ≡ None
+    → CanLoad before.files model (Ok start) → CanRead before.left (Err flaw) → IsUnwritten before after → IsQuiet before after → IsRefused words before after (ScriptRefused flaw)
+script_refused words before after model start flaw asked none can read unwritten quiet = record {
   files = can.files;
   script = read.script;
   told = record { files_told = can.as_told; script_told = read.as_told };
-  course = course_by words load can.files read.script (Ok start) asked can.gives ∙ ap (course_from start) read.gives;
+  course = course_by words model None can.files read.script (Ok start) asked none can.gives ∙ ap (course_from start) read.gives;
   unwritten = unwritten;
   quiet = quiet;
 }
 
-pub source_failed : (words : List (List ℕ)) (before after : Outside) (asked : Asked) (start : Listing) → asked_of words ≡ Some asked → CanLoad before.files asked.load (Ok start) → Rose before.reads after.reads → after.calls ≡ before.calls → after.writes ≡ before.writes
+pub own_refused : (words : List (List ℕ)) (before after : Outside) (model : Model) (own : List ℕ) (start : Listing) (flaw : ScriptFlaw) → asked_of words ≡ Some (record { model = model }) → own_script model ≡ Some own
+    → CanLoad before.files model (Ok start) → script_of own ≡ Err flaw → IsUnwritten before after → IsQuiet before after → IsRefused words before after (ScriptRefused flaw)
+own_refused words before after model own start flaw asked some can read unwritten quiet = record {
+  files = can.files;
+  script = known [] before.left;
+  told = record { files_told = can.as_told; script_told = known_told [] before.left };
+  course = course_by words model (Some own) can.files (known [] before.left) (Ok start) asked some can.gives ∙ ap (course_from start) read;
+  unwritten = unwritten;
+  quiet = quiet;
+}
+
+pub source_failed : (words : List (List ℕ)) (before after : Outside) (model : Model) (start : Listing) → asked_of words ≡ Some (record { model = model }) → own_script model ≡ None → CanLoad before.files model (Ok start) → Rose before.reads after.reads → after.calls ≡ before.calls → after.writes ≡ before.writes
     → IsUnwritten before after → IsReadFault words before after
-source_failed words before after asked start is can rose calls writes unwritten =
+source_failed words before after model start is none can rose calls writes unwritten =
     record {
-      cause = inl (record { asked = asked; understood = is; files = can.files; told = can.as_told; start = start; loads = can.gives; rose = rose; calls = calls });
+      cause = inl (record { asked = record { model = model }; understood = is; unscripted = scripted words model None is none; files = can.files; told = can.as_told; start = start; loads = can.gives; rose = rose; calls = calls });
       writes = writes;
       unwritten = unwritten;
     }
 
-pub loading_failed : (words : List (List ℕ)) (before after : Outside) (load : Option Name) → asked_of words ≡ Some (record { load = load }) → is_some load ≡ true → Rose before.calls after.calls
+pub loading_failed : (words : List (List ℕ)) (before after : Outside) (model : Model) → asked_of words ≡ Some (record { model = model }) → is_of_file model ≡ true → Rose before.calls after.calls
     → Keeps before.left after.left → after.reads ≡ before.reads → after.writes ≡ before.writes → IsUnwritten before after → IsReadFault words before after
-loading_failed words before after load is some rose unread reads writes unwritten =
+loading_failed words before after model is some rose unread reads writes unwritten =
     record {
-      cause = inr (record { asked = ap (λ (a : Option Asked). is_some (option_and_then (λ (asked : Asked). asked.load) a)) is ∙ some; unread = unread; rose = rose; reads = reads });
+      cause = inr (record { asked = ap (λ (a : Option Options). option_map_or (λ (options : Options). is_of_file options.model) a false) is ∙ some; unread = unread; rose = rose; reads = reads });
       writes = writes;
       unwritten = unwritten;
     }
@@ -97,7 +115,7 @@ advances_none : (left : Option (List ℕ)) → Advances left left
 advances_none None = ([], tt)
 advances_none (Some told) = ([], refl)
 
-keeps_none : (held : Option (List ℕ)) → Keeps held held
+pub keeps_none : (held : Option (List ℕ)) → Keeps held held
 keeps_none None = tt
 keeps_none (Some told) = refl
 
@@ -110,28 +128,31 @@ pub no_options : (words : List (List ℕ)) (left held : Option (List ℕ)) (file
 no_options words left held files puts reads writes calls none =
     usage_refused words _ _ none (record { left = advances_none left; held = keeps_none held; files = stays_none files; puts = stays_none puts }) (record { reads = refl; writes = refl; calls = refl })
 
--- a call that ends at its load file
-pub load_stopped : (stop : LoadStop) (words : List (List ℕ)) (left held : Option (List ℕ)) (files files' puts puts' : Option (List File)) (reads writes calls calls' : ℕ) (name : Option Name)
-    → asked_of words ≡ Some (record { load = name }) → IsLoad (Err stop) name files → Stays files files' → Stays puts puts'
-    → (◌≢◌ {A = Result Listing LoadStop} (Err stop) (Err load.Failed) → calls' ≡ calls) → (◌≡◌ {A = Result Listing LoadStop} (Err stop) (Err load.Failed) → Rose calls calls')
+-- a call that ends at its model
+pub load_stopped : (stop : LoadStop) (words : List (List ℕ)) (left held : Option (List ℕ)) (files files' puts puts' : Option (List File)) (reads writes calls calls' : ℕ) (model : Model)
+    → asked_of words ≡ Some (record { model = model }) → IsLoad (Err stop) model files → Stays files files' → Stays puts puts'
+    → (◌≢◌ {A = Result Start LoadStop} (Err stop) (Err load.Failed) → calls' ≡ calls) → (◌≡◌ {A = Result Start LoadStop} (Err stop) (Err load.Failed) → Rose calls calls')
     → Explains (load_status stop) words (outside left held files puts reads writes calls) (outside left held files' puts' reads writes calls')
-load_stopped (load.Refused fault) words left held files files' puts puts' reads writes calls calls' name asked is f p steady rose =
-    load_refused words _ _ name fault asked is (record { left = advances_none left; held = keeps_none held; files = f; puts = p }) (record { reads = refl; writes = refl; calls = steady (λ e. absurd cc) })
-load_stopped load.Failed words left held files files' puts puts' reads writes calls calls' name asked is f p steady rose =
-    loading_failed words _ _ name asked is (rose refl) (keeps_none left) refl refl (record { left = advances_none left; held = keeps_none held; files = f; puts = p })
-load_stopped LoadStop.Memory words left held files files' puts puts' reads writes calls calls' name asked is f p steady rose =
+load_stopped (load.Refused fault) words left held files files' puts puts' reads writes calls calls' model asked is f p steady rose =
+    load_refused words _ _ model fault asked is (record { left = advances_none left; held = keeps_none held; files = f; puts = p }) (record { reads = refl; writes = refl; calls = steady (λ e. absurd cc) })
+load_stopped load.Failed words left held files files' puts puts' reads writes calls calls' model asked is f p steady rose =
+    loading_failed words _ _ model asked is (rose refl) (keeps_none left) refl refl (record { left = advances_none left; held = keeps_none held; files = f; puts = p })
+load_stopped LoadStop.Memory words left held files files' puts puts' reads writes calls calls' model asked is f p steady rose =
     (record { reads = refl; writes = refl; calls = steady (λ e. absurd cc) }, inl (record { left = advances_none left; held = keeps_none held; files = f; puts = p }))
 
 -- a call that ends at its script
-pub script_stopped : (stop : ScriptStop) (words : List (List ℕ)) (left left' held : Option (List ℕ)) (files files' puts puts' : Option (List File)) (reads reads' writes calls calls' : ℕ) (load : Option Name) (start : Listing)
-    → asked_of words ≡ Some (record { load = load }) → CanLoad files load (Ok start) → IsRead (Err stop) left left' → Advances left left' → Stays files files' → Stays puts puts' → calls' ≡ calls
+pub script_stopped : (stop : ScriptStop) (words : List (List ℕ)) (left left' held : Option (List ℕ)) (files files' puts puts' : Option (List File)) (reads reads' writes calls calls' : ℕ) (model : Model) (own : Option (List ℕ)) (start : Listing)
+    → asked_of words ≡ Some (record { model = model }) → own_script model ≡ own → CanLoad files model (Ok start) → IsReadBy (Err stop) own left left' → Advances left left' → Stays files files' → Stays puts puts' → calls' ≡ calls
     → (◌≢◌ {A = Result (List ScriptCommand) ScriptStop} (Err stop) (Err script.Failed) → reads' ≡ reads) → (◌≡◌ {A = Result (List ScriptCommand) ScriptStop} (Err stop) (Err script.Failed) → Rose reads reads')
     → Explains (script_status stop) words (outside left held files puts reads writes calls) (outside left' held files' puts' reads' writes calls')
-script_stopped (script.Refused flaw) words left left' held files files' puts puts' reads reads' writes calls calls' name start asked can is advances f p same steady rose =
-    script_refused words _ _ name start flaw asked can is (record { left = advances; held = keeps_none held; files = f; puts = p }) (record { reads = steady (λ e. absurd cc); writes = refl; calls = same })
-script_stopped script.Failed words left left' held files files' puts puts' reads reads' writes calls calls' name start asked can is advances f p same steady rose =
-    source_failed words _ _ (record { load = name }) start asked can (rose refl) same refl (record { left = advances; held = keeps_none held; files = f; puts = p })
-script_stopped ScriptStop.Memory words left left' held files files' puts puts' reads reads' writes calls calls' name start asked can is advances f p same steady rose =
+script_stopped (script.Refused flaw) words left left' held files files' puts puts' reads reads' writes calls calls' model None start asked own can is advances f p same steady rose =
+    script_refused words _ _ model start flaw asked own can is (record { left = advances; held = keeps_none held; files = f; puts = p }) (record { reads = steady (λ e. absurd cc); writes = refl; calls = same })
+script_stopped (script.Refused flaw) words left left' held files files' puts puts' reads reads' writes calls calls' model (Some text) start asked own can is advances f p same steady rose =
+    own_refused words _ _ model text start flaw asked own can is.0 (record { left = advances; held = keeps_none held; files = f; puts = p }) (record { reads = steady (λ e. absurd cc); writes = refl; calls = same })
+script_stopped script.Failed words left left' held files files' puts puts' reads reads' writes calls calls' model None start asked own can is advances f p same steady rose =
+    source_failed words _ _ model start asked own can (rose refl) same refl (record { left = advances; held = keeps_none held; files = f; puts = p })
+script_stopped script.Failed words left left' held files files' puts puts' reads reads' writes calls calls' model (Some text) start asked own can is advances f p same steady rose = absurd is.0
+script_stopped ScriptStop.Memory words left left' held files files' puts puts' reads reads' writes calls calls' model own start asked is_own can is advances f p same steady rose =
     (record { reads = steady (λ e. absurd cc); writes = refl; calls = same }, inl (record { left = advances; held = keeps_none held; files = f; puts = p }))
 
 -- a call that ends before its run for want of memory
@@ -141,21 +162,32 @@ pub no_memory : (words : List (List ℕ)) (left left' held : Option (List ℕ)) 
 no_memory words left left' held files files' puts puts' reads reads' writes calls calls' advances f p r c =
     (record { reads = r; writes = refl; calls = c }, inl (record { left = advances; held = keeps_none held; files = f; puts = p }))
 
+-- the inputs of a run
+inputs : (words : List (List ℕ)) (before after : Outside) (model : Model) (own : Option (List ℕ)) (start : Listing) (commands : List ScriptCommand)
+    → asked_of words ≡ Some (record { model = model }) → own_script model ≡ own → CanLoad before.files model (Ok start) → IsReadBy (Ok commands) own before.left after.left → AreInputs words before after start (map command_entry commands)
+inputs words before after model None start commands asked own can read = record {
+  files = can.files;
+  script = read.script;
+  told = record { files_told = can.as_told; script_told = read.as_told };
+  course = course_by words model None can.files read.script (Ok start) asked own can.gives ∙ ap (course_from start) read.gives;
+  source = subst (λ (t : Bool). IsSourceRead t before.left after.left read.script) (sym (scripted words model None asked own)) (read.taken, read.end);
+}
+inputs words before after model (Some text) start commands asked own can read = record {
+  files = can.files;
+  script = known [] before.left;
+  told = record { files_told = can.as_told; script_told = known_told [] before.left };
+  course = course_by words model (Some text) can.files (known [] before.left) (Ok start) asked own can.gives ∙ ap (course_from start) read.0;
+  source = subst (λ (t : Bool). IsSourceRead t before.left after.left (known [] before.left)) (sym (scripted words model (Some text) asked own)) read.1;
+}
+
 -- a run, and the inputs that it had
-pub ran : (words : List (List ℕ)) (before after : Outside) (load : Option Name) (start : Listing) (commands : List (Entry Command)) (bytes order : List ℕ) (lists : List (List Answer)) (some_refused : Bool)
-    → asked_of words ≡ Some (record { load = load }) → CanLoad before.files load (Ok start) → WasRead before.left after.left commands → IsRun start commands bytes order lists some_refused
+pub ran : (words : List (List ℕ)) (before after : Outside) (model : Model) (own : Option (List ℕ)) (start : Listing) (commands : List ScriptCommand) (bytes order : List ℕ) (lists : List (List Answer)) (some_refused : Bool)
+    → asked_of words ≡ Some (record { model = model }) → own_script model ≡ own → CanLoad before.files model (Ok start) → IsReadBy (Ok commands) own before.left after.left → IsRun start (map command_entry commands) bytes order lists some_refused
     → Ran words before after bytes (files_among order lists) some_refused
-ran words before after load start commands bytes order lists some_refused asked can read run = record {
+ran words before after model own start commands bytes order lists some_refused asked is can read run = record {
   start = start;
-  commands = commands;
-  inputs = record {
-    files = can.files;
-    script = read.script;
-    told = record { files_told = can.as_told; script_told = read.as_told };
-    course = course_by words load can.files read.script (Ok start) asked can.gives ∙ ap (course_from start) read.gives;
-    read = read.taken;
-    end = read.end;
-  };
+  commands = map command_entry commands;
+  inputs = inputs words before after model own start commands asked is can read;
   outcome = run.outcome;
   in_line_order = run.in_line_order;
 }

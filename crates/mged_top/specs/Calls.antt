@@ -1,14 +1,17 @@
 -- What each status says of a call, and which status comes.
-use Rattle.std.specs.Prelude.{◌≡◌, ◌⊎◌, ℕ, Bool, true, false, List, Some, IfSome, Ok, is_some}
-use Rattle.std.specs.Option.{option_and_then}
+use Rattle.std.specs.Prelude.{◌≡◌, ◌⊎◌, ℕ, Bool, true, false, List, Some, IfSome, Ok}
+use Rattle.std.specs.Option.{option_map_or}
 use Rattle.std.specs.Io.KnownBytes.{Appends, Keeps}
 use Rattle.outside_core.specs.Faults.{Rose}
 use Rattle.outside_core.specs.Told.{Stays}
 use Rattle.outside_core.specs.Transfers.{IsCutShort}
 use Rattle.outside_core.specs.declared.traits.File.{File}
 use Rattle.directory.specs.Listing.{Listing}
-use Rattle.option_words.specs.Grammar.{Asked, asked_of}
-use Rattle.mged_top.specs.Courses.{Course, Stops, Runs, course_of, loaded}
+use Rattle.option_words.specs.Grammar.{asked_of}
+use Rattle.option_words.specs.declared.options.Model.{Model}
+use Rattle.option_words.specs.declared.options.Model.TheVariants.{Empty, OfFile, OfDemo}
+use Rattle.option_words.specs.declared.options.Options.{Options}
+use Rattle.mged_top.specs.Courses.{Course, Stops, Runs, course_of, has_own_script, loaded}
 use Rattle.mged_top.specs.Outcomes.{AreTold, Ran, IsWritten}
 use Rattle.mged_top.specs.Outside.{Outside, IsQuiet, IsFaultless, IsUnwritten, AreCutShort}
 use Rattle.mged_top.specs.declared.status.Status.{Status}
@@ -23,18 +26,25 @@ pub record IsRefused (words : List (List ℕ)) (before after : Outside) (status 
   pub unwritten : IsUnwritten before after
   pub quiet : IsQuiet before after
 
+abbrev pub is_of_file : Model → Bool
+is_of_file Empty = false
+is_of_file (OfFile name) = true
+is_of_file (OfDemo number) = false
+
 -- the words ask for a load file
 abbrev pub AskForFile : List (List ℕ) → Type 0
-AskForFile words = is_some (option_and_then (λ asked. asked.load) (asked_of words)) ≡ true
+AskForFile words = option_map_or (λ options. is_of_file options.model) (asked_of words) false ≡ true
 
--- a read of the source failed; the words are in the grammar, and the load file, where they ask for one, has a directory
+-- a read of the source failed; the words are in the grammar, the load file, where they ask for one, has a directory, and
+-- they ask for no model that comes with a script
 pub record IsSourceFault (words : List (List ℕ)) (before after : Outside) : Type 0 where
-  pub asked : Asked
+  pub asked : Options
   pub understood : asked_of words ≡ Some asked
+  pub unscripted : has_own_script words ≡ false
   pub files : List File
   pub told : IfSome before.files (λ known. files ≡ known)
   pub start : Listing
-  pub loads : loaded asked.load files ≡ Ok start
+  pub loads : loaded asked.model files ≡ Ok start
   pub rose : Rose before.reads after.reads
   pub calls : after.calls ≡ before.calls
 

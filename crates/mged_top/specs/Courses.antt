@@ -1,18 +1,24 @@
 -- What a call comes to by its words, the shelf's files and the script, where no call on the outside fails and there is
--- memory. The words are looked at first, then the load file, then the script; the first that is refused ends the call.
-use Rattle.std.specs.Prelude.{ℕ, nat_le, List, Option, None, Some, Result, Ok, Err, length, if◌then◌else◌}
+-- memory. The words are looked at first, then the load file, then the script; the first that is refused ends the call. A
+-- demo has a model and a script of its own.
+use Rattle.std.specs.Prelude.{ℕ, Bool, nat_le, List, Option, None, Some, is_some, Result, Ok, Err, length, if◌then◌else◌}
+use Rattle.std.specs.Option.{option_and_then}
 use Rattle.name_core.specs.declared.name.Name.{Name}
 use Rattle.outside_core.specs.Files.{bytes_in}
 use Rattle.outside_core.specs.declared.traits.File.{File}
 use Rattle.transcript.specs.Merge.{Entry}
 use Rattle.command_set.specs.declared.command.Command.{Command}
 use Rattle.directory.specs.Listing.{Listing}
-use Rattle.option_words.specs.Grammar.{Asked, asked_of}
+use Rattle.option_words.specs.Grammar.{asked_of}
+use Rattle.option_words.specs.declared.options.Model.{Model}
+use Rattle.option_words.specs.declared.options.Model.TheVariants.{Empty, OfFile, OfDemo}
+use Rattle.option_words.specs.declared.options.Options.{Options}
 use Rattle.asc_form.specs.Reading.{directory_of}
 use Rattle.asc_form.specs.declared.fault.AscFault.{AscFault}
 use Rattle.asc_form.specs.declared.fault.AscFault.TheVariants as asc
 use Rattle.mged_words.specs.Scripts.{script_of}
 use Rattle.mged_words.specs.declared.script.ScriptFlaw.{ScriptFlaw}
+use Rattle.scene_make.specs.Demo.{demo, demo_script}
 use Rattle.session_run.specs.Replies.{no_objects}
 use Rattle.mged_top.specs.declared.status.LoadFault.{LoadFault}
 use Rattle.mged_top.specs.declared.status.LoadFault.TheVariants.{NoFile, Size, At}
@@ -43,10 +49,22 @@ abbrev pub loaded_from : Name → Option (List ℕ) → Result Listing LoadFault
 loaded_from name None = Err (NoFile name)
 loaded_from name (Some text) = model_in text
 
--- the directory at the start: the empty one where no file is asked for
-abbrev pub loaded : Option Name → List File → Result Listing LoadFault
-loaded None files = Ok no_objects
-loaded (Some name) files = loaded_from name (bytes_in files name)
+-- the directory at the start: the empty one where no model is asked for, that of a file, or that of a number
+abbrev pub loaded : Model → List File → Result Listing LoadFault
+loaded Empty files = Ok no_objects
+loaded (OfFile name) files = loaded_from name (bytes_in files name)
+loaded (OfDemo number) files = Ok (demo number)
+
+-- the script that a model comes with
+abbrev pub own_script : Model → Option (List ℕ)
+own_script Empty = None
+own_script (OfFile name) = None
+own_script (OfDemo number) = Some demo_script
+
+-- the script that is run: the model's own, or else what there is to be read
+abbrev pub script_run : Option (List ℕ) → List ℕ → List ℕ
+script_run None script = script
+script_run (Some own) script = own
 
 abbrev pub course_from : Listing → Result (List (Entry Command)) ScriptFlaw → Course
 course_from start (Err flaw) = Stops (ScriptRefused flaw)
@@ -56,9 +74,13 @@ abbrev pub course_with : Result Listing LoadFault → List ℕ → Course
 course_with (Err fault) script = Stops (LoadRefused fault)
 course_with (Ok start) script = course_from start (script_of script)
 
-abbrev pub course_asked : Option Asked → List File → List ℕ → Course
+abbrev pub course_asked : Option Options → List File → List ℕ → Course
 course_asked None files script = Stops Usage
-course_asked (Some asked) files script = course_with (loaded asked.load files) script
+course_asked (Some options) files script = course_with (loaded options.model files) (script_run (own_script options.model) script)
 
 abbrev pub course_of : List (List ℕ) → List File → List ℕ → Course
 course_of words files script = course_asked (asked_of words) files script
+
+-- the words ask for a model that comes with a script, so that none is read
+abbrev pub has_own_script : List (List ℕ) → Bool
+has_own_script words = is_some (option_and_then (λ options. own_script options.model) (asked_of words))

@@ -1,5 +1,5 @@
 -- What calls come to, and the lines of statuses, as the definitions have them. Each is proved by computing.
-use Rattle.std.specs.Prelude.{◌≡◌, ℕ, List, [], ◌∷◌, ◌++◌, Some, pos, refl, codes}
+use Rattle.std.specs.Prelude.{◌≡◌, ℕ, List, [], ◌∷◌, ◌++◌, Some, map, pos, negsuc, refl, codes}
 use Rattle.std.specs.Fmt.{digits}
 use Rattle.solid_set.specs.Rpps.{vector}
 use Rattle.solid_set.specs.declared.solid.Solid.TheVariants as solids
@@ -8,15 +8,21 @@ use Rattle.object_set.specs.declared.object.Body.TheVariants as bodies
 use Rattle.outside_core.specs.Files.{bytes_in}
 use Rattle.outside_core.specs.declared.traits.File.{File}
 use Rattle.transcript.specs.Merge.{entry}
-use Rattle.command_set.specs.declared.command.Command.TheVariants.{Bad, Edit, Query}
-use Rattle.command_set.specs.declared.command.Edit.TheVariants.{Kill}
-use Rattle.command_set.specs.declared.command.Query.TheVariants.{Names}
+use Rattle.lattice_core.specs.declared.ray.Dir.TheVariants.{MinusZ, PlusX}
+use Rattle.lattice_core.specs.declared.view.View.{View}
+use Rattle.command_set.specs.declared.command.Command.{Command}
+use Rattle.command_set.specs.declared.command.Command.TheVariants.{Bad, Edit, Query, Shoot}
+use Rattle.command_set.specs.declared.command.Edit.TheVariants.{Kill, Set}
+use Rattle.command_set.specs.declared.command.Query.TheVariants.{Names, Shot}
+use Rattle.command_set.specs.declared.command.Shoot.TheVariants.{Picture, Check}
 use Rattle.command_set.specs.declared.refusal.Refusal.TheVariants.{Syntax}
 use Rattle.directory.specs.Listing.{Listing}
 use Rattle.mged_words.specs.declared.script.ScriptFlaw.TheVariants.{Size, Session}
 use Rattle.asc_form.specs.declared.fault.AscKind.TheVariants as kinds
 use Rattle.mged_top.specs.declared.status.LoadFault.TheVariants.{NoFile, At}
 use Rattle.mged_top.specs.declared.status.Status.TheVariants as status
+use Rattle.mged_words.specs.Commands.{ray_of, view_refusal}
+use Rattle.scene_make.specs.Demo.{demo}
 use Rattle.session_run.specs.Replies.{no_objects}
 use Rattle.mged_top.specs.Courses.{Stops, Runs, course_of}
 use Rattle.mged_top.specs.Outside.{AreSet}
@@ -71,6 +77,30 @@ one_command = refl
 -- of two files of one name the later one counts
 later_file : course_of load_m (file_m (codes "frob") ∷ file_m [] ∷ []) [] ≡ Runs no_objects []
 later_file = refl
+
+-- a number makes its directory, and the commands are those of its script; files, and what there is to be read, are of no
+-- matter
+abbrev seen : View
+seen = record { corner = vector (negsuc 1104) (pos 1105) (pos 1500); dir = MinusZ; cell = pos 10; w = 222; h = 222 }
+
+abbrev all : List (List ℕ)
+all = codes "all" ∷ []
+
+abbrev demo_commands : List Command
+demo_commands =
+    Shoot (Picture (codes "demo1.ppm") seen all)
+    ∷ Shoot (Check seen all)
+    ∷ Edit (Set (codes "r555") (record { key = codes "rgb"; value = codes "255 0 0" }))
+    ∷ Shoot (Picture (codes "demo2.ppm") seen all)
+    ∷ Query (Shot (ray_of (vector (negsuc 1999) (negsuc 899) (negsuc 899)) PlusX) all)
+    ∷ []
+
+a_demo : (files : List File) (script : List ℕ) → course_of (codes "--demo" ∷ codes "007" ∷ []) files script ≡ Runs (demo 7) (map (entry 1) demo_commands)
+unfolding view_refusal
+a_demo files script = refl
+
+file_and_demo : (files : List File) (script : List ℕ) → course_of (codes "--demo=7" ∷ codes "--load=m" ∷ []) files script ≡ Stops status.Usage
+file_and_demo files script = refl
 
 -- ---- the files after some puts
 

@@ -1,7 +1,7 @@
 -- What a call read, and what its run wrote.
-use Rattle.std.specs.Prelude.{◌≡◌, ℕ, Bool, false, List, map, IfSome}
+use Rattle.std.specs.Prelude.{◌≡◌, ℕ, Bool, true, false, List, Option, map, IfSome}
 use Rattle.std.specs.List.{list_any}
-use Rattle.std.specs.Io.KnownBytes.{Appends, Consumes, IsAtEnd}
+use Rattle.std.specs.Io.KnownBytes.{Appends, Consumes, IsAtEnd, Keeps}
 use Rattle.outside_core.specs.declared.traits.File.{File}
 use Rattle.transcript.specs.Merge.{Entry, lane}
 use Rattle.transcript.specs.Outcome.{IsOutcome}
@@ -10,7 +10,7 @@ use Rattle.command_set.specs.declared.command.Command.{Command}
 use Rattle.directory.specs.Listing.{Listing}
 use Rattle.mged_words.specs.Entries.{session_of}
 use Rattle.session_run.specs.Replies.{core_rules, start_from}
-use Rattle.mged_top.specs.Courses.{Runs, course_of}
+use Rattle.mged_top.specs.Courses.{Runs, course_of, has_own_script}
 use Rattle.mged_top.specs.Outside.{Outside, IsQuiet, HasGrown}
 
 -- the files are those of the shelf and the script is what the source had left, where they are told
@@ -18,15 +18,18 @@ pub record AreTold (before : Outside) (files : List File) (script : List ℕ) : 
   pub files_told : IfSome before.files (λ told. files ≡ told)
   pub script_told : IfSome before.left (λ told. script ≡ told)
 
--- The words, the files and the script, which was read to its end, come to this directory at the start and to these
--- commands.
+-- the source gave this script, to its end; where the words ask for a model that comes with a script, it is as it was
+abbrev pub IsSourceRead : Bool → Option (List ℕ) → Option (List ℕ) → List ℕ → Type 0
+IsSourceRead true left left' script = Keeps left left'
+IsSourceRead false left left' script = Consumes left left' script × IsAtEnd left'
+
+-- The words, the files and the script come to this directory at the start and to these commands.
 pub record AreInputs (words : List (List ℕ)) (before after : Outside) (start : Listing) (commands : List (Entry Command)) : Type 0 where
   pub files : List File
   pub script : List ℕ
   pub told : AreTold before files script
   pub course : course_of words files script ≡ Runs start commands
-  pub read : Consumes before.left after.left script
-  pub end : IsAtEnd after.left
+  pub source : IsSourceRead (has_own_script words) before.left after.left script
 
 -- the order that the bytes print is that of the lines, and no command is answered `memory`
 pub record IsInLineOrder (commands : List (Entry Command)) (bytes : List ℕ) : Type 0 where

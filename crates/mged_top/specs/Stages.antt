@@ -1,7 +1,7 @@
 -- What each stage of a call gives to the next one, in the words of the code.
-use Rattle.std.specs.Prelude.{◌≡◌, ◌≤◌, ◌<◌, ◌⊎◌, ℕ, Bool, true, false, zero, suc, List, [], ◌++◌, Option, IfSome, is_some, Result, Ok, Err, All, drop, get_or, length, map}
-use Rattle.std.specs.Io.KnownBytes.{Appends, Consumes, IsAtEnd}
-use Rattle.name_core.specs.declared.name.Name.{Name}
+use Rattle.std.specs.Prelude.{◌≡◌, ◌≤◌, ◌<◌, ◌⊎◌, ℕ, Bool, true, false, zero, suc, List, [], ◌++◌, Option, IfSome, Some, None, Result, Ok, Err, All, drop, get_or, length, map}
+use Rattle.std.specs.Io.KnownBytes.{Appends, Consumes, IsAtEnd, Keeps}
+use Rattle.option_words.specs.declared.options.Model.{Model}
 use Rattle.outside_core.specs.Faults.{Rose}
 use Rattle.outside_core.specs.Told.{Stays}
 use Rattle.outside_core.specs.Transfers.{IsCutShort}
@@ -22,11 +22,13 @@ use Rattle.session_run.specs.declared.answer.Answer.{Answer}
 use Rattle.session_run.specs.declared.answer.Book.{Book}
 use Rattle.session_run.specs.declared.keep.Keep.{Keep}
 use Rattle.mged_top.specs.Answers.{core_answers}
-use Rattle.mged_top.specs.Courses.{loaded, model_in}
+use Rattle.mged_top.specs.Courses.{loaded, model_in, own_script}
 use Rattle.mged_top.specs.Outcomes.{IsInLineOrder}
 use Rattle.mged_top.specs.Outside.{Outside, HasGrown, AreCutShort}
+use Rattle.mged_top.specs.Calls.{is_of_file}
 use Rattle.mged_top.specs.declared.load.LoadStop.{LoadStop}
 use Rattle.mged_top.specs.declared.load.LoadStop.TheVariants as load
+use Rattle.mged_top.specs.declared.load.Start.{Start}
 use Rattle.mged_top.specs.declared.read.ScriptStop.{ScriptStop}
 use Rattle.mged_top.specs.declared.read.ScriptStop.TheVariants as script
 use Rattle.mged_top.specs.declared.status.LoadFault.{LoadFault}
@@ -57,16 +59,21 @@ IsModel (Err load.Failed) text = ⊥
 IsModel (Err LoadStop.Memory) text = Unit {0}
 
 -- files that are those of the shelf, where it tells them, from which the start comes to this
-pub record CanLoad (told : Option (List File)) (name : Option Name) (start : Result Listing LoadFault) : Type 0 where
+pub record CanLoad (told : Option (List File)) (model : Model) (start : Result Listing LoadFault) : Type 0 where
   pub files : List File
   pub as_told : IfSome told (λ known. files ≡ known)
-  pub gives : loaded name files ≡ start
+  pub gives : loaded model files ≡ start
 
-abbrev pub IsLoad : Result Listing LoadStop → Option Name → Option (List File) → Type 0
-IsLoad (Ok d) name told = CanLoad told name (Ok d)
-IsLoad (Err (load.Refused fault)) name told = CanLoad told name (Err fault)
-IsLoad (Err load.Failed) name told = is_some name ≡ true
-IsLoad (Err LoadStop.Memory) name told = Unit {0}
+-- what a call begins with whose script is still to be read
+abbrev pub without_script : Result Listing LoadStop → Result Start LoadStop
+without_script (Ok d) = Ok (record { directory = d; script = None })
+without_script (Err stop) = Err stop
+
+abbrev pub IsLoad : Result Start LoadStop → Model → Option (List File) → Type 0
+IsLoad (Ok start) model told = CanLoad told model (Ok start.directory) × (start.script ≡ own_script model)
+IsLoad (Err (load.Refused fault)) model told = CanLoad told model (Err fault)
+IsLoad (Err load.Failed) model told = is_of_file model ≡ true
+IsLoad (Err LoadStop.Memory) model told = Unit {0}
 
 -- a script that is what the source had left, where it tells it, and reads as this
 pub record CanRead (told : Option (List ℕ)) (read : Result (List (Entry Command)) ScriptFlaw) : Type 0 where
@@ -87,6 +94,18 @@ IsRead (Ok commands) left left' = WasRead left left' (map command_entry commands
 IsRead (Err (script.Refused flaw)) left left' = CanRead left (Err flaw)
 IsRead (Err script.Failed) left left' = Unit {0}
 IsRead (Err ScriptStop.Memory) left left' = Unit {0}
+
+-- what a text is as a script
+abbrev pub IsTextRead : Result (List ScriptCommand) ScriptStop → List ℕ → Type 0
+IsTextRead (Ok commands) text = script_of text ≡ Ok (map command_entry commands)
+IsTextRead (Err (script.Refused flaw)) text = script_of text ≡ Err flaw
+IsTextRead (Err script.Failed) text = ⊥
+IsTextRead (Err ScriptStop.Memory) text = Unit {0}
+
+-- the same of the script that the model comes with, where it has one; then the source is as it was
+abbrev pub IsReadBy : Result (List ScriptCommand) ScriptStop → Option (List ℕ) → Option (List ℕ) → Option (List ℕ) → Type 0
+IsReadBy result None left left' = IsRead result left left'
+IsReadBy result (Some own) left left' = IsTextRead result own × Keeps left left'
 
 -- the files of sessions' answers, in an order of sessions
 abbrev pub files_among : List ℕ → List (List Answer) → List File

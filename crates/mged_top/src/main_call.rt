@@ -1,12 +1,13 @@
 //! The call that is the program.
-ghost use Rattle.std.specs.Prelude.{◌≡◌, ◌≤◌, All, None, map, string_bytes, vec_len};
+ghost use Rattle.std.specs.Prelude.{◌≡◌, ◌≤◌, All, None, true, map, string_bytes, vec_len};
 ghost use Rattle.mged_top.specs.Calls.{Explains, IsComplete, IsBeforeScript, IsBeforeRun};
+ghost use Rattle.mged_top.specs.Courses.{has_own_script};
 ghost use Rattle.mged_top.specs.Outside.{outside};
 ghost use Rattle.mged_top.specs.Stages.{Writes, run_status, files_among};
 
 use crate::load::load;
 use crate::put::put_files;
-use crate::read::read_commands;
+use crate::read::commands_of;
 use crate::run::{Run, run_script};
 use crate::status::Status;
 use option_words::{OptionsFault, read_options};
@@ -44,7 +45,8 @@ fn write_run<K: Sink, F: Shelf>(sink: &mut K, shelf: &mut F, run: &Run) -> Statu
 }
 
 /// Reads the words, the model that they ask for and the script, runs its commands in the order of its lines, and writes the
-/// transcript to the sink and the files to the shelf. `words` are those after the program's name: `--load NAME` or none.
+/// transcript to the sink and the files to the shelf. `words` are those after the program's name: `--load NAME`, `--demo N`
+/// or none. With `--demo N` the model and the script are those that the number makes, and nothing is read from the source.
 /// The first of the words, the load file and the script that is refused ends the call with its status.
 pub fn mged_main<R: AllocGlobal, S: Source, K: Sink, F: Shelf, G: Gate + Sync>(
     rt: &R,
@@ -61,6 +63,7 @@ pub fn mged_main<R: AllocGlobal, S: Source, K: Sink, F: Shelf, G: Gate + Sync>(
         (outside (S.left source.old) (K.held sink.old) (F.files shelf.old) (F.puts shelf.old) (S.faults source.old) (K.faults sink.old) (F.faults shelf.old))
         (outside (S.left source.new) (K.held sink.new) (F.files shelf.new) (F.puts shelf.new) (S.faults source.new) (K.faults sink.new) (F.faults shelf.new)) }
     ensures unread { IsBeforeScript result → source.new ≡ source.old }
+    ensures demo_unread { has_own_script (map string_bytes words.now.items) ≡ true → source.new ≡ source.old }
     ensures unasked { result ≡ Status.Usage → shelf.new ≡ shelf.old }
     ensures unwritten { IsBeforeRun result → sink.new ≡ sink.old }
 {
@@ -70,15 +73,15 @@ pub fn mged_main<R: AllocGlobal, S: Source, K: Sink, F: Shelf, G: Gate + Sync>(
         Err(OptionsFault::Usage) => return Status::Usage,
         Err(OptionsFault::Memory) => return Status::Memory,
     };
-    let directory = match load(alloc, shelf, options.load) {
-        Ok(directory) => directory,
+    let start = match load(alloc, shelf, options.model) {
+        Ok(start) => start,
         Err(stop) => return stop.status(),
     };
-    let commands = match read_commands(alloc, source) {
+    let commands = match commands_of(alloc, source, &start.script) {
         Ok(commands) => commands,
         Err(stop) => return stop.status(),
     };
-    let Ok(run) = run_script(alloc, directory, commands.items()) else {
+    let Ok(run) = run_script(alloc, start.directory, commands.items()) else {
         return Status::Memory;
     };
     write_run(sink, shelf, &run)

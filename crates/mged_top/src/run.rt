@@ -113,7 +113,7 @@ fn no_keeps(alloc: Global) -> Result<Vec<Keep>, Memory>
 {
     let mut keeps = Vec::new(alloc);
     for _i in 0..8usize {
-        keeps.push(Keep::new())?;
+        keeps.push(Keep::new(alloc))?;
     }
     Ok(keeps)
 }

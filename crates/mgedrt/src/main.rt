@@ -1,6 +1,6 @@
-//! The program: reads the script on standard input and files of the working folder, writes the transcript to standard
-//! output and the files to the working folder, and ends with the number of its status. A status that has a line prints it
-//! on standard error.
+//! The program: reads the script on standard input and files of the working folder, or makes a demo of a number, writes the
+//! transcript to standard output and the files to the working folder, and ends with the number of its status. A status that
+//! has a line prints it on standard error.
 #![tactic(auto)]
 
 mod program;

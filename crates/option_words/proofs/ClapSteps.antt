@@ -1,17 +1,20 @@
 -- What clap makes of the words, word by word.
-use Rattle.std.proofs.Common.{◌≡◌, ◌∙◌, ap, refl, true, false, List, [], ◌∷◌, ◌++◌, Option, Some, None, codes}
-use Rattle.std.specs.Prelude.{fold, is_some}
+use Rattle.std.proofs.Common.{◌≡◌, ◌∙◌, ap, ap₂, refl, true, false, Bool, cond, List, [], ◌∷◌, ◌++◌, Option, Some, None, codes}
+use Rattle.std.specs.Prelude.{◌&&◌, ◌||◌, fold, is_some}
 use Rattle.clap.specs.Kinds.{Kinds, or_else}
 use Rattle.clap.specs.Words.{App, Row, Rule, Text, fault_of, is_simple, is_simple_and_free, matches_of}
 use Rattle.clap.specs.Faults.{check_fault, defaults_fault, entered_fault, settle_fault, turn_fault, walk_fault}
 use Rattle.clap.specs.Simple.{built, entered}
-use Rattle.clap.specs.Walk.{Waiting, Walk, finished, idle, option, settled, walked}
+use Rattle.clap.specs.Walk.{Waiting, Walk, finished, has_row, idle, option, settled, walked, with_values, without}
 use Rattle.clap.specs.declared.error.kind.ErrorKind.TheVariants as kind
 use Rattle.clap.specs.declared.error.kind.ErrorKind.{ErrorKind}
 use Rattle.clap.specs.declared.parser.matches.ValueSource.TheVariants.{CommandLine}
 use Rattle.clap.specs.declared.builder.value_parser.Reading.TheVariants.{AsWritten}
 use Rattle.clap.proofs.OnLiterals.{clap_on_literals}
 use Rattle.option_words.specs.Command.{options_app}
+use Rattle.option_words.specs.Grammar.{name_of}
+use Rattle.option_words.specs.declared.options.Key.{Key}
+use Rattle.option_words.specs.declared.options.Key.TheVariants.{Load, Demo}
 
 abbrev pub app : App
 app = built options_app
@@ -19,8 +22,9 @@ app = built options_app
 abbrev pub rules : List Rule
 rules = app.top.rules
 
-abbrev pub load : Text
-load = codes "load"
+abbrev pub id_of : Key → Text
+id_of Load = codes "load"
+id_of Demo = codes "demo"
 
 pub simple_and_free : is_simple_and_free options_app ≡ true
 unfolding clap_on_literals
@@ -72,101 +76,144 @@ turn_passes w next word words e to =
     ap (λ (t : Kinds). or_else (or_else t (walk_fault app.top [] (walked rules [] w word) words)) (end_fault (after w (word ∷ words)))) e
     ∙ ap (λ (x : Walk). rest_fault x words) to
 
-abbrev pub alone : Text
-alone = codes "--load"
+-- ---- the states: nothing is pending; an option was named, and waits for its value; an option has its value, and is used at
+-- the next word
 
-abbrev pub attached : Text → Text
-attached value = codes "--load=" ++ value
+abbrev pub settled_at : List Row → Walk
+settled_at rows = at rows None idle
 
-abbrev pub load_row : Text → Row
-load_row value = record { id = load; values = value ∷ []; count = None; source = Some CommandLine; reading = AsWritten }
+abbrev pub named : Key → List Row → Walk
+named k rows = at rows (Some (id_of k, [])) (option (id_of k))
 
-abbrev pub start : Walk
-start = at [] None idle
+abbrev pub holding : Key → Text → List Row → Walk
+holding k v rows = at rows (Some (id_of k, v ∷ [])) idle
 
-abbrev pub named : List Row → Walk
-named rows = at rows (Some (load, [])) (option load)
+-- the rows behind a use of an option
+abbrev pub used : Key → Text → List Row → List Row
+used k v rows = with_values (id_of k) AsWritten CommandLine (v ∷ []) (without (id_of k) rows)
 
-abbrev pub given_next : List Row → Text → Walk
-given_next rows value = at rows (Some (load, value ∷ [])) idle
+-- the option was used before
+abbrev pub is_used : Key → List Row → Bool
+is_used k rows = has_row (id_of k) rows
 
-abbrev pub given_attached : Text → Walk
-given_attached value = at (load_row value ∷ []) None idle
+abbrev pub conflict : Bool → Kinds
+conflict again = cond again (kind.ArgumentConflict ∷ []) []
 
-pub start_alone : turn_fault app.top [] start alone ≡ []
+abbrev pub attached : Key → Text → Text
+attached k value = name_of k ++ 61 ∷ value
+
+-- what the use of an option may fail by
+abbrev one_use : Bool → Kinds
+one_use again = or_else (cond (again && true) (kind.ArgumentConflict ∷ []) []) []
+
+used_once : (again : Bool) → or_else (one_use again) [] ≡ conflict again
+used_once true = refl
+used_once false = refl
+
+used_twice : (again other : Bool) → or_else (or_else (one_use again) (one_use other)) [] ≡ or_else (conflict again) (conflict other)
+used_twice true other = refl
+used_twice false true = refl
+used_twice false false = refl
+
+pub settled_named : (k : Key) (rows : List Row) → turn_fault app.top [] (settled_at rows) (name_of k) ≡ []
 unfolding clap_on_literals
-start_alone = refl
+settled_named Load rows = refl
+settled_named Demo rows = refl
 
-pub to_named : walked rules [] start alone ≡ named []
+pub from_settled : (k : Key) (rows : List Row) → walked rules [] (settled_at rows) (name_of k) ≡ named k rows
 unfolding clap_on_literals
-to_named = refl
+from_settled Load rows = refl
+from_settled Demo rows = refl
 
-pub start_attached : (v : Text) → turn_fault app.top [] start (attached v) ≡ []
+pub named_named : (k j : Key) (rows : List Row) → turn_fault app.top [] (named k rows) (name_of j) ≡ kind.InvalidValue ∷ []
 unfolding clap_on_literals
-start_attached v = refl
+named_named Load Load rows = refl
+named_named Load Demo rows = refl
+named_named Demo Load rows = refl
+named_named Demo Demo rows = refl
 
-pub to_given_attached : (v : Text) → walked rules [] start (attached v) ≡ given_attached v
+pub named_attached : (k j : Key) (x : Text) (rows : List Row) → turn_fault app.top [] (named k rows) (attached j x) ≡ kind.InvalidValue ∷ []
 unfolding clap_on_literals
-to_given_attached v = refl
+named_attached Load Load x rows = refl
+named_attached Load Demo x rows = refl
+named_attached Demo Load x rows = refl
+named_attached Demo Demo x rows = refl
 
-pub named_alone : (rows : List Row) → turn_fault app.top [] (named rows) alone ≡ kind.InvalidValue ∷ []
+pub holding_named : (k j : Key) (v : Text) (rows : List Row) → turn_fault app.top [] (holding k v rows) (name_of j) ≡ conflict (is_used k rows)
 unfolding clap_on_literals
-named_alone rows = refl
+holding_named Load Load v rows = used_once (is_used Load rows)
+holding_named Load Demo v rows = used_once (is_used Load rows)
+holding_named Demo Load v rows = used_once (is_used Demo rows)
+holding_named Demo Demo v rows = used_once (is_used Demo rows)
 
-pub named_attached : (rows : List Row) (v : Text) → turn_fault app.top [] (named rows) (attached v) ≡ kind.InvalidValue ∷ []
+pub from_holding : (k j : Key) (v : Text) (rows : List Row) → walked rules [] (holding k v rows) (name_of j) ≡ named j (used k v rows)
 unfolding clap_on_literals
-named_attached rows v = refl
+from_holding Load Load v rows = refl
+from_holding Load Demo v rows = refl
+from_holding Demo Load v rows = refl
+from_holding Demo Demo v rows = refl
 
-pub next_alone : (u : Text) → turn_fault app.top [] (given_next [] u) alone ≡ []
+pub settled_attached : (j : Key) (x : Text) (rows : List Row) → turn_fault app.top [] (settled_at rows) (attached j x) ≡ conflict (is_used j rows)
 unfolding clap_on_literals
-next_alone u = refl
+settled_attached Load x rows = used_once (is_used Load rows)
+settled_attached Demo x rows = used_once (is_used Demo rows)
 
-pub next_to_named : (u : Text) → walked rules [] (given_next [] u) alone ≡ named (load_row u ∷ [])
+pub to_settled : (j : Key) (x : Text) (rows : List Row) → walked rules [] (settled_at rows) (attached j x) ≡ settled_at (used j x rows)
 unfolding clap_on_literals
-next_to_named u = refl
+to_settled Load x rows = refl
+to_settled Demo x rows = refl
 
-pub next_attached : (u v : Text) → turn_fault app.top [] (given_next [] u) (attached v) ≡ kind.ArgumentConflict ∷ []
+pub holding_attached : (k j : Key) (v x : Text) (rows : List Row) → turn_fault app.top [] (holding k v rows) (attached j x) ≡ or_else (conflict (is_used k rows)) (conflict (is_used j (used k v rows)))
 unfolding clap_on_literals
-next_attached u v = refl
+holding_attached Load Load v x rows = used_twice (is_used Load rows) (is_used Load (used Load v rows))
+holding_attached Load Demo v x rows = used_twice (is_used Load rows) (is_used Demo (used Load v rows))
+holding_attached Demo Load v x rows = used_twice (is_used Demo rows) (is_used Load (used Demo v rows))
+holding_attached Demo Demo v x rows = used_twice (is_used Demo rows) (is_used Demo (used Demo v rows))
 
-pub attached_alone : (u : Text) → turn_fault app.top [] (given_attached u) alone ≡ []
+pub from_both : (k j : Key) (v x : Text) (rows : List Row) → walked rules [] (holding k v rows) (attached j x) ≡ settled_at (used j x (used k v rows))
 unfolding clap_on_literals
-attached_alone u = refl
+from_both Load Load v x rows = refl
+from_both Load Demo v x rows = refl
+from_both Demo Load v x rows = refl
+from_both Demo Demo v x rows = refl
 
-pub attached_to_named : (u : Text) → walked rules [] (given_attached u) alone ≡ named (load_row u ∷ [])
+-- ---- the end of the words; no option has a value of its own
+
+either_way : {X : Type 0} (t : Bool) (x : X) → cond t x x ≡ x
+either_way true x = refl
+either_way false x = refl
+
+anyway : {X : Type 0} (t : Bool) (x y : X) → cond (t || true) x y ≡ x
+anyway true x y = refl
+anyway false x y = refl
+
+all_finished : (rows : List Row) → cond (is_used Demo (cond (is_used Load rows) rows rows)) (cond (is_used Load rows) rows rows) (cond (is_used Load rows) rows rows) ≡ rows
+all_finished rows = either_way (is_used Demo (cond (is_used Load rows) rows rows)) (cond (is_used Load rows) rows rows) ∙ either_way (is_used Load rows) rows
+
+pub settled_finished : (rows : List Row) → finished rules (settled_at rows).held ≡ rows
 unfolding clap_on_literals
-attached_to_named u = refl
+settled_finished rows = all_finished rows
 
-pub attached_attached : (u v : Text) → turn_fault app.top [] (given_attached u) (attached v) ≡ kind.ArgumentConflict ∷ []
+pub holding_finished : (k : Key) (v : Text) (rows : List Row) → finished rules (holding k v rows).held ≡ used k v rows
 unfolding clap_on_literals
-attached_attached u v = refl
+holding_finished Load v rows = all_finished (used Load v rows)
+holding_finished Demo v rows = all_finished (used Demo v rows)
 
-pub again_alone : (u v : Text) → turn_fault app.top [] (given_next (load_row u ∷ []) v) alone ≡ kind.ArgumentConflict ∷ []
+-- no option has a value of its own
+no_defaults : (rows : List Row) → defaults_fault rows rules ≡ []
 unfolding clap_on_literals
-again_alone u v = refl
+no_defaults rows = ap₂ (λ (a b : Kinds). or_else a (or_else b [])) (anyway (is_used Load rows) [] _) (anyway (is_used Demo (cond (is_used Load rows) rows rows)) [] _)
 
-pub again_attached : (u v x : Text) → turn_fault app.top [] (given_next (load_row u ∷ []) v) (attached x) ≡ kind.ArgumentConflict ∷ []
+pub settled_end : (rows : List Row) → rest_fault (settled_at rows) [] ≡ []
 unfolding clap_on_literals
-again_attached u v x = refl
+settled_end rows = ap (λ (kinds : Kinds). or_else kinds []) (no_defaults rows)
 
--- ---- the end of the words
-
-pub start_end : rest_fault start [] ≡ []
+pub holding_end : (k : Key) (v : Text) (rows : List Row) → rest_fault (holding k v rows) [] ≡ conflict (is_used k rows)
 unfolding clap_on_literals
-start_end = refl
+holding_end Load v rows = ap (λ (kinds : Kinds). or_else (one_use (is_used Load rows)) (or_else kinds [])) (no_defaults (used Load v rows)) ∙ used_once (is_used Load rows)
+holding_end Demo v rows = ap (λ (kinds : Kinds). or_else (one_use (is_used Demo rows)) (or_else kinds [])) (no_defaults (used Demo v rows)) ∙ used_once (is_used Demo rows)
 
-pub named_end : (rows : List Row) → rest_fault (named rows) [] ≡ kind.InvalidValue ∷ []
+pub named_end : (k : Key) (rows : List Row) → rest_fault (named k rows) [] ≡ kind.InvalidValue ∷ []
 unfolding clap_on_literals
-named_end rows = refl
-
-pub next_end : (u : Text) → rest_fault (given_next [] u) [] ≡ []
-unfolding clap_on_literals
-next_end u = refl
-
-pub attached_end : (u : Text) → rest_fault (given_attached u) [] ≡ []
-unfolding clap_on_literals
-attached_end u = refl
-
-pub again_end : (u v : Text) → rest_fault (given_next (load_row u ∷ []) v) [] ≡ kind.ArgumentConflict ∷ []
-unfolding clap_on_literals
-again_end u v = refl
+named_end Load rows = refl
+named_end Demo rows = refl

@@ -1,7 +1,9 @@
 pub mod ClapSteps
+pub mod Rows
 pub mod WordKinds
 pub mod Spelling
-pub mod Asking
+pub mod Dashes
 pub mod Agreement
-pub mod LoadLaws
+pub mod TextLaws
+pub mod Digits
 pub mod Ends

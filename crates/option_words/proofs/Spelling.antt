@@ -1,5 +1,5 @@
 -- What a word is, by what clap's lexer makes of it.
-use Rattle.std.proofs.Common.{◌≡◌, ◌∙◌, ap, refl, sym, true, false, true≢false, Bool, cond, ℕ, suc, ◌+◌, [], ◌∷◌, ◌++◌, take, drop, Option, Some, None, codes, arith}
+use Rattle.std.proofs.Common.{◌≡◌, ◌∙◌, ap, ap₂, refl, sym, true, false, true≢false, Bool, cond, ℕ, suc, ◌+◌, [], ◌∷◌, ◌++◌, take, drop, Option, Some, None, codes, arith}
 use Rattle.std.specs.Prelude.{bytes_eq, slice_get, ◌||◌, ◌==◌, option_and_then, not}
 use Rattle.std.specs.List.{before_first, after_first, position_or_len}
 use Rattle.std.specs.Str.{chars}
@@ -8,10 +8,10 @@ use Rattle.std.proofs.lemmas.Slice.Eq.{bytes_eq-Decides}
 use Rattle.std.proofs.lemmas.List.{take-append-drop}
 use Rattle.clap.specs.Words.{Text}
 use Rattle.clap.specs.Lexer.{has_byte, long_of, long_of_rest, name_and_value, short_of, short_of_rest, strip_byte}
-use Rattle.option_words.specs.Grammar.{begins_with, begins_with_dash, option_of}
+use Rattle.option_words.specs.Grammar.{as_option, begins_with, begins_with_dash, either_of, name_of, option_of}
 use Rattle.option_words.specs.declared.options.Key.{Key}
-use Rattle.option_words.specs.declared.options.Key.TheVariants.{Load}
-use Rattle.option_words.proofs.ClapSteps.{load, alone, attached}
+use Rattle.option_words.specs.declared.options.Key.TheVariants.{Load, Demo}
+use Rattle.option_words.proofs.ClapSteps.{id_of, attached}
 use Rattle.option_words.proofs.WordKinds.{IsLoose, IsUnknown, unknown_long, unknown_short, loose_flags, loose_plain}
 
 strip_is : (c : ℕ) (word rest : Text) → strip_byte c word ≡ Some rest → word ≡ c ∷ rest
@@ -71,44 +71,71 @@ short_dash word flags e = one (strip_byte 45 word) refl e
     one None is e = cc
     one (Some rest) is e = ap begins_with_dash (strip_is 45 word rest is)
 
--- what is no long flag with the option's name is no option
-none_of : (word : Text) → ((value : Option Text) → long_of word ≡ Some (load, value) → ⊥) → option_of word ≡ None
-none_of word other = by (bytes_eq word alone) refl (begins_with (codes "--load=") word) refl
+-- what is no long flag with an option's name is no option
+no_long : (word : Text) (k : Key) → ((value : Option Text) → long_of word ≡ Some (id_of k, value) → ⊥) → as_option k word ≡ None
+no_long word Load other = by (bytes_eq word (name_of Load)) refl (begins_with (name_of Load ++ codes "=") word) refl
   where
-    by : (a : Bool) → bytes_eq word alone ≡ a → (b : Bool) → begins_with (codes "--load=") word ≡ b → cond {A = Option (Key × Option Text)} a (Some (Load, None)) (cond {A = Option (Key × Option Text)} b (Some (Load, Some (drop 7 word))) None) ≡ None
-    by true is b _ = absurd (other None (ap long_of ((bytes_eq-Decides word alone).0 is)))
+    by : (a : Bool) → bytes_eq word (name_of Load) ≡ a → (b : Bool) → begins_with (name_of Load ++ codes "=") word ≡ b → cond {A = Option (Key × Option Text)} a (Some (Load, None)) (cond {A = Option (Key × Option Text)} b (Some (Load, Some (drop 7 word))) None) ≡ None
+    by true is b _ = absurd (other None (ap long_of ((bytes_eq-Decides word (name_of Load)).0 is)))
     by false _ true is =
         let front : take 7 word ≡ codes "--load=" = (bytes_eq-Decides (take 7 word) (codes "--load=")).0 is in
-        let whole : word ≡ attached (drop 7 word) = sym (take-append-drop 7 word) ∙ ap (λ l. l ++ drop 7 word) front in
+        let whole : word ≡ attached Load (drop 7 word) = sym (take-append-drop 7 word) ∙ ap (λ l. l ++ drop 7 word) front in
+        absurd (other (Some (drop 7 word)) (ap long_of whole))
+    by false _ false _ = refl
+no_long word Demo other = by (bytes_eq word (name_of Demo)) refl (begins_with (name_of Demo ++ codes "=") word) refl
+  where
+    by : (a : Bool) → bytes_eq word (name_of Demo) ≡ a → (b : Bool) → begins_with (name_of Demo ++ codes "=") word ≡ b → cond {A = Option (Key × Option Text)} a (Some (Demo, None)) (cond {A = Option (Key × Option Text)} b (Some (Demo, Some (drop 7 word))) None) ≡ None
+    by true is b _ = absurd (other None (ap long_of ((bytes_eq-Decides word (name_of Demo)).0 is)))
+    by false _ true is =
+        let front : take 7 word ≡ codes "--demo=" = (bytes_eq-Decides (take 7 word) (codes "--demo=")).0 is in
+        let whole : word ≡ attached Demo (drop 7 word) = sym (take-append-drop 7 word) ∙ ap (λ l. l ++ drop 7 word) front in
         absurd (other (Some (drop 7 word)) (ap long_of whole))
     by false _ false _ = refl
 
--- a word is the option's name, its name and a value, a word that clap refuses, or one that it takes for a value
+none_of : (word : Text) → ((k : Key) (value : Option Text) → long_of word ≡ Some (id_of k, value) → ⊥) → option_of word ≡ None
+none_of word other = ap₂ either_of (no_long word Load (other Load)) (no_long word Demo (other Demo))
+
+-- a word is an option's name, its name and a value, a word that clap refuses, or one that it takes for a value
 pub data IsWord (word : Text) : Type 0 where
-  is_alone : word ≡ alone → IsWord word
-  is_attached : (value : Text) → word ≡ attached value → IsWord word
+  is_named : (k : Key) → word ≡ name_of k → IsWord word
+  is_attached : (k : Key) (value : Text) → word ≡ attached k value → IsWord word
   is_unknown : IsUnknown word → option_of word ≡ None → begins_with_dash word ≡ true → IsWord word
   is_loose : IsLoose word → option_of word ≡ None → IsWord word
+
+long_name : (k : Key) → 45 ∷ 45 ∷ id_of k ≡ name_of k
+long_name Load = refl
+long_name Demo = refl
 
 pub classify : (word : Text) → bytes_eq word (codes "--") ≡ false → IsWord word
 classify word other = on_long (long_of word) refl
   where
-    not_load : (name : Text) (value : Option Text) → long_of word ≡ Some (name, value) → bytes_eq load name ≡ false → (v : Option Text) → long_of word ≡ Some (load, v) → ⊥
-    not_load name value is differs v at =
-        let pair : (name, value) ≡ (load, v) = cc in
-        let same : load ≡ name = sym (ap (λ (p : Text × Option Text). p.0) pair) in
-        true≢false (sym ((bytes_eq-Decides load name).1 same) ∙ differs)
+    spelled_out : (k : Key) (name : Text) → bytes_eq (id_of k) name ≡ true → (rest : Text) → 45 ∷ 45 ∷ (name ++ rest) ≡ name_of k ++ rest
+    spelled_out k name same rest = ap (λ (n : Text). 45 ∷ 45 ∷ (n ++ rest)) (sym ((bytes_eq-Decides (id_of k) name).0 same)) ∙ ap (λ (n : Text). n ++ rest) (long_name k)
 
-    on_name : (name : Text) (value : Option Text) → long_of word ≡ Some (name, value) → (b : Bool) → bytes_eq load name ≡ b → IsWord word
-    on_name name None is true same = is_alone (long_spelled word name None is ∙ ap (λ (n : Text). 45 ∷ 45 ∷ n) (sym ((bytes_eq-Decides load name).0 same)))
-    on_name name (Some value) is true same = is_attached value (long_spelled word name (Some value) is ∙ ap (λ (n : Text). 45 ∷ 45 ∷ n ++ 61 ∷ value) (sym ((bytes_eq-Decides load name).0 same)))
-    on_name name value is false differs =
-        is_unknown (unknown_long word name value other is differs)
-        (none_of word (λ v at. not_load name value is differs v at))
+    not_key : (k : Key) (name : Text) (value : Option Text) → long_of word ≡ Some (name, value) → bytes_eq (id_of k) name ≡ false → (v : Option Text) → long_of word ≡ Some (id_of k, v) → ⊥
+    not_key k name value is differs v at =
+        let pair : (name, value) ≡ (id_of k, v) = cc in
+        let same : id_of k ≡ name = sym (ap (λ (p : Text × Option Text). p.0) pair) in
+        true≢false (sym ((bytes_eq-Decides (id_of k) name).1 same) ∙ differs)
+
+    on_key : (k : Key) (name : Text) (value : Option Text) → long_of word ≡ Some (name, value) → bytes_eq (id_of k) name ≡ true → IsWord word
+    on_key k name None is same = is_named k (long_spelled word name None is ∙ ap (λ (n : Text). 45 ∷ 45 ∷ n) (sym ((bytes_eq-Decides (id_of k) name).0 same)) ∙ long_name k)
+    on_key k name (Some value) is same = is_attached k value (long_spelled word name (Some value) is ∙ spelled_out k name same (61 ∷ value))
+
+    on_name : (name : Text) (value : Option Text) → long_of word ≡ Some (name, value) → (a : Bool) → bytes_eq (id_of Load) name ≡ a → (b : Bool) → bytes_eq (id_of Demo) name ≡ b → IsWord word
+    on_name name value is true same b _ = on_key Load name value is same
+    on_name name value is false _ true same = on_key Demo name value is same
+    on_name name value is false no_load false no_demo =
+        is_unknown (unknown_long word name value other is differ)
+        (none_of word (λ k v at. not_key k name value is (differ k) v at))
         (long_dash word name value is)
+      where
+        differ : (k : Key) → bytes_eq (id_of k) name ≡ false
+        differ Load = no_load
+        differ Demo = no_demo
 
     no_option : long_of word ≡ None → option_of word ≡ None
-    no_option none = none_of word (λ v at. cc)
+    no_option none = none_of word (λ k v at. cc)
 
     on_first : long_of word ≡ None → (flags : Text) → short_of word ≡ Some flags → (first : Option ℕ) → slice_get (chars flags) 0 ≡ first → IsWord word
     on_first none flags is None at = is_loose (loose_flags word flags other none is at) (no_option none)
@@ -120,4 +147,4 @@ classify word other = on_long (long_of word) refl
 
     on_long : (p : Option (Text × Option Text)) → long_of word ≡ p → IsWord word
     on_long None is = on_short is (short_of word) refl
-    on_long (Some (name, value)) is = on_name name value is (bytes_eq load name) refl
+    on_long (Some (name, value)) is = on_name name value is (bytes_eq (id_of Load) name) refl (bytes_eq (id_of Demo) name) refl

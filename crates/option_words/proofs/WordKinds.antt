@@ -11,11 +11,13 @@ use Rattle.clap.specs.Simple.{filled}
 use Rattle.clap.specs.Walk.{Held, Outcome, Step, Waiting, idle, option, positional, plain, plain_word, subcommand_met, subcommand_or_other, long_or_other, short_or_plain, trailing, walked, word_met, after_step, after_flag, bundle_step, bundle_met}
 use Rattle.clap.specs.declared.error.kind.ErrorKind.TheVariants as kind
 use Rattle.clap.proofs.OnLiterals.{clap_on_literals}
-use Rattle.option_words.specs.Command.{load_rule}
-use Rattle.option_words.proofs.ClapSteps.{app, rules, load, at, named, given_next}
+use Rattle.option_words.specs.Command.{load_rule, demo_rule}
+use Rattle.option_words.specs.declared.options.Key.{Key}
+use Rattle.option_words.specs.declared.options.Key.TheVariants.{Load, Demo}
+use Rattle.option_words.proofs.ClapSteps.{app, rules, id_of, at, named, holding}
 
-abbrev pub holding : List Row → Option (Text × List Text) → Held
-holding rows pending = record { rows = rows; pending = pending; skip = 0 }
+abbrev pub held : List Row → Option (Text × List Text) → Held
+held rows pending = record { rows = rows; pending = pending; skip = 0 }
 
 -- clap refuses the word, wherever it stands
 abbrev pub IsUnknown : Text → Type 0
@@ -24,8 +26,8 @@ IsUnknown word = (rows : List Row) (pending : Option (Text × List Text)) (waiti
 -- clap takes the word for a value, where one is waited for
 abbrev pub IsLoose : Text → Type 0
 IsLoose word = (rows : List Row) (pending : Option (Text × List Text)) (waiting : Waiting) →
-    (word_fault app.top [] false waiting word (holding rows pending) ≡ [])
-    × (word_met rules [] false waiting 1 word (holding rows pending) ≡ plain_word rules waiting word (holding rows pending))
+    (word_fault app.top [] false waiting word (held rows pending) ≡ [])
+    × (word_met rules [] false waiting 1 word (held rows pending) ≡ plain_word rules waiting word (held rows pending))
 
 no_subcommand : (waiting : Waiting) (word : Text) → subcommand_met [] waiting word ≡ None
 no_subcommand idle word = refl
@@ -43,15 +45,15 @@ met_as_flag word other waiting h =
     ap (λ (n : Option Text). subcommand_or_other rules n waiting 1 word h) (no_subcommand waiting word)
     ∙ ap (λ (b : Bool). cond b (h, trailing 1) (long_or_other rules waiting word (long_of word) h)) other
 
-unknown_by : (word : Text) → ((rows : List Row) (pending : Option (Text × List Text)) (waiting : Waiting) → word_fault app.top [] false waiting word (holding rows pending) ≡ kind.UnknownArgument ∷ []) → IsUnknown word
+unknown_by : (word : Text) → ((rows : List Row) (pending : Option (Text × List Text)) (waiting : Waiting) → word_fault app.top [] false waiting word (held rows pending) ≡ kind.UnknownArgument ∷ []) → IsUnknown word
 unknown_by word e rows pending waiting =
-    ap (λ (f : Kinds). or_else f (step_fault app.top 1 (word_met rules [] false waiting 1 word (holding rows pending)).0 (word_met rules [] false waiting 1 word (holding rows pending)).1)) (e rows pending waiting)
+    ap (λ (f : Kinds). or_else f (step_fault app.top 1 (word_met rules [] false waiting 1 word (held rows pending)).0 (word_met rules [] false waiting 1 word (held rows pending)).1)) (e rows pending waiting)
 
-pub unknown_long : (word name : Text) (value : Option Text) → bytes_eq word (codes "--") ≡ false → long_of word ≡ Some (name, value) → bytes_eq load name ≡ false → IsUnknown word
-unknown_long word name value other is not_load = unknown_by word (λ rows pending waiting.
-    as_flag word other waiting (holding rows pending)
-    ∙ ap (λ (l : Option (Text × Option Text)). flag_word_fault rules false l word (holding rows pending)) is
-    ∙ ap (λ (b : Bool). long_fault rules false (cond (b || false) (Some (filled load_rule)) None) value (holding rows pending)) not_load)
+pub unknown_long : (word name : Text) (value : Option Text) → bytes_eq word (codes "--") ≡ false → long_of word ≡ Some (name, value) → ((k : Key) → bytes_eq (id_of k) name ≡ false) → IsUnknown word
+unknown_long word name value other is no_option = unknown_by word (λ rows pending waiting.
+    as_flag word other waiting (held rows pending)
+    ∙ ap (λ (l : Option (Text × Option Text)). flag_word_fault rules false l word (held rows pending)) is
+    ∙ ap₂ (λ (a b : Bool). long_fault rules false (cond (a || false) (Some (filled load_rule)) (cond (b || false) (Some (filled demo_rule)) None)) value (held rows pending)) (no_option Load) (no_option Demo))
 
 flags_unknown : (flags : Text) (x : ℕ) (h : Held) → slice_get (chars flags) 0 ≡ Some x → flags_fault rules false (length flags) flags 0 h ≡ kind.UnknownArgument ∷ []
 unfolding clap_on_literals
@@ -60,10 +62,10 @@ flags_unknown (b ∷ bs) x h is = ap (λ (c : Option ℕ). bundle_step_fault rul
 
 pub unknown_short : (word flags : Text) (x : ℕ) → bytes_eq word (codes "--") ≡ false → long_of word ≡ None → short_of word ≡ Some flags → slice_get (chars flags) 0 ≡ Some x → IsUnknown word
 unknown_short word flags x other no_long is first = unknown_by word (λ rows pending waiting.
-    as_flag word other waiting (holding rows pending)
-    ∙ ap (λ (l : Option (Text × Option Text)). flag_word_fault rules false l word (holding rows pending)) no_long
-    ∙ ap (λ (s : Option Text). option_map_or (λ fs. bundle_fault rules false fs (holding rows pending)) s []) is
-    ∙ flags_unknown flags x (holding rows pending) first)
+    as_flag word other waiting (held rows pending)
+    ∙ ap (λ (l : Option (Text × Option Text)). flag_word_fault rules false l word (held rows pending)) no_long
+    ∙ ap (λ (s : Option Text). option_map_or (λ fs. bundle_fault rules false fs (held rows pending)) s []) is
+    ∙ flags_unknown flags x (held rows pending) first)
 
 flags_loose : (flags : Text) (h : Held) → slice_get (chars flags) 0 ≡ None → (flags_fault rules false (length flags) flags 0 h ≡ []) × (bundle_met rules (length flags) flags 0 plain h ≡ (h, plain))
 unfolding clap_on_literals
@@ -75,7 +77,7 @@ flags_loose (b ∷ bs) h is = (
 
 pub loose_flags : (word flags : Text) → bytes_eq word (codes "--") ≡ false → long_of word ≡ None → short_of word ≡ Some flags → slice_get (chars flags) 0 ≡ None → IsLoose word
 loose_flags word flags other no_long is first rows pending waiting =
-    let h : Held = holding rows pending in
+    let h : Held = held rows pending in
     let bundle = flags_loose flags h first in (
       as_flag word other waiting h
           ∙ ap (λ (l : Option (Text × Option Text)). flag_word_fault rules false l word h) no_long
@@ -89,7 +91,7 @@ loose_flags word flags other no_long is first rows pending waiting =
 
 pub loose_plain : (word : Text) → bytes_eq word (codes "--") ≡ false → long_of word ≡ None → short_of word ≡ None → IsLoose word
 loose_plain word other no_long no_short rows pending waiting =
-    let h : Held = holding rows pending in (
+    let h : Held = held rows pending in (
       as_flag word other waiting h
           ∙ ap (λ (l : Option (Text × Option Text)). flag_word_fault rules false l word h) no_long
           ∙ ap (λ (s : Option Text). option_map_or (λ fs. bundle_fault rules false fs h) s []) no_short,
@@ -103,9 +105,11 @@ loose_plain word other no_long no_short rows pending waiting =
 pub loose_idle : (word : Text) → IsLoose word → (rows : List Row) (pending : Option (Text × List Text)) → turn_fault app.top [] (at rows pending idle) word ≡ kind.UnknownArgument ∷ []
 loose_idle word is rows pending = ap₂ (λ (f : Kinds) (m : Held × Step). or_else f (step_fault app.top 1 m.0 m.1)) (is rows pending idle).0 (is rows pending idle).1
 
-pub loose_named : (word : Text) → IsLoose word → (rows : List Row) → turn_fault app.top [] (named rows) word ≡ []
-loose_named word is rows = ap₂ (λ (f : Kinds) (m : Held × Step). or_else f (step_fault app.top 1 m.0 m.1)) (is rows (Some (load, [])) (option load)).0 (is rows (Some (load, [])) (option load)).1
+pub loose_named : (word : Text) → IsLoose word → (k : Key) (rows : List Row) → turn_fault app.top [] (named k rows) word ≡ []
+loose_named word is Load rows = ap₂ (λ (f : Kinds) (m : Held × Step). or_else f (step_fault app.top 1 m.0 m.1)) (is rows (Some (id_of Load, [])) (option (id_of Load))).0 (is rows (Some (id_of Load, [])) (option (id_of Load))).1
+loose_named word is Demo rows = ap₂ (λ (f : Kinds) (m : Held × Step). or_else f (step_fault app.top 1 m.0 m.1)) (is rows (Some (id_of Demo, [])) (option (id_of Demo))).0 (is rows (Some (id_of Demo, [])) (option (id_of Demo))).1
 
-pub loose_given : (word : Text) → IsLoose word → (rows : List Row) → walked rules [] (named rows) word ≡ given_next rows word
+pub loose_held : (word : Text) → IsLoose word → (k : Key) (rows : List Row) → walked rules [] (named k rows) word ≡ holding k word rows
 unfolding clap_on_literals
-loose_given word is rows = ap (λ (m : Held × Step). after_step rules word (named rows) m.0 m.1) (is rows (Some (load, [])) (option load)).1
+loose_held word is Load rows = ap (λ (m : Held × Step). after_step rules word (named Load rows) m.0 m.1) (is rows (Some (id_of Load, [])) (option (id_of Load))).1
+loose_held word is Demo rows = ap (λ (m : Held × Step). after_step rules word (named Demo rows) m.0 m.1) (is rows (Some (id_of Demo, [])) (option (id_of Demo))).1

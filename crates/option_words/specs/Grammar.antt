@@ -1,10 +1,15 @@
--- The words after the program's name: options with a value each, in any order, each at most once.
-use Rattle.std.specs.Prelude.{ℕ, Bool, true, not, ◌&&◌, ◌==◌, List, [], ◌∷◌, length, take, drop, Option, None, Some, is_ok, codes, bytes_eq, slice_index_or, if◌then◌else◌}
+-- The words after the program's name: options with a value each, in any order, each at most once. A file and a demo
+-- exclude each other.
+use Rattle.std.specs.Prelude.{ℕ, Bool, true, false, not, ◌&&◌, ◌==◌, ◌+◌, List, [], ◌∷◌, ◌++◌, length, take, drop, Option, None, Some, is_ok, codes, bytes_eq, slice_index_or, if◌then◌else◌}
 use Rattle.std.specs.List.{list_any}
 use Rattle.std.specs.Option.{option_map}
 use Rattle.name_core.specs.NameText.{read_name}
+use Rattle.option_words.specs.Numbers.{number_of}
 use Rattle.option_words.specs.declared.options.Key.{Key}
-use Rattle.option_words.specs.declared.options.Key.TheVariants.{Load}
+use Rattle.option_words.specs.declared.options.Key.TheVariants.{Load, Demo}
+use Rattle.option_words.specs.declared.options.Model.{Model}
+use Rattle.option_words.specs.declared.options.Model.TheVariants.{Empty, OfFile, OfDemo}
+use Rattle.option_words.specs.declared.options.Options.{Options}
 
 -- an option and the text of its value
 pub record Given : Type 0 where
@@ -17,11 +22,24 @@ given key value = record { key = key; value = value }
 abbrev pub begins_with : List ℕ → List ℕ → Bool
 begins_with start word = bytes_eq (take (length start) word) start
 
--- which option a word is: its name alone, so that the next word is its value, or its name, `=` and its value
+abbrev pub name_of : Key → List ℕ
+name_of Load = codes "--load"
+name_of Demo = codes "--demo"
+
+-- whether a word is this option: its name alone, so that the next word is its value, or its name, `=` and its value
+abbrev pub as_option : Key → List ℕ → Option (Key × Option (List ℕ))
+as_option key word =
+    if bytes_eq word (name_of key) then Some (key, None)
+    else (if begins_with (name_of key ++ codes "=") word then Some (key, Some (drop (length (name_of key) + 1) word)) else None)
+
+-- the first of two options that a word is
+abbrev pub either_of : Option (Key × Option (List ℕ)) → Option (Key × Option (List ℕ)) → Option (Key × Option (List ℕ))
+either_of None other = other
+either_of (Some found) other = Some found
+
+-- which option a word is
 abbrev pub option_of : List ℕ → Option (Key × Option (List ℕ))
-option_of word =
-    if bytes_eq word (codes "--load") then Some (Load, None)
-    else (if begins_with (codes "--load=") word then Some (Load, Some (drop 7 word)) else None)
+option_of word = either_of (as_option Load word) (as_option Demo word)
 
 -- a value in a word of its own does not begin with `-`
 abbrev pub begins_with_dash : List ℕ → Bool
@@ -47,27 +65,47 @@ given_from (word ∷ rest) waiting = next_given (given_from rest) word waiting
 
 abbrev pub is_same : Key → Key → Bool
 is_same Load Load = true
+is_same Demo Demo = true
+is_same _ _ = false
+
+-- whether an option is among those that are given
+abbrev pub is_among : Key → List Given → Bool
+is_among key options = list_any (λ (other : Given). is_same key other.key) options
 
 abbrev pub are_distinct : List Given → Bool
 are_distinct [] = true
-are_distinct (g ∷ rest) = not (list_any (λ (other : Given). is_same g.key other.key) rest) && are_distinct rest
+are_distinct (g ∷ rest) = not (is_among g.key rest) && are_distinct rest
 
--- what is asked for: the file from which a model is loaded
-pub record Asked : Type 0 where
-  pub load : Option (List ℕ)
+-- the value of an option, where it is given
+abbrev pub value_of : Key → List Given → Option (List ℕ)
+value_of key [] = None
+value_of key (g ∷ rest) = if is_same key g.key then Some g.value else value_of key rest
 
-abbrev pub with_option : Given → Option Asked → Option Asked
-with_option g None = None
-with_option g (Some asked) = if is_ok (read_name g.value) then Some (record { load = Some g.value }) else None
+-- the model of the file of this name
+abbrev pub file_asked : List ℕ → Option Model
+file_asked name = if is_ok (read_name name) then Some (OfFile name) else None
 
-abbrev pub asked_by : List Given → Option Asked
-asked_by [] = Some (record { load = None })
-asked_by (g ∷ rest) = with_option g (asked_by rest)
+-- the model that this number makes
+abbrev pub demo_asked : List ℕ → Option Model
+demo_asked number = option_map OfDemo (number_of number)
 
-abbrev pub if_distinct : Option (List Given) → Option Asked
+-- the model by the values of `--load` and `--demo`, of which at most one is given
+abbrev pub asked_with : Option (List ℕ) → Option (List ℕ) → Option Model
+asked_with None None = Some Empty
+asked_with (Some name) None = file_asked name
+asked_with None (Some number) = demo_asked number
+asked_with (Some name) (Some number) = None
+
+abbrev pub for_model : Option Model → Option Options
+for_model model = option_map (λ m. record { model = m }) model
+
+abbrev pub asked_by : List Given → Option Options
+asked_by options = for_model (asked_with (value_of Load options) (value_of Demo options))
+
+abbrev pub if_distinct : Option (List Given) → Option Options
 if_distinct None = None
 if_distinct (Some options) = if are_distinct options then asked_by options else None
 
 -- what words ask for, none where they are not in this grammar
-abbrev pub asked_of : List (List ℕ) → Option Asked
+abbrev pub asked_of : List (List ℕ) → Option Options
 asked_of words = if_distinct (given_from words None)

@@ -1,3 +1,4 @@
+pub mod Numbers
 pub mod Grammar
 pub mod Reading
 pub mod Command

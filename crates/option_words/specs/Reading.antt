@@ -1,15 +1,17 @@
 -- What a call that reads the words of the command line answers.
-use Rattle.std.specs.Prelude.{◌≡◌, ℕ, false, List, [], ◌∷◌, Option, Some, None, option_map, Result, Ok, Err, bytes_eq, codes}
+use Rattle.std.specs.Prelude.{◌≡◌, ◌<◌, ◌^◌, ℕ, false, List, [], ◌∷◌, Option, Some, None, option_map, Result, Ok, Err, bytes_eq, codes}
 use Rattle.std.specs.Borrow.{Bor}
-use Rattle.option_words.specs.Grammar.{Asked, Given, asked_by, asked_of, given}
+use Rattle.option_words.specs.Grammar.{asked_of, asked_with, for_model}
+use Rattle.option_words.specs.declared.command.Texts.{Texts}
 use Rattle.option_words.specs.declared.fault.OptionsFault.{OptionsFault}
 use Rattle.option_words.specs.declared.fault.OptionsFault.TheVariants.{Usage, Memory}
+use Rattle.option_words.specs.declared.options.Model.{Model}
+use Rattle.option_words.specs.declared.options.Model.TheVariants.{Empty, OfFile, OfDemo}
 use Rattle.option_words.specs.declared.options.Options.{Options}
-use Rattle.option_words.specs.declared.options.Key.TheVariants.{Load}
 
 -- the options that are asked for, and Usage where nothing can be asked for; memory may be wanting anywhere
-abbrev pub IsAnswer : Result Options OptionsFault → Option Asked → Type 0
-IsAnswer (Ok options) asked = asked ≡ Some (record { load = options.load })
+abbrev pub IsAnswer : Result Options OptionsFault → Option Options → Type 0
+IsAnswer (Ok options) asked = asked ≡ Some options
 IsAnswer (Err Usage) asked = asked ≡ None
 IsAnswer (Err Memory) asked = Unit {0}
 
@@ -17,17 +19,21 @@ IsAnswer (Err Memory) asked = Unit {0}
 abbrev pub IsOptions : Result Options OptionsFault → List (List ℕ) → Type 0
 IsOptions result texts = IsAnswer result (asked_of texts)
 
+-- the number of a demo has at most nine digits
+abbrev pub HasNumber : Model → Type 0
+HasNumber Empty = Unit {0}
+HasNumber (OfFile name) = Unit {0}
+HasNumber (OfDemo number) = number < 10 ^ 9
+
 -- no text is `--`
 abbrev pub NoneEnds : List (List ℕ) → Type 0
 NoneEnds [] = Unit {0}
 NoneEnds (text ∷ rest) = (bytes_eq text (codes "--") ≡ false) × NoneEnds rest
 
--- the options of a command line with this value, if any
-abbrev pub load_given : Option (List ℕ) → List Given
-load_given None = []
-load_given (Some value) = given Load value ∷ []
+abbrev pub behind : Option (Bor (List ℕ)) → Option (List ℕ)
+behind text = option_map (λ t. t.now) text
 
--- the value behind `--load`, where the texts ask for no more and no less than it stands for
-abbrev pub IsLoadText : Result (Option (Bor (List ℕ))) OptionsFault → List (List ℕ) → Type 0
-IsLoadText (Ok value) texts = asked_of texts ≡ asked_by (load_given (option_map (λ v. v.now) value))
-IsLoadText (Err fault) texts = IsOptions (Err fault) texts
+-- the texts behind the options, where the words ask for no more and no less than these stand for
+abbrev pub AreTexts : Result Texts OptionsFault → List (List ℕ) → Type 0
+AreTexts (Ok texts) words = asked_of words ≡ for_model (asked_with (behind texts.load) (behind texts.demo))
+AreTexts (Err fault) words = IsOptions (Err fault) words

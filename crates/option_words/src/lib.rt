@@ -3,9 +3,10 @@
 
 mod command;
 mod fault;
+mod number;
 mod options;
 mod read;
 
 pub use fault::OptionsFault;
-pub use options::{Key, Options};
+pub use options::{Key, Model, Options};
 pub use read::read_options;

@@ -6,11 +6,24 @@ use name_core::Name;
 pub enum Key {
     /// `--load NAME`: the file from which a model is loaded.
     Load,
+    /// `--demo N`: the number that makes a model and a script for it.
+    Demo,
+}
+
+/// The model that there is at the start.
+#[derive(Clone, Copy, Debug, PartialEq, Eq)]
+pub enum Model {
+    /// None.
+    Empty,
+    /// That of the file of this name.
+    OfFile(Name),
+    /// That which this number makes. Its script is run in place of one that is read.
+    OfDemo(u32),
 }
 
 /// What the words of the command line ask for.
 #[derive(Clone, Copy, Debug, PartialEq, Eq)]
 pub struct Options {
-    /// The file from which a model is loaded.
-    pub load: Option<Name>,
+    /// The model that there is at the start.
+    pub model: Model,
 }

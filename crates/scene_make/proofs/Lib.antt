@@ -3,3 +3,5 @@ pub mod TextLaws
 pub mod UnionLaws
 pub mod SizeLaws
 pub mod TurnLaws
+pub mod SoundLaws
+pub mod AgainLaws

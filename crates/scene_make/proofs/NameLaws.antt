@@ -10,7 +10,7 @@ use Rattle.std.proofs.lemmas.List.Elements.{All-cons, All-nil}
 use Rattle.std.proofs.lemmas.Str.Parse.{IsNumeralModel, numerals_by_value}
 use Rattle.name_core.specs.NameText.{IsName, is_first_byte, is_next_byte}
 
-model : IsNumeralModel (AllByRecursion (IsInRange 48 57)) (digits_value 10)
+pub model : IsNumeralModel (AllByRecursion (IsInRange 48 57)) (digits_value 10)
 model = numerals_by_value _ (record { empty = tt; parts = λ c cs h. (h.0, h.1); more = λ c cs h k. (h, k) })
 
 digit_next : (d : ℕ) → IsInRange 48 57 d → is_next_byte d ≡ true

@@ -1,6 +1,7 @@
 //! The demo of a number.
 ghost use Rattle.std.specs.Prelude.{◌≡◌, ◌<◌, ◌^◌, ◌++◌, ◌∷◌, [], OnOk, IfOk, length};
 ghost use Rattle.asc_form.specs.Written.{written};
+ghost use Rattle.text_laws.specs.TextAgain.{IsTextAgain};
 ghost use Rattle.scene_make.specs.Demo as demo;
 ghost use Rattle.scene_make.specs.Draws.{after};
 ghost use Rattle.scene_make.specs.Steps.{entries_text};
@@ -101,11 +102,13 @@ fn script(alloc: Global) -> Result<Vec<u8>, Memory>
 
 /// The demo of a number: a model of 1,000 regions, each a sphere from which a box is cut, and a script that makes two
 /// pictures of it with a change between them. The spheres stand in a cube of 10 by 10 by 10, 200 millimetres apart; their
-/// radii, from 20 to 79 millimetres, the turns of the box and the colours are drawn by the number.
+/// radii, from 20 to 79 millimetres, the turns of the box and the colours are drawn by the number. The text reads as the
+/// model.
 pub fn make_demo(alloc: Global, n: u32) -> Result<Demo, Memory>
     requires { n < 2 ^ 31 }
     ensures load { IfOk result (λ d. d.load ≡ written (demo.demo n)) }
     ensures script { IfOk result (λ d. d.script ≡ demo.demo_script) }
+    ensures again { IfOk result (λ d. IsTextAgain (demo.demo n)) }
     ensures short { IfOk result (λ d. (length d.load < 2 ^ 24) × (length d.script < 2 ^ 22)) }
 {
     let load = Items::of_vec(model(alloc, n)?);

@@ -1,0 +1,91 @@
+-- A value that begins with `-` is no name and no number, so it does not matter who refuses it.
+use Rattle.std.proofs.Common.{◌≡◌, ◌∙◌, ap, refl, sym, true, false, true≢false, Bool, cond, ℕ, List, [], ◌∷◌, length, Option, Some, None, Err, Result, arith}
+use Rattle.std.specs.Prelude.{◌==◌, ◌&&◌, ◌||◌, not, is_ok, nat_le, nat_lt}
+use Rattle.std.specs.List.{list_any}
+use Rattle.std.proofs.lemmas.Bool.Decides.{nat_tests}
+use Rattle.name_core.specs.NameText.{read_with}
+use Rattle.name_core.specs.declared.name.NameFault.{NameFault}
+use Rattle.name_core.specs.declared.name.NameFault.TheVariants.{Empty, Long}
+use Rattle.std.specs.Option.{option_map}
+use Rattle.option_words.specs.Numbers.{value}
+use Rattle.option_words.specs.Grammar.{Given, are_distinct, asked_by, asked_with, begins_with_dash, demo_asked, file_asked, for_model, is_among, is_same, value_of}
+use Rattle.option_words.specs.declared.options.Key.{Key}
+use Rattle.option_words.specs.declared.options.Key.TheVariants.{Load, Demo}
+use Rattle.option_words.specs.declared.options.Model.{Model}
+use Rattle.option_words.specs.declared.options.Model.TheVariants.{OfDemo, OfFile}
+use Rattle.option_words.proofs.Rows.{same_itself, same_key}
+
+-- one of the values begins so
+abbrev pub has_dash : List Given → Bool
+has_dash gs = list_any (λ (g : Given). begins_with_dash g.value) gs
+
+no_name : (value : List ℕ) → begins_with_dash value ≡ true → file_asked value ≡ None
+no_name [] e = cc
+no_name (x ∷ xs) e = let same : x ≡ 45 = grind (arith, nat_tests) in ap (λ (b : ℕ). file_asked (b ∷ xs)) same ∙ tried (length (45 ∷ xs) == 0) (nat_lt 64 (length (45 ∷ xs)))
+  where
+    named : Result (List ℕ) NameFault → Option Model
+    named name = cond (is_ok name) (Some (OfFile (45 ∷ xs))) None
+
+    tried : (none long : Bool) → named (cond none (Err Empty) (cond long (Err Long) (read_with (Some 0) (45 ∷ xs)))) ≡ None
+    tried true long = refl
+    tried false true = refl
+    tried false false = refl
+
+no_number : (value : List ℕ) → begins_with_dash value ≡ true → demo_asked value ≡ None
+no_number [] e = cc
+no_number (x ∷ xs) e = let same : x ≡ 45 = grind (arith, nat_tests) in ap (λ (b : ℕ). demo_asked (b ∷ xs)) same ∙ tried (nat_lt 0 (length (45 ∷ xs))) (nat_le (length (45 ∷ xs)) 9)
+  where
+    tried : (some few : Bool) → option_map OfDemo (cond (some && (few && false)) (Some (value (45 ∷ xs))) None) ≡ None
+    tried true true = refl
+    tried true false = refl
+    tried false few = refl
+
+-- an option whose value begins so
+record Dashed (gs : List Given) : Type 0 where
+  key : Key
+  value : List ℕ
+  is : value_of key gs ≡ Some value
+  dash : begins_with_dash value ≡ true
+
+among : (k : Key) (v : List ℕ) (gs : List Given) → value_of k gs ≡ Some v → is_among k gs ≡ true
+among k v [] is = cc
+among k v (g ∷ gs) is = by (is_same k g.key) is (among k v gs)
+  where
+    by : (t : Bool) → cond t (Some g.value) (value_of k gs) ≡ Some v → (value_of k gs ≡ Some v → is_among k gs ≡ true) → (t || is_among k gs) ≡ true
+    by true _ _ = refl
+    by false e others = others e
+
+dashed : (gs : List Given) → are_distinct gs ≡ true → has_dash gs ≡ true → Dashed gs
+dashed [] distinct some = cc
+dashed (g ∷ gs) distinct some = by (begins_with_dash g.value) refl (is_among g.key gs) refl distinct some (dashed gs)
+  where
+    is_there : (k : Key) → is_same k g.key ≡ true → is_among k gs ≡ is_among g.key gs
+    is_there k same = ap (λ (j : Key). is_among j gs) (same_key k g.key same)
+
+    later : (d : Dashed gs) → is_among g.key gs ≡ false → (t : Bool) → is_same d.key g.key ≡ t → Dashed (g ∷ gs)
+    later d apart true same = absurd (true≢false (sym (among d.key d.value gs d.is) ∙ is_there d.key same ∙ apart))
+    later d _ false other = record { key = d.key; value = d.value; is = ap (λ (t : Bool). cond t (Some g.value) (value_of d.key gs)) other ∙ d.is; dash = d.dash }
+
+    by : (t : Bool) → begins_with_dash g.value ≡ t → (a : Bool) → is_among g.key gs ≡ a → (not a && are_distinct gs) ≡ true → (t || has_dash gs) ≡ true
+        → (are_distinct gs ≡ true → has_dash gs ≡ true → Dashed gs) → Dashed (g ∷ gs)
+    by true dash a _ _ _ _ = record { key = g.key; value = g.value; is = ap (λ (t : Bool). cond t (Some g.value) (value_of g.key gs)) (same_itself g.key); dash = dash }
+    by false _ true _ bad _ _ = cc
+    by false _ false apart fine more others = later (others fine more) apart (is_same (others fine more).key g.key) refl
+
+pub dash_asks_nothing : (gs : List Given) → are_distinct gs ≡ true → has_dash gs ≡ true → asked_by gs ≡ None
+dash_asks_nothing gs distinct some = by (dashed gs distinct some)
+  where
+    with_file : (v : List ℕ) → begins_with_dash v ≡ true → (demo : Option (List ℕ)) → for_model (asked_with (Some v) demo) ≡ None
+    with_file v dash None = ap for_model (no_name v dash)
+    with_file v dash (Some number) = refl
+
+    with_demo : (v : List ℕ) → begins_with_dash v ≡ true → (file : Option (List ℕ)) → for_model (asked_with file (Some v)) ≡ None
+    with_demo v dash None = ap for_model (no_number v dash)
+    with_demo v dash (Some name) = refl
+
+    by_key : (k : Key) (v : List ℕ) → value_of k gs ≡ Some v → begins_with_dash v ≡ true → asked_by gs ≡ None
+    by_key Load v is dash = ap (λ (o : Option (List ℕ)). for_model (asked_with o (value_of Demo gs))) is ∙ with_file v dash (value_of Demo gs)
+    by_key Demo v is dash = ap (λ (o : Option (List ℕ)). for_model (asked_with (value_of Load gs) o)) is ∙ with_demo v dash (value_of Load gs)
+
+    by : Dashed gs → asked_by gs ≡ None
+    by d = by_key d.key d.value d.is d.dash

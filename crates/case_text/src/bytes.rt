@@ -97,25 +97,34 @@ fn expand_times<'a>(text: &'a [u8], out: &mut Vec<u8>) -> Result<&'a [u8], CaseF
 fn expand_turn(piece: &[u8], turn: usize, out: &mut Vec<u8>) -> Result<(), CaseFault> {
     let mut rest = piece;
     for _turn in 0..piece.len() {
-        rest = match rest {
-            [] => return Ok(()),
-            [b'\\', others @ ..] => expand_byte(others, out)?,
-            [b'%', b'+', others @ ..] => {
-                let (digits, others) = digits_of(others);
-                push_number(turn.saturating_add(number_of(digits)?), out)?;
-                others
-            }
-            [b'%', others @ ..] => {
-                push_number(turn, out)?;
-                others
-            }
-            [byte, others @ ..] => {
-                out.push(*byte)?;
+        let [byte, others @ ..] = rest else {
+            return Ok(());
+        };
+        rest = match *byte {
+            b'\\' => expand_byte(others, out)?,
+            b'%' => expand_number(others, turn, out)?,
+            byte => {
+                out.push(byte)?;
                 others
             }
         };
     }
     Ok(())
+}
+
+/// Puts in the number of a turn, or that number and K more where `+K` follows, and answers what follows.
+fn expand_number<'a>(
+    text: &'a [u8],
+    turn: usize,
+    out: &mut Vec<u8>,
+) -> Result<&'a [u8], CaseFault> {
+    let [b'+', others @ ..] = text else {
+        push_number(turn, out)?;
+        return Ok(text);
+    };
+    let (digits, others) = digits_of(others);
+    push_number(turn.saturating_add(number_of(digits)?), out)?;
+    Ok(others)
 }
 
 /// Puts in the number after this one in decimal digits.

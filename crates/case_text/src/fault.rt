@@ -1,29 +1,36 @@
 use memory_core::Memory;
 use std::alloc::{AllocError, AllocFailed};
 use std::io;
-use thiserror::Error;
 
 /// Why a file of cases can't be read.
-#[derive(Clone, Copy, Debug, PartialEq, Eq, Error)]
+#[derive(Clone, Copy)]
 pub enum CaseFault {
     /// A line is none of a file of cases, or stands where it has no place.
-    #[error("no line of a file of cases")]
     Line,
     /// A `\` in a text begins no form that is known.
-    #[error("no escape")]
     Escape,
     /// A number is missing, has another byte than digits, or is too large.
-    #[error("no number")]
     Number,
     /// A row asks what no table of the program has.
-    #[error("no such row")]
     Kind,
     /// A file or the words of the program can't be read.
-    #[error("no file")]
     File,
     /// There was no memory.
-    #[error("out of memory")]
     Memory,
+}
+
+impl CaseFault {
+    /// The fault as it is printed.
+    pub fn text(self) -> &'static str {
+        match self {
+            CaseFault::Line => "no line of a file of cases",
+            CaseFault::Escape => "no escape",
+            CaseFault::Number => "no number",
+            CaseFault::Kind => "no such row",
+            CaseFault::File => "no file",
+            CaseFault::Memory => "out of memory",
+        }
+    }
 }
 
 impl From<Memory> for CaseFault {

@@ -7,9 +7,10 @@ mod fault;
 mod line;
 mod row;
 mod run;
+mod shown;
 
 pub use bytes::{expand, expanded};
 pub use fault::CaseFault;
 pub use line::{Lines, first_word, number_of, numbers_of, words_of};
-pub use row::{Row, row_of};
-pub use run::{Tables, Tally, push_shown, run_tables};
+pub use run::{Tables, Tallies, finish, run_tables};
+pub use shown::Shown;

@@ -7,18 +7,19 @@ use std::alloc::Global;
 
 /// A row: its first word, the rest up to ` => `, and what stands behind that, as the bytes that they stand for.
 #[derive(Drop)]
-pub struct Row {
-    pub kind: Vec<u8>,
+pub struct Row<'a> {
+    pub kind: &'a [u8],
     pub given: Vec<u8>,
     pub wanted: Vec<u8>,
 }
 
-/// Where ` => ` begins.
-fn arrow_in(line: &[u8]) -> Option<usize> {
+/// What stands before ` => `, and what behind it.
+fn parts_of(line: &[u8]) -> Option<(&[u8], &[u8])> {
     let mut rest = line;
     for at in 0..line.len() {
         match rest {
-            [b' ', b'=', b'>', ..] => return Some(at),
+            [b' ', b'=', b'>', b' ', wanted @ ..] => return Some((&line[..at], wanted)),
+            [b' ', b'=', b'>'] => return Some((&line[..at], &line[line.len()..])),
             [_, others @ ..] => rest = others,
             [] => return None,
         }
@@ -26,25 +27,23 @@ fn arrow_in(line: &[u8]) -> Option<usize> {
     None
 }
 
-/// The row of a line, or None where it is blank or begins with `#`.
-pub fn row_of(alloc: Global, line: &[u8]) -> Result<Option<Row>, CaseFault> {
-    if line.is_empty() || line[0] == b'#' {
-        return Ok(None);
+/// Whether a line is blank or begins with `#`.
+pub fn is_remark(line: &[u8]) -> bool {
+    match line {
+        [] => true,
+        [first, ..] => *first == b'#',
     }
-    let at = arrow_in(line).ok_or(CaseFault::Line)?;
-    if at >= line.len() {
-        return Err(CaseFault::Line);
-    }
-    let (front, back) = (&line[..at], &line[at..]);
-    let wanted = match back {
-        [b' ', b'=', b'>', b' ', wanted @ ..] => wanted,
-        [b' ', b'=', b'>'] => &back[back.len()..],
-        _ => return Err(CaseFault::Line),
-    };
+}
+
+/// The row of a line.
+pub fn row_of(alloc: Global, line: &[u8]) -> Result<Row<'_>, CaseFault> {
+    let (front, wanted) = parts_of(line).ok_or(CaseFault::Line)?;
     let (kind, given) = first_word(front);
-    Ok(Some(Row {
-        kind: expanded(alloc, kind)?,
-        given: expanded(alloc, given)?,
-        wanted: expanded(alloc, wanted)?,
-    }))
+    let given = expanded(alloc, given)?;
+    let wanted = expanded(alloc, wanted)?;
+    Ok(Row {
+        kind,
+        given,
+        wanted,
+    })
 }

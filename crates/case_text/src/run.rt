@@ -2,7 +2,8 @@
 
 use crate::fault::CaseFault;
 use crate::line::Lines;
-use crate::row::{Row, row_of};
+use crate::row::{Row, is_remark, row_of};
+use crate::shown::Shown;
 use std::alloc::Global;
 use std::io::Write;
 use std::process::ExitCode;
@@ -14,9 +15,9 @@ pub trait Tables {
     fn answer(
         &self,
         alloc: Global,
-        kind: &[u8],
+        kind: &str,
         given: &[u8],
-        out: &mut Vec<u8>,
+        out: &mut Shown,
     ) -> Result<(), CaseFault>;
 }
 
@@ -40,90 +41,113 @@ impl Tally {
             self.differ = self.differ.saturating_add(1);
         }
     }
-
-    /// Adds what was counted elsewhere.
-    pub fn add(&mut self, more: Tally) {
-        self.rows = self.rows.saturating_add(more.rows);
-        self.differ = self.differ.saturating_add(more.differ);
-    }
-
-    /// Puts in how many rows there were and how many of them differ, and how many wrong ones were noticed. It answers
-    /// whether all is as it is to be: there are rows, none of them differs, and each wrong one does.
-    pub fn tell(
-        self,
-        alloc: Global,
-        what: &str,
-        wrong: Tally,
-        report: &mut Vec<u8>,
-    ) -> Result<bool, CaseFault> {
-        let Tally { rows, differ } = self;
-        let line = format!(in alloc; "{rows} {what}, {differ} differ\n")?;
-        report.extend_from_slice(line.as_bytes())?;
-        let Tally {
-            rows: all,
-            differ: noticed,
-        } = wrong;
-        let line = format!(in alloc; "{all} wrong {what}, {noticed} noticed\n")?;
-        report.extend_from_slice(line.as_bytes())?;
-        Ok(rows > 0 && differ == 0 && noticed == all)
-    }
 }
 
-/// Puts in a text with what isn't a printed byte of ASCII as `\xHH`.
-pub fn push_shown(alloc: Global, report: &mut Vec<u8>, text: &[u8]) -> Result<(), CaseFault> {
-    for byte in text {
-        if byte.is_ascii_graphic() || *byte == b' ' {
-            report.push(*byte)?;
-        } else {
-            let shown = format!(in alloc; "\\x{byte:02x}")?;
-            report.extend_from_slice(shown.as_bytes())?;
+/// The counts of rows that are right, and of those behind `--wrong`.
+#[derive(Clone, Copy, Drop)]
+pub struct Tallies {
+    right: Tally,
+    wrong: Tally,
+    is_wrong: bool,
+}
+
+impl Tallies {
+    /// Of no rows.
+    pub fn none() -> Tallies {
+        Tallies {
+            right: Tally::none(),
+            wrong: Tally::none(),
+            is_wrong: false,
         }
     }
-    Ok(())
+
+    /// What follows is to differ.
+    pub fn turn_wrong(&mut self) {
+        self.is_wrong = true;
+    }
+
+    /// Counts a row, which is as wanted or not.
+    pub fn count(&mut self, is_alike: bool) {
+        if self.is_wrong {
+            self.wrong.count(is_alike);
+        } else {
+            self.right.count(is_alike);
+        }
+    }
+
+    /// Puts in how many rows there were and how many of them differ, and how many wrong ones were noticed.
+    pub fn tell(&self, what: &[u8], report: &mut Shown) {
+        report.put_number(self.right.rows);
+        report.put_byte(b' ');
+        report.put(what);
+        report.put(b", ");
+        report.put_number(self.right.differ);
+        report.put(b" differ\n");
+        report.put_number(self.wrong.rows);
+        report.put(b" wrong ");
+        report.put(what);
+        report.put(b", ");
+        report.put_number(self.wrong.differ);
+        report.put(b" noticed\n");
+    }
+
+    /// Whether all is as it is to be: there are rows, none of them differs, and each wrong one does.
+    pub fn is_well(&self) -> bool {
+        self.right.rows > 0 && self.right.differ == 0 && self.wrong.differ == self.wrong.rows
+    }
 }
 
 /// Puts in a row that differs, with what was wanted and what came.
-fn push_difference(
-    alloc: Global,
-    report: &mut Vec<u8>,
-    row: &Row,
-    came: &[u8],
-) -> Result<(), CaseFault> {
-    push_shown(alloc, report, &row.kind)?;
-    report.push(b' ')?;
-    push_shown(alloc, report, &row.given)?;
-    report.extend_from_slice(b"\n  wanted: ")?;
-    push_shown(alloc, report, &row.wanted)?;
-    report.extend_from_slice(b"\n  came:   ")?;
-    push_shown(alloc, report, came)?;
-    report.push(b'\n')?;
-    Ok(())
+fn put_difference(row: &Row<'_>, came: &[u8], report: &mut Shown) {
+    report.put_printed(row.kind);
+    report.put_byte(b' ');
+    report.put_printed(&row.given);
+    report.put(b"\n  wanted: ");
+    report.put_printed(&row.wanted);
+    report.put(b"\n  came:   ");
+    report.put_printed(came);
+    report.put_byte(b'\n');
 }
 
-/// What a row's call answers, or `fault` and why it could not be asked.
-fn answer_of<T: Tables>(alloc: Global, tables: &T, row: &Row) -> Result<Vec<u8>, CaseFault> {
-    let mut came = Vec::new(alloc);
-    match tables.answer(alloc, &row.kind, &row.given, &mut came) {
-        Ok(()) => Ok(came),
-        Err(fault) => {
-            let shown = format!(in alloc; "fault: {fault}")?;
-            Ok(Vec::from_slice(alloc, shown.as_bytes())?)
-        }
+/// Asks a row's call.
+fn ask<T: Tables>(
+    alloc: Global,
+    tables: &T,
+    row: &Row<'_>,
+    came: &mut Shown,
+) -> Result<(), CaseFault> {
+    match str::from_utf8(row.kind) {
+        Ok(kind) => tables.answer(alloc, kind, &row.given, came),
+        Err(_) => Err(CaseFault::Kind),
     }
 }
 
+/// What a row's call answers, or `fault` and why it could not be asked.
+fn answer_of<T: Tables>(alloc: Global, tables: &T, row: &Row<'_>) -> Shown {
+    let mut came = Shown::new(alloc);
+    if let Err(fault) = ask(alloc, tables, row, &mut came) {
+        came = Shown::new(alloc);
+        came.put(b"fault: ");
+        came.put(fault.text().as_bytes());
+    }
+    came
+}
+
+/// Runs the row of a line.
 fn run_row<T: Tables>(
     alloc: Global,
     tables: &T,
-    row: &Row,
-    tally: &mut Tally,
-    report: &mut Vec<u8>,
+    line: &[u8],
+    tallies: &mut Tallies,
+    report: &mut Shown,
 ) -> Result<(), CaseFault> {
-    let came = answer_of(alloc, tables, row)?;
-    let is_alike = came.as_slice() == row.wanted.as_slice();
-    tally.count(is_alike);
+    let row = row_of(alloc, line)?;
+    let answer = answer_of(alloc, tables, &row);
+    let came = answer.bytes()?;
+    let is_alike = came == row.wanted.as_slice();
+    tallies.count(is_alike);
     if !is_alike {
-        push_difference(alloc, report, row, &came)?;
+        put_difference(&row, came, report);
     }
     Ok(())
 }
@@ -133,54 +157,68 @@ fn run_text<T: Tables>(
     alloc: Global,
     tables: &T,
     text: &[u8],
-    report: &mut Vec<u8>,
-) -> Result<Tally, CaseFault> {
-    let mut tally = Tally::none();
+    tallies: &mut Tallies,
+    report: &mut Shown,
+) -> Result<(), CaseFault> {
     for line in Lines::of(text) {
-        if let Some(row) = row_of(alloc, line)? {
-            run_row(alloc, tables, &row, &mut tally, report)?;
+        if !is_remark(line) {
+            run_row(alloc, tables, line, tallies, report)?;
         }
     }
-    Ok(tally)
+    Ok(())
 }
 
-/// Runs the files that the words name, and says whether all is as it is to be: no row differs, and behind the word
-/// `--wrong` each row does.
+/// Runs the file that a word names, or notes that what follows is to differ.
+fn run_word<T: Tables>(
+    rt: &HostRuntime,
+    tables: &T,
+    word: &str,
+    tallies: &mut Tallies,
+    report: &mut Shown,
+) -> Result<(), CaseFault> {
+    if word == "--wrong" {
+        tallies.turn_wrong();
+        return Ok(());
+    }
+    let text = fs::read(rt, word)?;
+    run_text(rt.alloc(), tables, &text, tallies, report)
+}
+
+/// Runs the files that the words name.
 fn run_files<T: Tables>(
     rt: &HostRuntime,
     tables: &T,
-    report: &mut Vec<u8>,
-) -> Result<bool, CaseFault> {
-    let alloc = rt.alloc();
-    let (mut right, mut wrong, mut is_wrong) = (Tally::none(), Tally::none(), false);
+    report: &mut Shown,
+) -> Result<Tallies, CaseFault> {
+    let mut tallies = Tallies::none();
     for word in env::args(rt)?.skip(1) {
-        if word.as_str() == "--wrong" {
-            is_wrong = true;
-            continue;
-        }
-        let text = fs::read(rt, word.as_str())?;
-        let tally = run_text(alloc, tables, &text, report)?;
-        if is_wrong {
-            wrong.add(tally);
-        } else {
-            right.add(tally);
+        run_word(rt, tables, word.as_str(), &mut tallies, report)?;
+    }
+    tallies.tell(b"rows", report);
+    Ok(tallies)
+}
+
+/// Prints a report of cases, and answers the status of the program: 0 where all is as it is to be, 1 where it isn't, and 2
+/// where a file can't be read.
+pub fn finish(rt: &HostRuntime, outcome: Result<Tallies, CaseFault>, report: &Shown) -> ExitCode {
+    let is_told = match report.bytes() {
+        Ok(text) => rt.stdout().write_all(text).is_ok(),
+        Err(_) => false,
+    };
+    match outcome {
+        Ok(tallies) => ExitCode::from(u8::from(!(tallies.is_well() && is_told))),
+        Err(fault) => {
+            let _ = eprintln!(rt; "{}", fault.text());
+            ExitCode::from(2)
         }
     }
-    right.tell(alloc, "rows", wrong, report)
 }
 
 /// Runs the files of rows that the words of the program name, and prints each row that differs and how many there
 /// were. What stands behind the word `--wrong` are files of rows of which each is to differ. The status is 0 where all
 /// is so, 1 where it isn't, and 2 where a file can't be read.
 pub fn run_tables<T: Tables>(rt: &HostRuntime, tables: &T) -> ExitCode {
-    let mut report = Vec::new(rt.alloc());
+    let mut report = Shown::new(rt.alloc());
     let outcome = run_files(rt, tables, &mut report);
-    let is_told = rt.stdout().write_all(&report).is_ok();
-    match outcome {
-        Ok(is_well) => ExitCode::from(u8::from(!(is_well && is_told))),
-        Err(fault) => {
-            let _ = eprintln!(rt; "{fault}");
-            ExitCode::from(2)
-        }
-    }
+    finish(rt, outcome, &report)
 }

@@ -6,8 +6,8 @@ ghost use Rattle.lattice_core.specs.Limits.{IsWithin};
 use crate::random::random_script;
 use crate::scripts::commands_of;
 use crate::shots::shoot_uncounted;
-use crate::texts::{long_in, number_in, push, push_number, three_words, two_fields, two_words};
-use case_text::CaseFault;
+use crate::texts::{long_in, number_in, put_number, three_words, two_fields, two_words};
+use case_text::{CaseFault, Shown};
 use command_set::{Command, Query};
 use directory::Directory;
 use edit_core::apply;
@@ -45,11 +45,11 @@ impl Compared {
             && self.overlaps > most.overlaps
     }
 
-    fn push_to(&self, alloc: Global, out: &mut Vec<u8>) -> Result<(), CaseFault> {
-        push_number(alloc, out, b"differ ", self.differ as u64)?;
-        push_number(alloc, out, b" shots ", self.shots as u64)?;
-        push_number(alloc, out, b" partitions ", self.partitions as u64)?;
-        push_number(alloc, out, b" overlaps ", self.overlaps as u64)
+    fn put_to(&self, out: &mut Shown) {
+        put_number(out, b"differ ", self.differ as u64);
+        put_number(out, b" shots ", self.shots as u64);
+        put_number(out, b" partitions ", self.partitions as u64);
+        put_number(out, b" overlaps ", self.overlaps as u64);
     }
 }
 
@@ -149,13 +149,15 @@ fn compare_scripts(alloc: Global, seed: u64, scripts: u64) -> Result<Compared, C
 
 /// `compare SEED SCRIPTS | SHOTS PARTITIONS OVERLAPS => all alike, enough`: shots of so many random scripts are answered as
 /// the plain evaluator says, and there are over SHOTS shots, over PARTITIONS partitions and over OVERLAPS overlaps.
-pub fn answer_compare(alloc: Global, given: &[u8], out: &mut Vec<u8>) -> Result<(), CaseFault> {
+pub fn answer_compare(alloc: Global, given: &[u8], out: &mut Shown) -> Result<(), CaseFault> {
     let (made, most) = two_fields(given)?;
     let (seed, scripts) = two_words(alloc, made)?;
     let most = most_of(alloc, most)?;
     let compared = compare_scripts(alloc, long_in(seed)?, long_in(scripts)?)?;
     if compared.is_more(&most) {
-        return push(out, b"all alike, enough");
+        out.put(b"all alike, enough");
+    } else {
+        compared.put_to(out);
     }
-    compared.push_to(alloc, out)
+    Ok(())
 }

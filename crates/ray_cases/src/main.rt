@@ -17,7 +17,7 @@ mod tiles;
 mod trees;
 mod weaves;
 
-use case_text::{CaseFault, Tables, run_tables};
+use case_text::{CaseFault, Shown, Tables, run_tables};
 use std::alloc::Global;
 use std::process::ExitCode;
 
@@ -28,27 +28,27 @@ impl Tables for Rays {
     fn answer(
         &self,
         alloc: Global,
-        kind: &[u8],
+        kind: &str,
         given: &[u8],
-        out: &mut Vec<u8>,
+        out: &mut Shown,
     ) -> Result<(), CaseFault> {
         match kind {
-            b"cuts" => claiming::answer_cuts(alloc, given, out),
-            b"within" => claiming::answer_within(alloc, given, out),
-            b"nodes" => claiming::answer_nodes(alloc, given, out),
-            b"claims" => claiming::answer_claims(alloc, given, out),
-            b"partitions" => settling::answer_partitions(alloc, given, out),
-            b"overlaps" => settling::answer_overlaps(alloc, settling::Told::Runs, given, out),
-            b"pairs" => settling::answer_overlaps(alloc, settling::Told::Count, given, out),
-            b"scene" => scenes::answer_scene(alloc, scenes::Told::Regions, given, out),
-            b"union_less" => scenes::answer_union_less(alloc, given, out),
-            b"solids" => scenes::answer_scene(alloc, scenes::Told::Solids, given, out),
-            b"sizes" => scenes::answer_scene(alloc, scenes::Told::Sizes, given, out),
-            b"shoot" => shots::answer_ray(alloc, shots::Asked::Partitions, given, out),
-            b"check" => shots::answer_ray(alloc, shots::Asked::Overlaps, given, out),
-            b"tile" => tiles::answer_tile(alloc, given, out),
-            b"report" => reports::answer_report(alloc, given, out),
-            b"compare" => comparing::answer_compare(alloc, given, out),
+            "cuts" => claiming::answer_cuts(alloc, given, out),
+            "within" => claiming::answer_within(alloc, given, out),
+            "nodes" => claiming::answer_nodes(alloc, given, out),
+            "claims" => claiming::answer_claims(alloc, given, out),
+            "partitions" => settling::answer_partitions(alloc, given, out),
+            "overlaps" => settling::answer_overlaps(alloc, settling::Told::Runs, given, out),
+            "pairs" => settling::answer_overlaps(alloc, settling::Told::Count, given, out),
+            "scene" => scenes::answer_scene(alloc, scenes::Told::Regions, given, out),
+            "union_less" => scenes::answer_union_less(alloc, given, out),
+            "solids" => scenes::answer_scene(alloc, scenes::Told::Solids, given, out),
+            "sizes" => scenes::answer_scene(alloc, scenes::Told::Sizes, given, out),
+            "shoot" => shots::answer_ray(alloc, shots::Asked::Partitions, given, out),
+            "check" => shots::answer_ray(alloc, shots::Asked::Overlaps, given, out),
+            "tile" => tiles::answer_tile(alloc, given, out),
+            "report" => reports::answer_report(alloc, given, out),
+            "compare" => comparing::answer_compare(alloc, given, out),
             _ => Err(CaseFault::Kind),
         }
     }

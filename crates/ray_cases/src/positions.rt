@@ -3,8 +3,8 @@
 ghost use Rattle.std.specs.Prelude.{IfOk};
 ghost use Rattle.surd_order.specs.Spelling.{IsSpelled};
 
-use crate::texts::{cut, long_in, push, whole_in};
-use case_text::CaseFault;
+use crate::texts::{cut, long_in, whole_in};
+use case_text::{CaseFault, Shown};
 use surd_order::{Pos, PosText};
 
 fn fraction_of(over: i128, under: i128) -> Result<Pos, CaseFault>
@@ -52,9 +52,9 @@ pub fn read_position(text: &[u8]) -> Result<Pos, CaseFault>
 }
 
 /// Puts in a text, and a position behind it.
-pub fn push_position(out: &mut Vec<u8>, before: &[u8], position: &Pos) -> Result<(), CaseFault> {
+pub fn put_position(out: &mut Shown, before: &[u8], position: &Pos) {
     let mut text = PosText::new();
     position.write_text(&mut text);
-    push(out, before)?;
-    push(out, text.bytes())
+    out.put(before);
+    out.put(text.bytes());
 }

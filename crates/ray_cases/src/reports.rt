@@ -5,10 +5,10 @@ ghost use Rattle.shot_core.specs.Regions.{IsPathText, IsScene};
 
 use crate::positions::read_position;
 use crate::texts::{
-    items_of, number_in, number_of, push, push_number, three_fields, three_words, two_words,
+    items_of, number_in, number_of, put_number, three_fields, three_words, two_words,
 };
 use bool_weave::{MaskNode, MaskTree};
-use case_text::CaseFault;
+use case_text::{CaseFault, Shown};
 use item_list::Items;
 use overlap_list::Hit;
 use region_attr::Rgb;
@@ -114,32 +114,33 @@ fn are_below(lit: &[Lit], count: usize) -> bool
 }
 
 /// Puts in the lines of parts of a ray.
-fn push_report(
+fn put_report(
     alloc: Global,
     scene: &Scene,
     lit: &[Lit],
     room: u32,
-    out: &mut Vec<u8>,
+    out: &mut Shown,
 ) -> Result<(), CaseFault> {
     if !are_below(lit, scene.regions().len()) || room > 1_000_000 {
         return Err(CaseFault::Number);
     }
     match shot_text(alloc, scene, lit, u64::from(room)) {
         Ok(body) => {
-            push_number(alloc, out, b"", body.lines() as u64)?;
-            push(out, b" lines\n")?;
-            push(out, body.text())
+            put_number(out, b"", body.lines() as u64);
+            out.put(b" lines\n");
+            out.put(body.text());
         }
-        Err(TextFault::Room) => push(out, b"no room"),
-        Err(TextFault::Memory) => Err(CaseFault::Memory),
+        Err(TextFault::Room) => out.put(b"no room"),
+        Err(TextFault::Memory) => return Err(CaseFault::Memory),
     }
+    Ok(())
 }
 
 /// `report ROOM | PLACE PATH, .. | REGION START END, .. => COUNT lines`, a line feed and the text, or `no room`
-pub fn answer_report(alloc: Global, given: &[u8], out: &mut Vec<u8>) -> Result<(), CaseFault> {
+pub fn answer_report(alloc: Global, given: &[u8], out: &mut Shown) -> Result<(), CaseFault> {
     let (room, places, list) = three_fields(given)?;
     let room = number_of(alloc, room)?;
     let scene = scene_of(alloc, places)?;
     let lit = all_lit_of(alloc, list)?;
-    push_report(alloc, &scene, &lit, room, out)
+    put_report(alloc, &scene, &lit, room, out)
 }

@@ -5,8 +5,8 @@ ghost use Rattle.ray_cases.specs.UnionLess.{IsUnionLess};
 
 use crate::bodies::{push_body, push_place, push_solids};
 use crate::scripts::{directory_of, names_of};
-use crate::texts::{push, push_number, two_fields};
-use case_text::CaseFault;
+use crate::texts::{put_number, two_fields};
+use case_text::{CaseFault, Shown};
 use comb_tree::{CombNode, CombTree};
 use directory::Directory;
 use lattice_core::Placement;
@@ -18,68 +18,64 @@ use shot_core::{PrepRegion, Scene, SceneRegion};
 use std::alloc::Global;
 
 /// Puts in why there is no scene.
-pub fn push_fault(alloc: Global, fault: &PrepFault, out: &mut Vec<u8>) -> Result<(), CaseFault> {
+pub fn put_fault(fault: &PrepFault, out: &mut Shown) -> Result<(), CaseFault> {
     match fault {
         PrepFault::Missing(name) => {
-            push(out, b"missing ")?;
-            push(out, name.bytes())
+            out.put(b"missing ");
+            out.put(name.bytes());
         }
-        PrepFault::TooMany(size) => push_number(alloc, out, b"instances ", u64::from(*size)),
-        PrepFault::Memory => Err(CaseFault::Memory),
+        PrepFault::TooMany(size) => put_number(out, b"instances ", u64::from(*size)),
+        PrepFault::Memory => return Err(CaseFault::Memory),
     }
+    Ok(())
 }
 
 /// Puts in a semicolon before each region but the first, and its place and its path.
-fn push_next(
+fn put_next(
     alloc: Global,
     i: usize,
     region: &SceneRegion,
-    out: &mut Vec<u8>,
+    out: &mut Shown,
 ) -> Result<(), CaseFault> {
     if i > 0 {
-        push(out, b"; ")?;
+        out.put(b"; ");
     }
     push_place(alloc, region, out)
 }
 
-fn push_regions(alloc: Global, scene: &Scene, out: &mut Vec<u8>) -> Result<(), CaseFault> {
+fn put_regions(alloc: Global, scene: &Scene, out: &mut Shown) -> Result<(), CaseFault> {
     for (i, region) in scene.regions().iter().enumerate() {
-        push_next(alloc, i, region, out)?;
-        push(out, b" ")?;
+        put_next(alloc, i, region, out)?;
+        out.put(b" ");
         push_body(alloc, region.body(), out)?;
     }
     Ok(())
 }
 
-fn push_all_solids(alloc: Global, scene: &Scene, out: &mut Vec<u8>) -> Result<(), CaseFault> {
+fn put_all_solids(alloc: Global, scene: &Scene, out: &mut Shown) -> Result<(), CaseFault> {
     for (i, region) in scene.regions().iter().enumerate() {
-        push_next(alloc, i, region, out)?;
+        put_next(alloc, i, region, out)?;
         push_solids(alloc, region.body().solids(), out)?;
     }
     Ok(())
 }
 
 /// Puts in what the first region has.
-fn push_first(alloc: Global, body: &PrepRegion, out: &mut Vec<u8>) -> Result<(), CaseFault> {
-    push_number(
-        alloc,
-        out,
-        b"; first has solids ",
-        body.solids().len() as u64,
-    )?;
-    push_number(alloc, out, b" nodes ", body.tree().nodes().len() as u64)?;
-    push_number(alloc, out, b" size ", u64::from(body.size()))
+fn put_first(body: &PrepRegion, out: &mut Shown) {
+    put_number(out, b"; first has solids ", body.solids().len() as u64);
+    put_number(out, b" nodes ", body.tree().nodes().len() as u64);
+    put_number(out, b" size ", u64::from(body.size()));
 }
 
 /// Puts in the number of regions, the first one's parts, and the place and path of the last one.
-fn push_sizes(alloc: Global, scene: &Scene, out: &mut Vec<u8>) -> Result<(), CaseFault> {
+fn put_sizes(alloc: Global, scene: &Scene, out: &mut Shown) -> Result<(), CaseFault> {
     let regions = scene.regions();
-    push_number(alloc, out, b"regions ", regions.len() as u64)?;
+    put_number(out, b"regions ", regions.len() as u64);
     let (Some(first), Some(last)) = (regions.first(), regions.last()) else {
         return Ok(());
     };
-    push_first(alloc, first.body(), out)?;
-    push(out, b"; last is ")?;
+    put_first(first.body(), out);
+    out.put(b"; last is ");
     push_place(alloc, last, out)
 }
 
@@ -92,21 +88,21 @@ pub enum Told {
 }
 
 /// Puts in what is told of the scene of names, or why they have none.
-fn push_scene(
+fn put_scene(
     alloc: Global,
     told: Told,
     directory: &Directory,
     names: &[Name],
-    out: &mut Vec<u8>,
+    out: &mut Shown,
 ) -> Result<(), CaseFault> {
     let scene = match prepare(alloc, directory, names) {
         Ok(scene) => scene,
-        Err(fault) => return push_fault(alloc, &fault, out),
+        Err(fault) => return put_fault(&fault, out),
     };
     match told {
-        Told::Regions => push_regions(alloc, &scene, out),
-        Told::Solids => push_all_solids(alloc, &scene, out),
-        Told::Sizes => push_sizes(alloc, &scene, out),
+        Told::Regions => put_regions(alloc, &scene, out),
+        Told::Solids => put_all_solids(alloc, &scene, out),
+        Told::Sizes => put_sizes(alloc, &scene, out),
     }
 }
 
@@ -118,12 +114,12 @@ pub fn answer_scene(
     alloc: Global,
     told: Told,
     given: &[u8],
-    out: &mut Vec<u8>,
+    out: &mut Shown,
 ) -> Result<(), CaseFault> {
     let (script, list) = two_fields(given)?;
     let names = names_of(alloc, list)?;
     let directory = directory_of(alloc, script)?;
-    push_scene(alloc, told, &directory, &names, out)
+    put_scene(alloc, told, &directory, &names, out)
 }
 
 /// The nodes of the union of two members less a third.
@@ -171,10 +167,10 @@ fn put_union(alloc: Global, directory: &mut Directory, names: &[Name]) -> Result
 
 /// `union_less SCRIPT | NAME ONE TWO LESS => ..` as of `scene`: the regions of NAME, a combination that is made of the
 /// union of two members less a third. No list of members gives its tree.
-pub fn answer_union_less(alloc: Global, given: &[u8], out: &mut Vec<u8>) -> Result<(), CaseFault> {
+pub fn answer_union_less(alloc: Global, given: &[u8], out: &mut Shown) -> Result<(), CaseFault> {
     let (script, list) = two_fields(given)?;
     let names = names_of(alloc, list)?;
     let mut directory = directory_of(alloc, script)?;
     let name = put_union(alloc, &mut directory, &names)?;
-    push_scene(alloc, Told::Regions, &directory, &[name], out)
+    put_scene(alloc, Told::Regions, &directory, &[name], out)
 }

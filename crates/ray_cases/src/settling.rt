@@ -4,12 +4,12 @@
 ghost use Rattle.std.specs.Prelude.{◌≡◌, IfOk, All, length};
 ghost use Rattle.bool_weave.specs.Claims.{intervals_of};
 
-use crate::positions::push_position;
-use crate::texts::{items_of, number_in, push, push_comma, push_number, three_words, two_fields};
+use crate::positions::put_position;
+use crate::texts::{items_of, number_in, put_comma, put_number, three_words, two_fields};
 use crate::trees::tree_of;
 use crate::weaves::weave_of;
 use bool_weave::{MaskNode, Weave, claims};
-use case_text::{CaseFault, words_of};
+use case_text::{CaseFault, Shown, words_of};
 use overlap_list::{CheckFault, Hit, OverlapRun, Partition, RegionClaims, overlaps, settle};
 use std::alloc::Global;
 
@@ -64,82 +64,68 @@ fn regions_of(alloc: Global, weave: &Weave, list: &[u8]) -> Result<Vec<RegionCla
 }
 
 /// Puts in a hit.
-pub fn push_hit(alloc: Global, hit: &Hit, out: &mut Vec<u8>) -> Result<(), CaseFault> {
-    push_number(alloc, out, b" i", u64::from(hit.instance))?;
-    push_number(alloc, out, b" f", u64::from(hit.face))
+pub fn put_hit(hit: &Hit, out: &mut Shown) {
+    put_number(out, b" i", u64::from(hit.instance));
+    put_number(out, b" f", u64::from(hit.face));
 }
 
-fn push_partition(alloc: Global, one: &Partition, out: &mut Vec<u8>) -> Result<(), CaseFault> {
-    push_number(alloc, out, b"r", u64::from(one.region))?;
-    push_position(out, b" ", &one.start)?;
-    push_position(out, b" ", &one.end)?;
-    push_hit(alloc, &one.hit, out)
+fn put_partition(one: &Partition, out: &mut Shown) {
+    put_number(out, b"r", u64::from(one.region));
+    put_position(out, b" ", &one.start);
+    put_position(out, b" ", &one.end);
+    put_hit(&one.hit, out);
 }
 
 /// Puts in partitions, each as `rREGION START END iINSTANCE fFACE`.
-fn push_partitions(
-    alloc: Global,
-    partitions: &[Partition],
-    out: &mut Vec<u8>,
-) -> Result<(), CaseFault> {
+fn put_partitions(partitions: &[Partition], out: &mut Shown) {
     for (i, one) in partitions.iter().enumerate() {
-        push_comma(out, i)?;
-        push_partition(alloc, one, out)?;
+        put_comma(out, i);
+        put_partition(one, out);
     }
-    Ok(())
 }
 
 /// `partitions SEGMENTS | REGIONS => rREGION START END iINSTANCE fFACE, ..`
-pub fn answer_partitions(alloc: Global, given: &[u8], out: &mut Vec<u8>) -> Result<(), CaseFault> {
+pub fn answer_partitions(alloc: Global, given: &[u8], out: &mut Shown) -> Result<(), CaseFault> {
     let (segments, list) = two_fields(given)?;
     let weave = weave_of(alloc, segments)?;
     let regions = regions_of(alloc, &weave, list)?;
     if regions.len() > 10_000 {
         return Err(CaseFault::Line);
     }
-    push_partitions(alloc, &settle(alloc, &weave, &regions)?, out)
-}
-
-fn push_run(alloc: Global, run: &OverlapRun, out: &mut Vec<u8>) -> Result<(), CaseFault> {
-    push_number(alloc, out, b"r", u64::from(run.one))?;
-    push_number(alloc, out, b" r", u64::from(run.two))?;
-    push_position(out, b" ", &run.start)?;
-    push_position(out, b" ", &run.end)
-}
-
-/// Puts in overlaps, each as `rONE rTWO START END`.
-fn push_runs(alloc: Global, runs: &[OverlapRun], out: &mut Vec<u8>) -> Result<(), CaseFault> {
-    for (i, run) in runs.iter().enumerate() {
-        push_comma(out, i)?;
-        push_run(alloc, run, out)?;
-    }
+    put_partitions(&settle(alloc, &weave, &regions)?, out);
     Ok(())
 }
 
-/// Puts in overlaps, or why they are not listed.
-pub fn push_overlaps(
-    alloc: Global,
-    found: Result<Vec<OverlapRun>, CheckFault>,
-    out: &mut Vec<u8>,
-) -> Result<(), CaseFault> {
-    match found {
-        Ok(runs) => push_runs(alloc, &runs, out),
-        Err(CheckFault::TooMany) => push(out, b"too many"),
-        Err(CheckFault::Memory) => Err(CaseFault::Memory),
+fn put_run(run: &OverlapRun, out: &mut Shown) {
+    put_number(out, b"r", u64::from(run.one));
+    put_number(out, b" r", u64::from(run.two));
+    put_position(out, b" ", &run.start);
+    put_position(out, b" ", &run.end);
+}
+
+/// Puts in overlaps, each as `rONE rTWO START END`.
+pub fn put_runs(runs: &[OverlapRun], out: &mut Shown) {
+    for (i, run) in runs.iter().enumerate() {
+        put_comma(out, i);
+        put_run(run, out);
     }
 }
 
-/// Puts in how many overlaps there are, or why they are not listed.
-fn push_count(
-    alloc: Global,
+/// Puts in overlaps, or how many they are, or why they are not listed.
+pub fn put_overlaps(
+    told: Told,
     found: Result<Vec<OverlapRun>, CheckFault>,
-    out: &mut Vec<u8>,
+    out: &mut Shown,
 ) -> Result<(), CaseFault> {
     match found {
-        Ok(runs) => push_number(alloc, out, b"", runs.len() as u64),
-        Err(CheckFault::TooMany) => push(out, b"too many"),
-        Err(CheckFault::Memory) => Err(CaseFault::Memory),
+        Ok(runs) => match told {
+            Told::Runs => put_runs(&runs, out),
+            Told::Count => put_number(out, b"", runs.len() as u64),
+        },
+        Err(CheckFault::TooMany) => out.put(b"too many"),
+        Err(CheckFault::Memory) => return Err(CaseFault::Memory),
     }
+    Ok(())
 }
 
 /// What is told of overlaps.
@@ -155,7 +141,7 @@ pub fn answer_overlaps(
     alloc: Global,
     told: Told,
     given: &[u8],
-    out: &mut Vec<u8>,
+    out: &mut Shown,
 ) -> Result<(), CaseFault> {
     let (segments, list) = two_fields(given)?;
     let weave = weave_of(alloc, segments)?;
@@ -163,9 +149,5 @@ pub fn answer_overlaps(
     if regions.len() > 10_000 {
         return Err(CaseFault::Line);
     }
-    let found = overlaps(alloc, &weave, &regions);
-    match told {
-        Told::Runs => push_overlaps(alloc, found, out),
-        Told::Count => push_count(alloc, found, out),
-    }
+    put_overlaps(told, overlaps(alloc, &weave, &regions), out)
 }

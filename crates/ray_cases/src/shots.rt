@@ -4,17 +4,18 @@ ghost use Rattle.std.specs.Prelude.{◌≡◌, ◌<◌};
 ghost use Rattle.lattice_core.specs.declared.limit.TheConstants.{WORLD};
 ghost use Rattle.lattice_core.specs.Limits.{IsWithin};
 
-use crate::positions::push_position;
-use crate::scenes::push_fault;
+use crate::positions::put_position;
+use crate::scenes::put_fault;
 use crate::scripts::{commands_of, directory_by};
-use crate::settling::{push_hit, push_overlaps};
-use crate::texts::{push, push_comma, push_number};
-use case_text::CaseFault;
+use crate::settling::{Told, put_hit, put_overlaps, put_runs};
+use crate::texts::{put_comma, put_number};
+use case_text::{CaseFault, Shown};
 use command_set::{Command, Query, WorldRay};
 use directory::Directory;
 use lattice_core::Ray;
 use memory_core::Memory;
 use name_core::Name;
+use overlap_list::OverlapRun;
 use plain_shot::{plain_overlaps, plain_partitions};
 use scene_prep::prepare;
 use shot_core::{Lit, Scene, check_ray, shoot};
@@ -45,53 +46,57 @@ pub fn shoot_uncounted(alloc: Global, scene: &Scene, ray: &Ray) -> Result<Vec<Li
     shoot_counted::<Brand>(Blank::new(1), alloc, scene, ray)
 }
 
-fn push_lit(alloc: Global, one: &Lit, out: &mut Vec<u8>) -> Result<(), CaseFault> {
-    push_number(alloc, out, b"r", u64::from(one.region))?;
-    push_position(out, b" ", &one.start)?;
-    push_position(out, b" ", &one.end)?;
-    push_hit(alloc, &one.hit, out)?;
-    push_number(alloc, out, b" l", u64::from(one.level))
+fn put_lit(one: &Lit, out: &mut Shown) {
+    put_number(out, b"r", u64::from(one.region));
+    put_position(out, b" ", &one.start);
+    put_position(out, b" ", &one.end);
+    put_hit(&one.hit, out);
+    put_number(out, b" l", u64::from(one.level));
 }
 
 /// Puts in what a ray meets, each as `rREGION START END iINSTANCE fFACE lLEVEL`.
-fn push_all_lit(alloc: Global, lit: &[Lit], out: &mut Vec<u8>) -> Result<(), CaseFault> {
+fn put_all_lit(lit: &[Lit], out: &mut Shown) {
     for (i, one) in lit.iter().enumerate() {
-        push_comma(out, i)?;
-        push_lit(alloc, one, out)?;
+        put_comma(out, i);
+        put_lit(one, out);
     }
-    Ok(())
 }
 
 /// Puts in the partitions of a ray, and behind `plainly` those of the plain evaluator where they differ.
-fn push_shot(alloc: Global, scene: &Scene, ray: &Ray, out: &mut Vec<u8>) -> Result<(), CaseFault>
+fn put_shot(alloc: Global, scene: &Scene, ray: &Ray, out: &mut Shown) -> Result<(), CaseFault>
     requires { IsWithin WORLD ray.now.origin }
 {
     let lit = shoot_uncounted(alloc, scene, ray)?;
     let plain = plain_partitions(alloc, scene, ray)?;
-    push_all_lit(alloc, &lit, out)?;
+    put_all_lit(&lit, out);
     if lit.as_slice() != plain.as_slice() {
-        push(out, b" plainly ")?;
-        push_all_lit(alloc, &plain, out)?;
+        out.put(b" plainly ");
+        put_all_lit(&plain, out);
     }
     Ok(())
 }
 
+/// Puts in overlaps, and behind `plainly` those of the plain evaluator where they differ.
+fn put_both(runs: &[OverlapRun], plain: &[OverlapRun], out: &mut Shown) {
+    put_runs(runs, out);
+    if runs != plain {
+        out.put(b" plainly ");
+        put_runs(plain, out);
+    }
+}
+
 /// Puts in the overlaps on a ray, and behind `plainly` those of the plain evaluator where they differ.
-fn push_check(alloc: Global, scene: &Scene, ray: &Ray, out: &mut Vec<u8>) -> Result<(), CaseFault>
+fn put_check(alloc: Global, scene: &Scene, ray: &Ray, out: &mut Shown) -> Result<(), CaseFault>
     requires { IsWithin WORLD ray.now.origin }
 {
-    let found = check_ray(alloc, scene, ray);
     let plain = plain_overlaps(alloc, scene, ray)?;
-    let differ = match &found {
-        Ok(runs) => runs.as_slice() != plain.as_slice(),
-        Err(_) => false,
-    };
-    push_overlaps(alloc, found, out)?;
-    if differ {
-        push(out, b" plainly ")?;
-        push_overlaps(alloc, Ok(plain), out)?;
+    match check_ray(alloc, scene, ray) {
+        Ok(runs) => {
+            put_both(&runs, &plain, out);
+            Ok(())
+        }
+        Err(fault) => put_overlaps(Told::Runs, Err(fault), out),
     }
-    Ok(())
 }
 
 /// What is asked of a ray.
@@ -102,35 +107,35 @@ pub enum Asked {
 }
 
 /// Puts in what is asked of a ray at the scene of names.
-fn push_asked(
+fn put_asked(
     alloc: Global,
     asked: Asked,
     directory: &Directory,
     ray: &WorldRay,
     names: &[Name],
-    out: &mut Vec<u8>,
+    out: &mut Shown,
 ) -> Result<(), CaseFault> {
     let scene = match prepare(alloc, directory, names) {
         Ok(scene) => scene,
-        Err(fault) => return push_fault(alloc, &fault, out),
+        Err(fault) => return put_fault(&fault, out),
     };
     match asked {
-        Asked::Partitions => push_shot(alloc, &scene, &ray.ray(), out),
-        Asked::Overlaps => push_check(alloc, &scene, &ray.ray(), out),
+        Asked::Partitions => put_shot(alloc, &scene, &ray.ray(), out),
+        Asked::Overlaps => put_check(alloc, &scene, &ray.ray(), out),
     }
 }
 
 /// Puts in what is asked of the ray that a command shoots.
-fn push_ray(
+fn put_ray(
     alloc: Global,
     asked: Asked,
     directory: &Directory,
     command: &Command,
-    out: &mut Vec<u8>,
+    out: &mut Shown,
 ) -> Result<(), CaseFault> {
     match command {
         Command::Query(Query::Shot { ray, names }) => {
-            push_asked(alloc, asked, directory, ray, names.items(), out)
+            put_asked(alloc, asked, directory, ray, names.items(), out)
         }
         _ => Err(CaseFault::Line),
     }
@@ -143,12 +148,12 @@ pub fn answer_ray(
     alloc: Global,
     asked: Asked,
     script: &[u8],
-    out: &mut Vec<u8>,
+    out: &mut Shown,
 ) -> Result<(), CaseFault> {
     let commands = commands_of(alloc, script)?;
     let Some((last, edits)) = commands.items().split_last() else {
         return Err(CaseFault::Line);
     };
     let directory = directory_by(alloc, edits)?;
-    push_ray(alloc, asked, &directory, &last.command, out)
+    put_ray(alloc, asked, &directory, &last.command, out)
 }

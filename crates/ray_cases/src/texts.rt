@@ -1,6 +1,6 @@
 //! The parts of what a row gives, and the text of what it answers.
 
-use case_text::{CaseFault, words_of};
+use case_text::{CaseFault, Shown, words_of};
 use std::alloc::Global;
 
 /// What stands before the first such byte, and what follows it; `None` where there is none.
@@ -94,27 +94,31 @@ pub fn number_of(alloc: Global, text: &[u8]) -> Result<u32, CaseFault> {
 }
 
 /// Puts in a text.
-pub fn push(out: &mut Vec<u8>, text: &[u8]) -> Result<(), CaseFault> {
-    out.extend_from_slice(text)?;
+pub fn push(out: &mut Shown, text: &[u8]) -> Result<(), CaseFault> {
+    out.put(text);
     Ok(())
 }
 
 /// Puts in a text, and a number behind it.
 pub fn push_number(
-    alloc: Global,
-    out: &mut Vec<u8>,
+    _alloc: Global,
+    out: &mut Shown,
     before: &[u8],
     number: u64,
 ) -> Result<(), CaseFault> {
-    let digits = format!(in alloc; "{number}")?;
-    push(out, before)?;
-    push(out, digits.as_bytes())
+    put_number(out, before, number);
+    Ok(())
+}
+
+/// Puts in a text, and a number behind it.
+pub fn put_number(out: &mut Shown, before: &[u8], number: u64) {
+    out.put(before);
+    out.put_number(number);
 }
 
 /// Puts in a comma before each item but the first.
-pub fn push_comma(out: &mut Vec<u8>, item: usize) -> Result<(), CaseFault> {
+pub fn put_comma(out: &mut Shown, item: usize) {
     if item > 0 {
-        push(out, b", ")?;
+        out.put(b", ");
     }
-    Ok(())
 }

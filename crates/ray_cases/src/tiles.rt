@@ -3,10 +3,10 @@
 ghost use Rattle.std.specs.Prelude.{IfOk};
 ghost use Rattle.lattice_core.specs.Views.{IsChecked};
 
-use crate::scenes::push_fault;
+use crate::scenes::put_fault;
 use crate::scripts::{commands_of, directory_by};
-use crate::texts::{number_in, number_of, push_number, three_fields, three_words};
-use case_text::CaseFault;
+use crate::texts::{number_in, number_of, put_number, three_fields, three_words};
+use case_text::{CaseFault, Shown};
 use command_set::{Command, Query, WorldRay};
 use directory::Directory;
 use lattice_core::View;
@@ -56,50 +56,50 @@ fn view_of(frame: Frame, ray: &WorldRay) -> Result<View, CaseFault>
 }
 
 /// Puts in bytes, each pixel as `RED GREEN BLUE`.
-fn push_pixels(alloc: Global, bytes: &[u8], out: &mut Vec<u8>) -> Result<(), CaseFault> {
+fn put_pixels(bytes: &[u8], out: &mut Shown) {
     for (i, byte) in bytes.iter().enumerate() {
         let before: &[u8] = match i % 3 {
             0 if i > 0 => b", ",
             0 => b"",
             _ => b" ",
         };
-        push_number(alloc, out, before, u64::from(*byte))?;
+        put_number(out, before, u64::from(*byte));
     }
-    Ok(())
 }
 
 /// Puts in the pixels of a tile of the scene of names.
-fn push_tile(
+fn put_tile(
     alloc: Global,
     frame: Frame,
     directory: &Directory,
     ray: &WorldRay,
     names: &[Name],
-    out: &mut Vec<u8>,
+    out: &mut Shown,
 ) -> Result<(), CaseFault> {
     let scene = match prepare(alloc, directory, names) {
         Ok(scene) => scene,
-        Err(fault) => return push_fault(alloc, &fault, out),
+        Err(fault) => return put_fault(&fault, out),
     };
     let view = view_of(frame, ray)?;
     if frame.tile >= view.tiles() {
         return Err(CaseFault::Number);
     }
     let tile = shoot_tile(alloc, &scene, &view, frame.tile)?;
-    push_pixels(alloc, tile.bytes(), out)
+    put_pixels(tile.bytes(), out);
+    Ok(())
 }
 
 /// Puts in a tile of the view that a command's ray begins.
-fn push_view(
+fn put_view(
     alloc: Global,
     frame: Frame,
     directory: &Directory,
     command: &Command,
-    out: &mut Vec<u8>,
+    out: &mut Shown,
 ) -> Result<(), CaseFault> {
     match command {
         Command::Query(Query::Shot { ray, names }) => {
-            push_tile(alloc, frame, directory, ray, names.items(), out)
+            put_tile(alloc, frame, directory, ray, names.items(), out)
         }
         _ => Err(CaseFault::Line),
     }
@@ -107,7 +107,7 @@ fn push_view(
 
 /// `tile W H CELL | TILE | SCRIPT => RED GREEN BLUE, ..`: the pixels of a tile of a view of so many columns and rows, whose
 /// first ray is that of the last command.
-pub fn answer_tile(alloc: Global, given: &[u8], out: &mut Vec<u8>) -> Result<(), CaseFault> {
+pub fn answer_tile(alloc: Global, given: &[u8], out: &mut Shown) -> Result<(), CaseFault> {
     let (size, tile, script) = three_fields(given)?;
     let frame = frame_of(alloc, size, tile)?;
     let commands = commands_of(alloc, script)?;
@@ -115,5 +115,5 @@ pub fn answer_tile(alloc: Global, given: &[u8], out: &mut Vec<u8>) -> Result<(),
         return Err(CaseFault::Line);
     };
     let directory = directory_by(alloc, edits)?;
-    push_view(alloc, frame, &directory, &last.command, out)
+    put_view(alloc, frame, &directory, &last.command, out)
 }

@@ -4,9 +4,9 @@
 ghost use Rattle.std.specs.Prelude.{◌≡◌};
 ghost use Rattle.bool_weave.specs.Masks.{leaf, apply};
 
-use crate::texts::{number_in, push, push_number};
+use crate::texts::{number_in, put_number};
 use bool_weave::{MaskNode, MaskTree};
-use case_text::{CaseFault, words_of};
+use case_text::{CaseFault, Shown, words_of};
 use std::alloc::Global;
 use tree_forms::Op;
 
@@ -88,21 +88,21 @@ pub fn tree_in(alloc: Global, text: &[u8]) -> Result<MaskTree, CaseFault> {
     tree_of(alloc, &words_of(alloc, text)?)
 }
 
-fn push_node(alloc: Global, node: &MaskNode, out: &mut Vec<u8>) -> Result<(), CaseFault> {
+fn put_node(node: &MaskNode, out: &mut Shown) {
     match node {
-        MaskNode::Leaf(leaf) => push_number(alloc, out, b" ", u64::from(*leaf)),
-        MaskNode::Never => push(out, b" ?"),
-        MaskNode::U => push(out, b" u"),
-        MaskNode::N => push(out, b" +"),
-        MaskNode::Minus => push(out, b" -"),
+        MaskNode::Leaf(leaf) => put_number(out, b" ", u64::from(*leaf)),
+        MaskNode::Never => out.put(b" ?"),
+        MaskNode::U => out.put(b" u"),
+        MaskNode::N => out.put(b" +"),
+        MaskNode::Minus => out.put(b" -"),
     }
 }
 
 /// Puts in the word `tree` and the nodes.
-pub fn push_tree(alloc: Global, tree: &MaskTree, out: &mut Vec<u8>) -> Result<(), CaseFault> {
-    push(out, b"tree")?;
+pub fn push_tree(_alloc: Global, tree: &MaskTree, out: &mut Shown) -> Result<(), CaseFault> {
+    out.put(b"tree");
     for node in tree.nodes() {
-        push_node(alloc, node, out)?;
+        put_node(node, out);
     }
     Ok(())
 }

@@ -6,10 +6,10 @@ ghost use Rattle.surd_order.specs.Range.{IsInRange};
 ghost use Rattle.surd_order.specs.Spelling.{IsSpelled};
 ghost use Rattle.bool_weave.specs.Cuts.{IsSegment};
 
-use crate::positions::{push_position, read_position};
-use crate::texts::{items_of, number_in, push_comma, push_number, three_words};
+use crate::positions::{put_position, read_position};
+use crate::texts::{items_of, number_in, put_comma, put_number, three_words};
 use bool_weave::{Weave, Woven};
-use case_text::CaseFault;
+use case_text::{CaseFault, Shown};
 use lattice_core::FAR;
 use std::alloc::Global;
 use surd_order::{Pos, Seg};
@@ -92,20 +92,19 @@ pub fn weave_of(alloc: Global, list: &[u8]) -> Result<Weave, CaseFault> {
     Ok(weave)
 }
 
-fn push_one(alloc: Global, one: &Woven, out: &mut Vec<u8>) -> Result<(), CaseFault> {
+fn put_one(one: &Woven, out: &mut Shown) {
     let Woven { instance, seg } = one;
-    push_number(alloc, out, b"i", u64::from(*instance))?;
-    push_position(out, b" ", &seg.start)?;
-    push_number(alloc, out, b" f", u64::from(seg.start_face))?;
-    push_position(out, b" ", &seg.end)?;
-    push_number(alloc, out, b" f", u64::from(seg.end_face))
+    put_number(out, b"i", u64::from(*instance));
+    put_position(out, b" ", &seg.start);
+    put_number(out, b" f", u64::from(seg.start_face));
+    put_position(out, b" ", &seg.end);
+    put_number(out, b" f", u64::from(seg.end_face));
 }
 
 /// Puts in what is woven, each as `iINSTANCE START fFACE END fFACE`.
-pub fn push_woven(alloc: Global, woven: &[Woven], out: &mut Vec<u8>) -> Result<(), CaseFault> {
+pub fn put_woven(woven: &[Woven], out: &mut Shown) {
     for (i, one) in woven.iter().enumerate() {
-        push_comma(out, i)?;
-        push_one(alloc, one, out)?;
+        put_comma(out, i);
+        put_one(one, out);
     }
-    Ok(())
 }

@@ -1,85 +1,42 @@
 //! What a call left, beside what it was to leave.
 
 use crate::case::{Case, CaseFile, WantedText};
-use case_text::{CaseFault, push_shown};
+use case_text::Shown;
 use outside_core::File;
-use std::alloc::Global;
 
-/// Puts in a line of what differs.
-fn push_difference(
-    alloc: Global,
-    report: &mut Vec<u8>,
-    what: &str,
-    wanted: &[u8],
-    came: &[u8],
-) -> Result<(), CaseFault> {
-    let head = format!(in alloc; "  {what}\n    wanted: ")?;
-    report.extend_from_slice(head.as_bytes())?;
-    push_shown(alloc, report, wanted)?;
-    report.extend_from_slice(b"\n    came:   ")?;
-    push_shown(alloc, report, came)?;
-    report.push(b'\n')?;
-    Ok(())
+/// Puts in what was wanted and what came.
+fn put_sides(wanted: &[u8], came: &[u8], report: &mut Shown) {
+    report.put(b"\n    wanted: ");
+    report.put_printed(wanted);
+    report.put(b"\n    came:   ");
+    report.put_printed(came);
+    report.put_byte(b'\n');
 }
 
 /// Puts in what differs of two numbers.
-pub(crate) fn compare_numbers(
-    alloc: Global,
-    report: &mut Vec<u8>,
-    what: &str,
-    wanted: usize,
-    came: usize,
-) -> Result<(), CaseFault> {
+pub(crate) fn compare_numbers(what: &[u8], wanted: usize, came: usize, report: &mut Shown) {
     if wanted == came {
-        return Ok(());
+        return;
     }
-    let wanted = format!(in alloc; "{wanted}")?;
-    let came = format!(in alloc; "{came}")?;
-    push_difference(alloc, report, what, wanted.as_bytes(), came.as_bytes())
+    report.put(b"  ");
+    report.put(what);
+    report.put(b"\n    wanted: ");
+    report.put_number(wanted);
+    report.put(b"\n    came:   ");
+    report.put_number(came);
+    report.put_byte(b'\n');
 }
 
 /// The place of the first byte in which two texts differ.
 fn first_difference(one: &[u8], two: &[u8]) -> usize {
-    one.iter()
-        .zip(two.iter())
-        .position(|(byte, other)| byte != other)
-        .unwrap_or(one.len().min(two.len()))
-}
-
-/// The rest of the line in which a place stands, from the line's beginning.
-fn line_at(text: &[u8], place: usize) -> &[u8] {
-    let front = &text[..place.min(text.len())];
-    let begin = match front.iter().rposition(|byte| *byte == b'\n') {
-        Some(end) => end + 1,
-        None => 0,
-    };
-    let rest = &text[begin.min(text.len())..];
-    match rest.iter().position(|byte| *byte == b'\n') {
-        Some(end) => &rest[..end],
-        None => rest,
+    let mut place = 0usize;
+    for (byte, other) in one.iter().zip(two.iter()) {
+        if byte != other {
+            return place;
+        }
+        place = place.saturating_add(1);
     }
-}
-
-/// Puts in the first line in which two texts differ.
-pub(crate) fn compare_texts(
-    alloc: Global,
-    report: &mut Vec<u8>,
-    what: &str,
-    wanted: &[u8],
-    came: &[u8],
-) -> Result<(), CaseFault> {
-    if wanted == came {
-        return Ok(());
-    }
-    let place = first_difference(wanted, came);
-    let what = format!(in alloc; "{what}, from byte {place}")?;
-    push_difference(
-        alloc,
-        report,
-        what.as_str(),
-        line_at(wanted, place),
-        line_at(came, place),
-    )
+    place
 }
 
 /// The first bytes of a text, so many or all.
@@ -92,65 +49,81 @@ fn end_of(text: &[u8], count: usize) -> &[u8] {
     &text[text.len() - count.min(text.len())..]
 }
 
+/// Where the line begins in which a place stands.
+fn begin_of_line(text: &[u8], place: usize) -> usize {
+    let mut begin = 0usize;
+    let mut next = 0usize;
+    for byte in front_of(text, place) {
+        next = next.saturating_add(1);
+        if *byte == b'\n' {
+            begin = next;
+        }
+    }
+    begin
+}
+
+/// The line of a text that begins there.
+fn line_from(text: &[u8], begin: usize) -> &[u8] {
+    let rest = &text[begin.min(text.len())..];
+    let mut length = 0usize;
+    for byte in rest {
+        if *byte == b'\n' {
+            break;
+        }
+        length = length.saturating_add(1);
+    }
+    front_of(rest, length)
+}
+
+/// Puts in the first line in which two texts differ.
+pub(crate) fn compare_texts(what: &[u8], wanted: &[u8], came: &[u8], report: &mut Shown) {
+    if wanted == came {
+        return;
+    }
+    let place = first_difference(wanted, came);
+    report.put(b"  ");
+    report.put(what);
+    report.put(b", from byte ");
+    report.put_number(place);
+    let begin = begin_of_line(wanted, place);
+    put_sides(line_from(wanted, begin), line_from(came, begin), report);
+}
+
 /// Puts in what differs of the bytes that were written.
-pub(crate) fn compare_transcript(
-    alloc: Global,
-    report: &mut Vec<u8>,
-    wanted: &WantedText,
-    came: &[u8],
-) -> Result<(), CaseFault> {
+pub(crate) fn compare_transcript(wanted: &WantedText, came: &[u8], report: &mut Shown) {
     let is_part = !wanted.front.is_empty() || !wanted.end.is_empty() || wanted.size.is_some();
     if wanted.is_whole || !is_part {
         let held = wanted.held.unwrap_or(wanted.whole.len());
-        let whole = front_of(&wanted.whole, held);
-        compare_texts(alloc, report, "transcript", whole, came)?;
+        compare_texts(b"transcript", front_of(&wanted.whole, held), came, report);
     }
     let front = front_of(came, wanted.front.len());
-    compare_texts(alloc, report, "beginning", &wanted.front, front)?;
+    compare_texts(b"beginning", &wanted.front, front, report);
     let end = end_of(came, wanted.end.len());
-    compare_texts(alloc, report, "end", &wanted.end, end)?;
-    match wanted.size {
-        Some(size) => compare_numbers(alloc, report, "bytes", size, came.len()),
-        None => Ok(()),
+    compare_texts(b"end", &wanted.end, end, report);
+    if let Some(size) = wanted.size {
+        compare_numbers(b"bytes", size, came.len(), report);
     }
 }
 
 /// Puts in what differs of one file that was put.
-fn compare_put(
-    alloc: Global,
-    report: &mut Vec<u8>,
-    wanted: &CaseFile,
-    came: &File,
-) -> Result<(), CaseFault> {
+fn compare_put(wanted: &CaseFile, came: &File, report: &mut Shown) {
     compare_texts(
-        alloc,
-        report,
-        "name of a file",
+        b"name of a file",
         wanted.name.bytes(),
         came.name.bytes(),
-    )?;
+        report,
+    );
+    let bytes = came.bytes.items();
     match wanted.size {
-        Some(size) => compare_numbers(
-            alloc,
-            report,
-            "size of a file",
-            size,
-            came.bytes.items().len(),
-        ),
-        None => compare_texts(alloc, report, "file", &wanted.bytes, came.bytes.items()),
+        Some(size) => compare_numbers(b"size of a file", size, bytes.len(), report),
+        None => compare_texts(b"file", &wanted.bytes, bytes, report),
     }
 }
 
 /// Puts in what differs of the files that were put.
-pub(crate) fn compare_puts(
-    alloc: Global,
-    report: &mut Vec<u8>,
-    case: &Case,
-    came: &[File],
-) -> Result<(), CaseFault> {
-    compare_numbers(alloc, report, "files", case.puts.len(), came.len())?;
+pub(crate) fn compare_puts(case: &Case, came: &[File], report: &mut Shown) {
+    compare_numbers(b"files", case.puts.len(), came.len(), report);
     for (wanted, file) in case.puts.iter().zip(came.iter()) {
-        compare_put(alloc, report, wanted, file)?;
+        compare_put(wanted, file, report);
     }
-    Ok(())
 }

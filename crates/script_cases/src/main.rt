@@ -7,22 +7,15 @@ mod compare;
 mod reader;
 mod running;
 
+use case_text::{Shown, finish};
 use running::run_files;
-use std::io::Write;
 use std::process::ExitCode;
 
 /// Runs the files of cases that the words of the program name, and prints each case that differs and how many there
 /// were. What stands behind the word `--wrong` are files of cases of which each is to differ. The status is 0 where
 /// all is so, 1 where it isn't, and 2 where a file can't be read.
 fn main(rt: HostRuntime) -> ExitCode {
-    let mut report = Vec::new(rt.alloc());
+    let mut report = Shown::new(rt.alloc());
     let outcome = run_files(&rt, &mut report);
-    let is_told = rt.stdout().write_all(&report).is_ok();
-    match outcome {
-        Ok(is_well) => ExitCode::from(u8::from(!(is_well && is_told))),
-        Err(fault) => {
-            let _ = eprintln!(rt; "{fault}");
-            ExitCode::from(2)
-        }
-    }
+    finish(&rt, outcome, &report)
 }

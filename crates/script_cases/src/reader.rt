@@ -1,9 +1,9 @@
 //! Reads a case line by line.
 
 use crate::case::{Case, CaseFile};
-use case_text::{CaseFault, expand, expanded, first_word, number_of, words_of};
+use case_text::{CaseFault, Shown, expand, expanded, first_word, number_of, words_of};
 use name_core::Name;
-use std::alloc::{AllocError, Global};
+use std::alloc::Global;
 
 /// Where lines that begin with `|` and `+` go.
 #[derive(Clone, Copy, PartialEq, Eq)]
@@ -24,23 +24,38 @@ pub(crate) struct Reader {
     alloc: Global,
     case: Case,
     block: Block,
-    answers: Vec<u8>,
+    answers: Shown,
     count: usize,
     is_talk: bool,
     head: Vec<u8>,
     body: Vec<u8>,
 }
 
-/// Puts in a decimal number.
-fn push_number(out: &mut Vec<u8>, number: usize) -> Result<(), CaseFault> {
-    let mut buffer = itoa::Buffer::new();
-    out.extend_from_slice(buffer.format(number).as_bytes())?;
-    Ok(())
-}
-
 /// The name that a word is.
 fn name_of(word: &[u8]) -> Result<Name, CaseFault> {
-    Name::read(word).map_err(|_fault| CaseFault::Line)
+    match Name::read(word) {
+        Ok(name) => Ok(name),
+        Err(_) => Err(CaseFault::Line),
+    }
+}
+
+/// How many line feeds a text has.
+fn feeds_in(text: &[u8]) -> usize {
+    let mut count = 0usize;
+    for byte in text {
+        if *byte == b'\n' {
+            count = count.saturating_add(1);
+        }
+    }
+    count
+}
+
+/// The text of a word.
+fn string_of(alloc: Global, word: &[u8]) -> Result<String, CaseFault> {
+    match String::from_utf8(expanded(alloc, word)?) {
+        Ok(text) => Ok(text),
+        Err(_) => Err(CaseFault::Line),
+    }
 }
 
 /// The numbers of a line.
@@ -59,7 +74,7 @@ impl Reader {
             alloc,
             case: Case::new(alloc, Vec::from_slice(alloc, name)?),
             block: Block::Nowhere,
-            answers: Vec::new(alloc),
+            answers: Shown::new(alloc),
             count: 0,
             is_talk: false,
             head: Vec::new(alloc),
@@ -97,7 +112,7 @@ impl Reader {
 
     /// Takes a line of the script, whose answer comes next.
     fn take_command(&mut self, text: &[u8]) -> Result<(), CaseFault> {
-        self.end_answer()?;
+        self.end_answer();
         self.is_talk = true;
         self.block = Block::Nowhere;
         expand(text, &mut self.case.script)?;
@@ -107,7 +122,7 @@ impl Reader {
 
     /// Takes the head of an answer, whose body comes next.
     fn take_answer(&mut self, line: &[u8], is_refused: bool) -> Result<(), CaseFault> {
-        self.end_answer()?;
+        self.end_answer();
         self.is_talk = true;
         self.case.some_refused = self.case.some_refused || is_refused;
         expand(line, &mut self.head)?;
@@ -116,59 +131,70 @@ impl Reader {
     }
 
     /// Puts the last answer to those before it.
-    fn end_answer(&mut self) -> Result<(), CaseFault> {
+    fn end_answer(&mut self) {
         if self.head.is_empty() {
-            return Ok(());
+            return;
         }
         self.count = self.count.saturating_add(1);
-        self.answers.extend_from_slice(b"1.")?;
-        push_number(&mut self.answers, self.count)?;
-        self.answers.push(b' ')?;
-        self.answers.extend_from_slice(&self.head)?;
+        self.answers.put(b"1.");
+        self.answers.put_number(self.count);
+        self.answers.put_byte(b' ');
+        self.answers.put(&self.head);
         if self.head[0] == b'o' {
-            let lines = self.body.iter().filter(|byte| **byte == b'\n').count();
-            self.answers.push(b' ')?;
-            push_number(&mut self.answers, lines)?;
+            self.answers.put_byte(b' ');
+            self.answers.put_number(feeds_in(&self.body));
         }
-        self.answers.push(b'\n')?;
-        self.answers.extend_from_slice(&self.body)?;
+        self.answers.put_byte(b'\n');
+        self.answers.put(&self.body);
         self.head.clear();
         self.body.clear();
-        Ok(())
     }
 
     /// Takes a line of words.
     fn take_words(&mut self, line: &[u8]) -> Result<(), CaseFault> {
         let (word, rest) = first_word(line);
-        match word {
-            b"ok" => self.take_answer(line, false),
-            b"refused" => {
-                let (version, why) = first_word(rest);
-                let mut head = Vec::from_slice(self.alloc, b"refused ")?;
-                head.extend_from_slice(version)?;
-                head.push(b' ')?;
-                head.extend_from_slice(why)?;
-                self.take_answer(&head, true)
-            }
-            b"script" => self.open(Block::Script),
-            b"transcript" => {
-                self.case.text.is_whole = true;
-                self.open(Block::Whole)
-            }
-            b"begins" => self.open(Block::Front),
-            b"ends" => self.open(Block::End),
-            b"file" => self.take_file(rest),
-            b"put" => self.take_put(rest),
-            b"words" => self.take_arguments(rest),
-            b"line" => expand(rest, &mut self.case.line),
-            _ => self.take_number(word, rest),
+        match str::from_utf8(word) {
+            Ok("ok") => self.take_answer(line, false),
+            Ok("refused") => self.take_refused(rest),
+            Ok(word) => self.take_named(word, rest),
+            Err(_) => Err(CaseFault::Line),
         }
     }
 
-    fn open(&mut self, block: Block) -> Result<(), CaseFault> {
-        self.end_answer()?;
-        self.block = block;
+    /// Takes the head of an answer that refuses, of which what follows the reason is a remark.
+    fn take_refused(&mut self, rest: &[u8]) -> Result<(), CaseFault> {
+        let (version, why) = first_word(rest);
+        let mut head = Shown::new(self.alloc);
+        head.put(b"refused ");
+        head.put(version);
+        head.put_byte(b' ');
+        head.put(why);
+        self.take_answer(head.bytes()?, true)
+    }
+
+    /// Takes a line that says where texts go, or what goes into the call.
+    fn take_named(&mut self, word: &str, rest: &[u8]) -> Result<(), CaseFault> {
+        match word {
+            "script" => self.open(Block::Script),
+            "transcript" => {
+                self.case.text.is_whole = true;
+                self.open(Block::Whole);
+            }
+            "begins" => self.open(Block::Front),
+            "ends" => self.open(Block::End),
+            "file" => return self.take_file(rest),
+            "put" => return self.take_put(rest),
+            "words" => return self.take_arguments(rest),
+            "line" => return expand(rest, &mut self.case.line),
+            _ => return self.take_numbers(word, rest),
+        }
         Ok(())
+    }
+
+    /// Lets the next texts go there.
+    fn open(&mut self, block: Block) {
+        self.end_answer();
+        self.block = block;
     }
 
     /// A file that stands on the shelf before the call.
@@ -178,7 +204,8 @@ impl Reader {
             bytes: Vec::new(self.alloc),
             size: None,
         })?;
-        self.open(Block::File)
+        self.open(Block::File);
+        Ok(())
     }
 
     /// The next file that the call is to put, by its bytes or by their number.
@@ -194,31 +221,38 @@ impl Reader {
             bytes: Vec::new(self.alloc),
             size,
         })?;
-        self.open(Block::Put)
+        self.open(Block::Put);
+        Ok(())
     }
 
     /// The words of the command line.
     fn take_arguments(&mut self, text: &[u8]) -> Result<(), CaseFault> {
         for word in words_of(self.alloc, text)? {
-            let bytes = expanded(self.alloc, word)?;
-            let argument = String::from_utf8(bytes).map_err(|_fault| CaseFault::Line)?;
-            self.case.words.push(argument)?;
+            self.case.words.push(string_of(self.alloc, word)?)?;
         }
         Ok(())
     }
 
-    /// A line of numbers.
-    fn take_number(&mut self, word: &[u8], rest: &[u8]) -> Result<(), CaseFault> {
+    /// A line of the numbers of calls that fail, or of one number.
+    fn take_numbers(&mut self, word: &str, rest: &[u8]) -> Result<(), CaseFault> {
         match word {
-            b"status" => self.case.status = Some(number_of(rest)?),
-            b"bytes" => self.case.text.size = Some(number_of(rest)?),
-            b"held" => self.case.text.held = Some(number_of(rest)?),
-            b"left" => self.case.left = Some(number_of(rest)?),
-            b"room" => self.case.room = number_of(rest)?,
-            b"step" => self.case.step = number_of(rest)?,
-            b"reads-fail" => self.case.failing_reads = numbers_in(self.alloc, rest)?,
-            b"writes-fail" => self.case.failing_writes = numbers_in(self.alloc, rest)?,
-            b"files-fail" => self.case.failing_files = numbers_in(self.alloc, rest)?,
+            "reads-fail" => self.case.failing_reads = numbers_in(self.alloc, rest)?,
+            "writes-fail" => self.case.failing_writes = numbers_in(self.alloc, rest)?,
+            "files-fail" => self.case.failing_files = numbers_in(self.alloc, rest)?,
+            _ => return self.take_number(word, number_of(rest)?),
+        }
+        Ok(())
+    }
+
+    /// A line of one number.
+    fn take_number(&mut self, word: &str, number: usize) -> Result<(), CaseFault> {
+        match word {
+            "status" => self.case.status = Some(number),
+            "bytes" => self.case.text.size = Some(number),
+            "held" => self.case.text.held = Some(number),
+            "left" => self.case.left = Some(number),
+            "room" => self.case.room = number,
+            "step" => self.case.step = number,
             _ => return Err(CaseFault::Line),
         }
         Ok(())
@@ -226,7 +260,7 @@ impl Reader {
 
     /// The case that was read.
     pub(crate) fn end(mut self) -> Result<Case, CaseFault> {
-        self.end_answer()?;
+        self.end_answer();
         if self.is_talk {
             self.push_talk()?;
         }
@@ -245,13 +279,14 @@ impl Reader {
 
     /// Makes the transcript of the answers.
     fn push_talk(&mut self) -> Result<(), CaseFault> {
-        let mut whole = Vec::from_slice(self.alloc, b"order")?;
+        let mut whole = Shown::new(self.alloc);
+        whole.put(b"order");
         for _i in 0..self.count {
-            whole.extend_from_slice(b" 1")?;
+            whole.put(b" 1");
         }
-        whole.push(b'\n')?;
-        whole.extend_from_slice(&self.answers)?;
-        self.case.text.whole = whole;
+        whole.put_byte(b'\n');
+        whole.put_all(&self.answers);
+        self.case.text.whole = Vec::from_slice(self.alloc, whole.bytes()?)?;
         self.case.text.is_whole = true;
         Ok(())
     }

@@ -3,7 +3,7 @@
 use crate::case::{Case, CaseFile};
 use crate::compare::{compare_numbers, compare_puts, compare_texts, compare_transcript};
 use crate::reader::Reader;
-use case_text::{CaseFault, Lines, Tally};
+use case_text::{CaseFault, Lines, Shown, Tallies};
 use item_list::Items;
 use mged_top::{Status, StatusText, mged_main};
 use outside_core::{File, OpenGate, VecShelf, VecSink, VecSource};
@@ -59,46 +59,46 @@ fn call(rt: &HostRuntime, words: &Vec<String>, outside: &mut Outside) -> Status 
 }
 
 /// Puts in what differs of a status.
-fn compare_status(
-    alloc: Global,
-    report: &mut Vec<u8>,
-    case: &Case,
-    status: &Status,
-) -> Result<(), CaseFault> {
+fn compare_status(case: &Case, status: &Status, report: &mut Shown) {
     let mut line = StatusText::new();
     status.write_line(&mut line);
     let number = usize::from(status.number());
-    compare_numbers(alloc, report, "status", case.wanted_status(), number)?;
-    compare_texts(alloc, report, "status line", &case.line, line.bytes())
+    compare_numbers(b"status", case.wanted_status(), number, report);
+    compare_texts(b"status line", &case.line, line.bytes(), report);
 }
 
-/// Runs a case, and puts in what differs.
-fn run_case(rt: &HostRuntime, case: &Case, report: &mut Vec<u8>) -> Result<(), CaseFault> {
-    let alloc = rt.alloc();
-    let mut outside = outside_of(alloc, case)?;
-    let status = call(rt, &case.words, &mut outside);
-    compare_status(alloc, report, case, &status)?;
-    compare_transcript(alloc, report, &case.text, outside.sink.bytes())?;
-    compare_puts(alloc, report, case, outside.shelf.puts())?;
+/// Puts in what differs of what a call left.
+fn compare_outside(case: &Case, outside: &Outside, report: &mut Shown) {
+    compare_transcript(&case.text, outside.sink.bytes(), report);
+    compare_puts(case, outside.shelf.puts(), report);
     let left = outside.source.left().len();
-    compare_numbers(alloc, report, "bytes left", case.left.unwrap_or(left), left)
+    compare_numbers(b"bytes left", case.left.unwrap_or(left), left, report);
+}
+
+/// Runs a case, and answers what differs.
+fn run_case(rt: &HostRuntime, case: &Case) -> Result<Shown, CaseFault> {
+    let mut outside = outside_of(rt.alloc(), case)?;
+    let status = call(rt, &case.words, &mut outside);
+    let mut differences = Shown::new(rt.alloc());
+    compare_status(case, &status, &mut differences);
+    compare_outside(case, &outside, &mut differences);
+    Ok(differences)
 }
 
 /// Runs a case, counts it, and puts in its name and what differs.
 fn try_case(
     rt: &HostRuntime,
     case: &Case,
-    tally: &mut Tally,
-    report: &mut Vec<u8>,
+    tallies: &mut Tallies,
+    report: &mut Shown,
 ) -> Result<(), CaseFault> {
-    let mut differences = Vec::new(rt.alloc());
-    run_case(rt, case, &mut differences)?;
-    tally.count(differences.is_empty());
+    let differences = run_case(rt, case)?;
+    tallies.count(differences.is_empty());
     if !differences.is_empty() {
-        report.extend_from_slice(b"case ")?;
-        report.extend_from_slice(&case.name)?;
-        report.push(b'\n')?;
-        report.extend_from_slice(&differences)?;
+        report.put(b"case ");
+        report.put(&case.name);
+        report.put_byte(b'\n');
+        report.put_all(&differences);
     }
     Ok(())
 }
@@ -115,13 +115,13 @@ fn case_name(line: &[u8]) -> Option<&[u8]> {
 fn end_case(
     rt: &HostRuntime,
     open: Option<Reader>,
-    tally: &mut Tally,
-    report: &mut Vec<u8>,
+    tallies: &mut Tallies,
+    report: &mut Shown,
 ) -> Result<(), CaseFault> {
     match open {
         Some(reader) => {
             let case = reader.end()?;
-            try_case(rt, &case, tally, report)
+            try_case(rt, &case, tallies, report)
         }
         None => Ok(()),
     }
@@ -136,46 +136,79 @@ fn begin_case(alloc: Global, name: &[u8], setup: &[&[u8]]) -> Result<Reader, Cas
     Ok(reader)
 }
 
-/// Runs the cases of a file. A line `setup` has behind it what each case begins with, up to the next such line.
-fn run_text(rt: &HostRuntime, text: &[u8], report: &mut Vec<u8>) -> Result<Tally, CaseFault> {
-    let mut tally = Tally::none();
-    let mut open: Option<Reader> = None;
-    let mut setup = Vec::new(rt.alloc());
-    for line in Lines::of(text) {
-        if let Some(name) = case_name(line) {
-            let next = begin_case(rt.alloc(), name, &setup)?;
-            let last = open.replace(next);
-            end_case(rt, last, &mut tally, report)?;
-        } else if line == b"setup".as_slice() {
-            let last = open.take();
-            end_case(rt, last, &mut tally, report)?;
-            setup.clear();
-        } else if let Some(reader) = &mut open {
-            reader.take(line)?;
-        } else {
-            setup.push(line)?;
-        }
-    }
-    end_case(rt, open, &mut tally, report)?;
-    Ok(tally)
+/// What stands at the beginning of each case, and the case that is being read.
+#[derive(Drop)]
+struct Place<'a> {
+    setup: Vec<&'a [u8]>,
+    open: Option<Reader>,
 }
 
-/// Runs the files that the words name, and says whether all is as it is to be: no case differs, and behind the word
-/// `--wrong` each case does.
-pub(crate) fn run_files(rt: &HostRuntime, report: &mut Vec<u8>) -> Result<bool, CaseFault> {
-    let (mut right, mut wrong, mut is_wrong) = (Tally::none(), Tally::none(), false);
-    for word in env::args(rt)?.skip(1) {
-        if word.as_str() == "--wrong" {
-            is_wrong = true;
-            continue;
-        }
-        let text = fs::read(rt, word.as_str())?;
-        let tally = run_text(rt, &text, report)?;
-        if is_wrong {
-            wrong.add(tally);
-        } else {
-            right.add(tally);
+/// Takes a line of a file of cases. A line `setup` has behind it what each case begins with, up to the next such line.
+fn take_line<'a>(
+    rt: &HostRuntime,
+    place: &mut Place<'a>,
+    line: &'a [u8],
+    tallies: &mut Tallies,
+    report: &mut Shown,
+) -> Result<(), CaseFault> {
+    if let Some(name) = case_name(line) {
+        let next = begin_case(rt.alloc(), name, &place.setup)?;
+        let last = place.open.replace(next);
+        return end_case(rt, last, tallies, report);
+    }
+    if line == b"setup".as_slice() {
+        place.setup.clear();
+        let last = place.open.take();
+        return end_case(rt, last, tallies, report);
+    }
+    match &mut place.open {
+        Some(reader) => reader.take(line),
+        None => {
+            place.setup.push(line)?;
+            Ok(())
         }
     }
-    right.tell(rt.alloc(), "cases", wrong, report)
+}
+
+/// Runs the cases of a file.
+fn run_text(
+    rt: &HostRuntime,
+    text: &[u8],
+    tallies: &mut Tallies,
+    report: &mut Shown,
+) -> Result<(), CaseFault> {
+    let mut place = Place {
+        setup: Vec::new(rt.alloc()),
+        open: None,
+    };
+    for line in Lines::of(text) {
+        take_line(rt, &mut place, line, tallies, report)?;
+    }
+    let last = place.open.take();
+    end_case(rt, last, tallies, report)
+}
+
+/// Runs the file that a word names, or notes that what follows is to differ.
+fn run_word(
+    rt: &HostRuntime,
+    word: &str,
+    tallies: &mut Tallies,
+    report: &mut Shown,
+) -> Result<(), CaseFault> {
+    if word == "--wrong" {
+        tallies.turn_wrong();
+        return Ok(());
+    }
+    let text = fs::read(rt, word)?;
+    run_text(rt, &text, tallies, report)
+}
+
+/// Runs the files that the words name.
+pub(crate) fn run_files(rt: &HostRuntime, report: &mut Shown) -> Result<Tallies, CaseFault> {
+    let mut tallies = Tallies::none();
+    for word in env::args(rt)?.skip(1) {
+        run_word(rt, word.as_str(), &mut tallies, report)?;
+    }
+    tallies.tell(b"cases", report);
+    Ok(tallies)
 }

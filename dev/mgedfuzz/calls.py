@@ -25,6 +25,8 @@ BAD_WORDS = (
     ["--load", "NAME\n"], ["--load==NAME"], ["--load=NAME="], ["--load", "=NAME"], ["--load NAME"], ["--load", "caf\u00e9"], ["--load", "NAME\udcff"], ["\udcff"],
     ["--load", "NAME", "--"], ["--", "--load", "NAME"], ["--"], ["-"], [""], ["--load", "NAME", ""], ["NAME"], ["NAME", "--load"], ["load", "NAME"], ["-load", "NAME"],
     ["--loa", "NAME"], ["--l=NAME"], ["--loads", "NAME"], ["-l", "NAME"], ["-lNAME"], ["--LOAD", "NAME"], ["--no-load"], ["--file", "NAME"], ["--help"], ["-h"], ["--version"], ["-V"], ["help"],
+    ["--demo"], ["--demo="], ["--demo", ""], ["--demo", "-1"], ["--demo=-1"], ["--demo=+1"], ["--demo=1.0"], ["--demo", "NAME"], ["--demo=0000000007"], ["--demo=1000000000"], ["--demo", "7", "--demo", "7"],
+    ["--demo=7", "--load=NAME"], ["--load", "NAME", "--demo", "7"], ["--demo", "--load=NAME"], ["--load", "--demo=7"], ["--demo", "7", "NAME"], ["--demo7"], ["--dem=7"], ["--demo=7 "], ["--demo=\u0667"],
 )  # fmt: skip
 MOST_USED = 2**26  # bytes of the bodies and files of one session
 

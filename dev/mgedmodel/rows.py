@@ -1,10 +1,10 @@
 """Rows of models, as `load TEXT => saved WRITTEN` and `load TEXT => line L KIND`, and of words, as `options WORD .. => load
-NAME`, with texts as docs/CASES.md escapes them."""
+NAME` and `.. => demo N`, with texts as docs/CASES.md escapes them."""
 
 import os
 import re
 
-from .calls import file_of
+from .calls import asked_by
 from .models import read_model
 from .refused import Refused
 from .written import text_of
@@ -28,9 +28,11 @@ def answer_of(text):
 def asked_of(words):
     """What the words of the command line ask for."""
     try:
-        file = file_of([os.fsdecode(word) for word in words])
+        file, number = asked_by([os.fsdecode(word) for word in words])
     except Refused:
         return b"usage"
+    if number is not None:
+        return f"demo {number}".encode()
     return f"load {file}".encode() if file else b"nothing"
 
 

@@ -13,21 +13,24 @@ use Rattle.object_set.specs.Keeping.{with_kept, kept_after}
 use Rattle.object_set.specs.Objects.{Parts, member_names}
 use Rattle.object_set.specs.TextValues.{IsTextValue}
 use Rattle.object_set.specs.declared.kept.KeptAttr.{KeptAttr}
+use Rattle.object_set.specs.declared.object.Body.{Body}
+use Rattle.object_set.specs.declared.object.Body.TheVariants.{Solid, Comb}
 use Rattle.directory.specs.declared.fault.DirFault.{DirFault}
 use Rattle.directory.specs.declared.fault.DirFault.TheVariants.{Exists, Missing, Full, Cycle, Deep, Memory}
-use Rattle.directory.specs.Alone.{KeepsNames}
 use Rattle.directory.specs.Drafts.{gather_fault}
 use Rattle.directory.specs.Edits.{first_of, when, appended, put_fault, replaced, replace_fault, judged, judged_by, IsCause, Follows}
 use Rattle.directory.specs.Listing.{Listing}
-use Rattle.directory.specs.Walks.{Entries, IsSound, object_of, body_weight, depth_over, depth_within, greatest_of, deepest, unbounded, most_objects}
+use Rattle.directory.specs.Walks.{Entries, IsSound, object_of, body_weight, body_depth, depth_over, depth_within, greatest_of, deepest, unbounded, most_objects}
 use Rattle.directory.proofs.DraftLemmas.{gather_put}
-use Rattle.directory.proofs.EditLemmas.{replace_other}
+use Rattle.object_pages.proofs.EntryLemmas.{replace_other}
 use Rattle.directory.proofs.FindLemmas.{none_or}
-use Rattle.directory.proofs.PlaceLemmas.{map_same, over_same, past_head}
-use Rattle.directory.proofs.ReplaceLemmas.{names_deep, same_judged}
+use Rattle.directory.proofs.PlaceLemmas.{map_same, over_same}
+use Rattle.object_pages.proofs.EntryLemmas.{past_head}
+use Rattle.directory.proofs.RelaxLemmas.{same_judged}
 use Rattle.directory.proofs.TellLemmas.{first_holds, put_exists, replace_rest}
-use Rattle.directory.proofs.WalkLemmas.{name_tells, same_or_apart}
-use Rattle.asc_form.specs.Gathering.{Gathered, pairs_in, gathered_of, keeping, settled_by, settled, AreTexts, IsGathered, Puts, Gathers, Settles}
+use Rattle.shared_pages.proofs.NameLemmas.{name_tells}
+use Rattle.object_pages.proofs.EntryLemmas.{same_or_apart}
+use Rattle.asc_form.specs.Gathering.{Gathered, pairs_in, gathered_of, keeping, settled_by, settled, AreTexts, IsGathered, KeepsNames, Puts, Gathers, Settles}
 use Rattle.asc_form.specs.Progress.{IsReader, Progress, PutsObject}
 use Rattle.asc_form.specs.Reading.{kept_by}
 
@@ -299,8 +302,18 @@ put_in es a pairs p rest distinct there none =
 pub keeps_names : (es : Entries) (a : Name) (o p : Parts) (pairs : Pairs) → object_of es a ≡ Some p → o ≡ keeping p pairs → KeepsNames es a o
 keeps_names es a o p pairs there is = (p, there, (ap (λ (q : Parts). member_names q.body) is, ap (λ (q : Parts). body_weight q.body) is))
 
+over_names : (o p : Body) → member_names o ≡ member_names p → body_weight o ≡ body_weight p → (f : Name → ℕ) → body_depth o f ≡ body_depth p f
+over_names (Solid s) (Solid t) names weight f = refl
+over_names (Solid s) (Comb attr tree) names weight f = absurd (omega (arith, weight))
+over_names (Comb attr tree) (Solid t) names weight f = absurd (omega (arith, weight))
+over_names (Comb attr tree) (Comb attr2 tree2) names weight f = ap (λ (l : List Name). greatest_of (map f l) + 1) names
+
+-- where the names stay, so does the depth, and the list may stand
+names_judged : (es : Entries) (a : Name) (o : Parts) → IsSound es → KeepsNames es a o → judged (replaced es a o) a ≡ None
+names_judged es a o sound keeps = same_judged es a o keeps.0 sound keeps.1 (over_names o.body keeps.0.body keeps.2.0 keeps.2.1 (depth_within unbounded es))
+
 no_fault : (es : Entries) (a : Name) (o : Parts) → IsSound es → KeepsNames es a o → replace_fault es a o ≡ None
-no_fault es a o sound keeps = sym (replace_rest es a o (ap is_some keeps.1)) ∙ same_judged es a o sound (names_deep es a o sound keeps)
+no_fault es a o sound keeps = sym (replace_rest es a o (ap is_some keeps.1)) ∙ names_judged es a o sound keeps
 
 no_cause : (fault : DirFault) → IsCause None fault → fault ≡ Memory
 no_cause Exists h = cc

@@ -4,11 +4,11 @@ use Rattle.std.specs.Map.{lookup}
 use Rattle.name_core.specs.Same.{same_name}
 use Rattle.name_core.specs.declared.name.Name.{Name}
 use Rattle.object_set.specs.Keeping.{kept_after}
-use Rattle.object_set.specs.Objects.{Parts}
+use Rattle.object_set.specs.Objects.{Parts, member_names}
 use Rattle.object_set.specs.TextValues.{IsTextValue}
 use Rattle.object_set.specs.declared.kept.KeptAttr.{KeptAttr}
 use Rattle.directory.specs.Listing.{Listing}
-use Rattle.directory.specs.Walks.{Entries, object_of}
+use Rattle.directory.specs.Walks.{Entries, object_of, body_weight}
 
 -- names, and the attributes that each is to keep, in the order in which they were read
 abbrev pub Gathered : Type 0
@@ -53,3 +53,11 @@ pub record Settles (name : Name) (pairs : List KeptAttr) (old new : Listing) : T
   pub title : new.title ≡ old.title
   pub objects : (rest : Gathered) → lookup (same_name name) rest ≡ None → settled new.objects rest ≡ settled old.objects ((name, pairs) ∷ rest)
   pub there : (rest : Gathered) → IsGathered old.objects ((name, pairs) ∷ rest) → lookup (same_name name) rest ≡ None → IsGathered new.objects rest
+
+-- two objects are of one kind and name the same names
+abbrev pub HaveSameMembers : Parts → Parts → Type 0
+HaveSameMembers o p = (member_names o.body ≡ member_names p.body) × (body_weight o.body ≡ body_weight p.body)
+
+-- a is there, and the object is of its kind and names the same names
+abbrev pub KeepsNames : Entries → Name → Parts → Type 0
+KeepsNames dir a o = (p : Parts) × (object_of dir a ≡ Some p) × HaveSameMembers o p

@@ -1,11 +1,10 @@
 //! Puts into objects what was gathered for their names.
 ghost use Rattle.std.specs.Prelude.{◌≡◌, IfOk, IsSome, OnOk, Some};
 ghost use Rattle.object_set.specs.Objects.{Parts};
-ghost use Rattle.directory.specs.Alone.{KeepsNames};
 ghost use Rattle.directory.specs.Edits.{replaced};
 ghost use Rattle.directory.specs.declared.fault.DirFault.TheVariants as dir;
 ghost use Rattle.directory.specs.Walks.{object_of};
-ghost use Rattle.asc_form.specs.Gathering.{keeping, settled, AreTexts, IsGathered, Settles};
+ghost use Rattle.asc_form.specs.Gathering.{keeping, settled, AreTexts, IsGathered, KeepsNames, Settles};
 
 use directory::{DirFault, Directory};
 use indexmap::IndexMap;

@@ -34,6 +34,7 @@ on_leaf f node.Minus = node.Minus
 abbrev pub names_of : List ListEntry → List Name
 names_of l = map (λ e. e.name) l
 
+-- whether a name is one of the names
 abbrev pub is_among : List Name → Name → Bool
 is_among names n = list_any (same_name n) names
 

@@ -1,9 +1,8 @@
--- A list that is gathered, and its first pair that may not be put behind those before it.
-use Rattle.std.proofs.Common.{◌≡◌, ◌<◌, ◌≤◌, ◌+◌, ◌∙◌, ℕ, List, [], ◌∷◌, ◌++◌, take, length, length-append, refl, ap, sym, subst, arith, add-one, Option, Some, None}
+use Rattle.std.proofs.Common.{◌≡◌, ◌<◌, ◌≤◌, ◌+◌, ◌∙◌, ℕ, List, [], ◌∷◌, ◌++◌, take, length, length-append, refl, ap, sym, subst, arith, add-one, Option, Some, None, false}
 use Rattle.std.specs.Prelude.{slice_get, is_some, nat_le}
 use Rattle.std.specs.List.{IsDistinct}
 use Rattle.std.specs.Map.{keys_of}
-use Rattle.std.proofs.lemmas.Bool.{le-leb}
+use Rattle.std.proofs.lemmas.Bool.{lt-leb}
 use Rattle.std.proofs.lemmas.List.{length-take-le}
 use Rattle.std.proofs.Math.Seq.{take-length}
 use Rattle.name_core.specs.declared.name.Name.{Name}
@@ -11,15 +10,17 @@ use Rattle.name_core.specs.Same.{same_name}
 use Rattle.object_set.specs.Objects.{Parts}
 use Rattle.directory.specs.Drafts.{gather_fault, IsFirstRefused}
 use Rattle.directory.specs.Edits.{appended, judged, put_fault, first_of, when}
-use Rattle.directory.specs.Walks.{Entries, IsSound, object_of, deepest, most_depth, most_objects, unbounded}
+use Rattle.directory.specs.Walks.{Entries, IsSound, object_of, deepest, most_depth, most_objects}
 use Rattle.directory.specs.declared.fault.DirFault.{DirFault}
-use Rattle.directory.specs.declared.fault.DirFault.TheVariants.{Exists, Full, Cycle, Deep}
-use Rattle.directory.proofs.AloneLemmas.{greatest_sound, judged_deep_by, judged_none_by}
+use Rattle.directory.specs.declared.fault.DirFault.TheVariants.{Exists, Full}
+use Rattle.directory.proofs.AloneLemmas.{greatest_sound, judged_none_by}
 use Rattle.directory.proofs.FindLemmas.{at_within}
-use Rattle.directory.proofs.EditLemmas.{take_one_more}
+use Rattle.object_pages.proofs.EntryLemmas.{take_one_more}
 use Rattle.directory.proofs.TakeLemmas.{front_at, front_taken, last_at, taken_distinct, taken_sound}
-use Rattle.directory.proofs.TellLemmas.{first_holds, judged_sound, put_rest}
+use Rattle.directory.proofs.TellLemmas.{first_past, judged_sound, put_rest}
 use Rattle.directory.proofs.WholeLemmas.{copy_fresh}
+
+-- A list that is gathered, and its first pair that may not be put behind those before it.
 
 -- ---- the faults of a pair that is gathered
 by_gathering : (b c : Option DirFault) (rest : List (Option DirFault)) (fault : DirFault) → first_of (b ∷ c ∷ []) ≡ Some fault → first_of (b ∷ c ∷ rest) ≡ Some fault
@@ -31,15 +32,13 @@ by_gathering None None rest fault e = cc
 pub gather_put : (es : Entries) (a : Name) (o : Parts) (fault : DirFault) → gather_fault es a ≡ Some fault → put_fault es a o ≡ Some fault
 gather_put es a o fault e = by_gathering (when (is_some (object_of es a)) Exists) (when (nat_le most_objects (length es)) Full) _ fault e
 
+-- a pair that is gathered has a new name, and there is room for it
+pub gather_none : (es : Entries) (a : Name) → is_some (object_of es a) ≡ false → length es < most_objects → gather_fault es a ≡ None
+gather_none es a none room = first_past (is_some (object_of es a)) Exists _ none ∙ first_past (nat_le most_objects (length es)) Full _ (lt-leb most_objects (length es) room)
+
 -- ---- a list that may stand, and one that may not
 pub stands_sound : (es : Entries) → deepest es ≤ most_depth → length es ≤ most_objects → IsDistinct same_name (keys_of es) → IsSound es
 stands_sound es le small distinct = judged_sound es [] (judged_none_by (deepest es) [] le) small distinct
-
-pub refused_cycle : (es : Entries) (a : Name) → unbounded ≤ deepest es → judged es a ≡ Some (Cycle a)
-refused_cycle es a le = first_holds (nat_le unbounded (deepest es)) (Cycle a) _ (le-leb unbounded (deepest es) le)
-
-pub refused_deep : (es : Entries) (a : Name) (d : ℕ) → d ≡ deepest es → most_depth < deepest es → deepest es < unbounded → judged es a ≡ Some (Deep d)
-refused_deep es a d is over below = judged_deep_by (deepest es) a over below ∙ ap (λ (n : ℕ). Some (Deep n)) (sym is)
 
 pub refused_at : (es : Entries) (i : ℕ) (k : Name) (o : Parts) (fault : DirFault) → IsDistinct same_name (keys_of es) → length es ≤ most_objects → slice_get es i ≡ Some (k, o)
     → deepest (take i es) ≤ most_depth → judged (take (i + 1) es) k ≡ Some fault → IsFirstRefused es i fault

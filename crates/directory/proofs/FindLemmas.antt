@@ -11,13 +11,13 @@ use Rattle.name_core.specs.Same.{same_name, same_name_equiv}
 use Rattle.comb_tree.specs.declared.node.CombNode.{CombNode}
 use Rattle.comb_tree.specs.Nodes.{Comb as AnyTree, comb_nodes}
 use Rattle.region_attr.specs.declared.attr.Attr.{Attr}
-use Rattle.solid_set.specs.declared.solid.Solid.{Solid as AnySolid}
 use Rattle.object_set.specs.Objects.{Parts}
-use Rattle.object_set.specs.declared.object.Body.{Body}
-use Rattle.object_set.specs.declared.object.Body.TheVariants.{Solid, Comb}
-use Rattle.directory.specs.Walks.{Entries, object_of, greatest_of, body_depth, depth_over, depth_within, unbounded, deepest}
-use Rattle.directory.specs.Places.{name_of_node, node_names, names_within, object_within, known_depths, Finds, AreFound, KeepsFound}
-use Rattle.directory.proofs.WalkLemmas.{name_tells, depth_bounds, depth_met, missing_zero, within_all}
+use Rattle.object_set.specs.declared.object.Body.TheVariants.{Comb}
+use Rattle.directory.specs.Walks.{Entries, object_of, greatest_of, depth_over, depth_within, unbounded, deepest}
+use Rattle.object_pages.specs.Members.{name_of_node, node_names}
+use Rattle.directory.specs.Places.{names_within, object_within, known_depths, Finds, AreFound}
+use Rattle.shared_pages.proofs.NameLemmas.{name_tells}
+use Rattle.directory.proofs.WalkLemmas.{depth_bounds, depth_met, missing_zero, within_all}
 use Rattle.directory.proofs.PlaceLemmas.{over_tree, nodes_more, greatest_append, place_is}
 
 -- ---- places and names
@@ -116,19 +116,8 @@ place_found es i k q o p levels r distinct at at_too h =
     one_object : (k q : Name) (o p : Parts) (x : Option (Name × Parts)) → x ≡ Some (k, o) → x ≡ Some (q, p) → o ≡ p
     one_object k q o p x e f = let pairs : ◌≡◌ {A = Name × Parts} (k, o) (q, p) = cc in ap (λ (r : Name × Parts). r.1) pairs
 
-solid_none : (n : ℕ) (es : Entries) (o : Parts) (s : AnySolid) → o.body ≡ Solid s → object_within n es o ≡ 0
-solid_none zero es o s is = refl
-solid_none (suc n) es o s is = ap (λ (b : Body). body_depth b (depth_within n es)) is
-
-pub solid_found : (es : Entries) (o : Parts) (s : AnySolid) (levels : ℕ) → o.body ≡ Solid s → Finds (λ n. object_within n es o) levels (Some 0)
-solid_found es o s levels is = (omega arith, λ n le. solid_none n es o s is)
-
 comb_next : (n : ℕ) (es : Entries) (o : Parts) (attr : Attr) (t : AnyTree) (nodes : List CombNode) → o.body ≡ Comb attr t → nodes ≡ comb_nodes t → object_within (suc n) es o ≡ names_within n es (node_names nodes) + 1
 comb_next n es o attr t nodes is at = sym (over_tree o attr t nodes (depth_within n es) (names_within n es (node_names nodes)) is at refl)
-
-pub comb_over : (es : Entries) (o : Parts) (attr : Attr) (t : AnyTree) (nodes : List CombNode) (levels : ℕ) → o.body ≡ Comb attr t → nodes ≡ comb_nodes t → levels ≡ 0 → Finds (λ n. object_within n es o) levels None
-comb_over es o attr t nodes zero is at e = omega (arith, comb_next 0 es o attr t nodes is at)
-comb_over es o attr t nodes (suc l) is at e = absurd (omega (arith, e))
 
 pub comb_found : (es : Entries) (o : Parts) (attr : Attr) (t : AnyTree) (nodes : List CombNode) (levels l d : ℕ) → o.body ≡ Comb attr t → nodes ≡ comb_nodes t → levels ≡ suc l
     → Finds (λ n. names_within n es (node_names nodes)) l (Some d) → Finds (λ n. object_within n es o) levels (Some (d + 1))
@@ -144,9 +133,6 @@ comb_lost es o attr t nodes levels l is at e h =
     subst (λ (m : ℕ). Finds (λ n. object_within n es o) m None) (sym e) (omega (arith, h, comb_next (suc l) es o attr t nodes is at))
 
 -- ---- nodes
-pub leaf_found : (es : Entries) (a : Name) (levels : ℕ) (r : Option ℕ) → Finds (λ n. depth_within n es a) levels r → Finds (λ n. names_within n es (a ∷ [])) levels r
-leaf_found es a levels r h = finds_same (λ n. depth_within n es a) (λ n. names_within n es (a ∷ [])) levels r (λ n. omega arith) h
-
 -- the nodes so far
 abbrev pub NodesFound : Entries → List CombNode → ℕ → ℕ → Type 0
 NodesFound es ns levels most = Finds (λ n. names_within n es (node_names ns)) levels (Some most)
@@ -196,22 +182,6 @@ found_set es xs i d levels k o len lt at found h j q p at_j less n le =
   where
     one_name : (k q : Name) (o p : Parts) (x : Option (Name × Parts)) → x ≡ Some (k, o) → x ≡ Some (q, p) → k ≡ q
     one_name k q o p x e f = let pairs : ◌≡◌ {A = Name × Parts} (k, o) (q, p) = cc in ap (λ (r : Name × Parts). r.0) pairs
-
-pub keeps_set : (old xs : List ℕ) (i d : ℕ) → i < length xs → d < unbounded → KeepsFound old xs → KeepsFound old (slice_set xs i d)
-keeps_set old xs i d lt less kept j was =
-    elim (cases_eq j i) [
-      | inl e ↦
-          let now : slice_index (slice_set xs i d) i ≡ d = get_or-set_same xs i d 0 lt in
-          let here : slice_index (slice_set xs i d) j ≡ slice_index (slice_set xs i d) i = ap (slice_index (slice_set xs i d)) e in
-          omega (arith, now, here, less)
-      | inr apart ↦ omega (arith, get_or-set_other xs i j d 0 apart, kept j was)
-    ]
-
-pub set_here : (xs : List ℕ) (i d : ℕ) → i < length xs → d < unbounded → slice_index (slice_set xs i d) i < unbounded
-set_here xs i d lt less = omega (arith, get_or-set_same xs i d 0 lt, less)
-
-pub none_found : (es : Entries) (xs : List ℕ) → ((j : ℕ) → j < length xs → slice_index xs j ≡ unbounded) → length xs ≡ length es → AreFound es xs
-none_found es xs h len j k o at less n le = absurd (omega (arith, less, h j (omega (arith, len, at_within es j k o at))))
 
 pub all_found : (es : Entries) (xs : List ℕ) → length xs ≡ length es → AreFound es xs → ((j : ℕ) → j < length es → slice_index xs j < unbounded) → xs ≡ known_depths es
 all_found es xs len found below =

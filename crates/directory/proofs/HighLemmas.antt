@@ -1,14 +1,17 @@
-use Rattle.std.proofs.Common.{◌≡◌, inl, inr, ◌<◌, ◌≤◌, ◌∙◌, ℕ, max, true, cond, List, [], ◌∷◌, ◌++◌, map, refl, ap, sym, arith, None}
+use Rattle.std.proofs.Common.{◌≡◌, inl, inr, ◌<◌, ◌≤◌, ◌∙◌, ℕ, max, true, List, [], ◌∷◌, map, refl, ap, sym, arith}
 use Rattle.std.specs.Map.{keys_of}
 use Rattle.std.proofs.lemmas.Bool.{cases_lt}
 use Rattle.name_core.specs.declared.name.Name.{Name}
 use Rattle.directory.specs.Walks.{Entries, IsSound, greatest_of, depth_within, most_depth, unbounded, deepest}
 use Rattle.directory.specs.Edits.{judged_by, judged}
 use Rattle.comb_tree.specs.Changes.{is_among}
-use Rattle.directory.specs.Closed.{IsClosed, relaxed, cleared, moved_depths, IsLowBut}
-use Rattle.directory.proofs.WalkLemmas.{name_tells, same_or_apart, greatest_bound, within_all}
+use Rattle.directory.specs.Closed.{IsClosed, moved_depths, IsLowBut}
+use Rattle.shared_pages.proofs.NameLemmas.{name_tells}
+use Rattle.object_pages.proofs.EntryLemmas.{same_or_apart}
+use Rattle.directory.proofs.WalkLemmas.{greatest_bound, within_all}
 use Rattle.directory.proofs.AloneLemmas.{sound_depth, judged_none_by}
-use Rattle.directory.proofs.ClosedLemmas.{closed_depths, depths_closed, in_or_not, not_in_append, not_in_head, relaxed_here, relaxed_away}
+use Rattle.directory.proofs.ClosedLemmas.{closed_depths}
+use Rattle.object_pages.proofs.NamesLemmas.{in_or_not}
 use Rattle.directory.proofs.RenamedLemmas.{moved_new, moved_old, moved_other}
 
 -- ---- which depths may be over 16
@@ -17,25 +20,6 @@ low_sound es depths sound h a out = omega (arith, closed_depths es depths h a, s
 
 pub low_same : (depths others : Name → ℕ) (high : List Name) → ((x : Name) → others x ≡ depths x) → IsLowBut depths high → IsLowBut others high
 low_same depths others high same low x out = omega (arith, same x, low x out)
-
-pub low_relaxed : (depths : Name → ℕ) (a : Name) (depth : ℕ) (high : List Name) → IsLowBut depths high → depth ≤ most_depth → IsLowBut (relaxed depths a depth) high
-low_relaxed depths a depth high low le x out =
-    elim (same_or_apart x a) [
-      | inl e ↦ omega (arith, relaxed_here depths a depth x e, le)
-      | inr apart ↦ omega (arith, relaxed_away depths a depth x apart, low x out)
-    ]
-
-pub high_relaxed : (depths : Name → ℕ) (a : Name) (depth : ℕ) (high : List Name) → IsLowBut depths high → IsLowBut (relaxed depths a depth) (high ++ a ∷ [])
-high_relaxed depths a depth high low x out =
-    let parts = not_in_append high (a ∷ []) x out in
-    omega (arith, relaxed_away depths a depth x (not_in_head a [] x parts.1).0, low x parts.0)
-
-pub low_cleared : (depths : Name → ℕ) (names high : List Name) → IsLowBut depths high → IsLowBut (cleared depths names) high
-low_cleared depths names high low x out =
-    elim (in_or_not names x) [
-      | inl inside ↦ let none : cleared depths names x ≡ 0 = ap (λ b. cond b 0 (depths x)) inside in omega arith
-      | inr away ↦ let same : cleared depths names x ≡ depths x = ap (λ b. cond b 0 (depths x)) away in omega (arith, same, low x out)
-    ]
 
 pub low_moved : (depths : Name → ℕ) (a b : Name) → IsLowBut depths [] → IsLowBut (moved_depths depths a b) []
 low_moved depths a b low x out =
@@ -83,11 +67,3 @@ judged_high es a depths high h low =
       | inl over ↦ ap (λ (n : ℕ). judged_by n a) (deepest_high es depths high h low over)
       | inr le ↦ judged_none_by (deepest es) a (deepest_low es depths high h low le) ∙ sym (judged_none_by (greatest_of (map depths high)) a le)
     ]
-
--- the same of the depths themselves
-pub judged_changed : (es : Entries) (a : Name) (changed : List Name) → IsLowBut (depth_within unbounded es) changed → judged es a ≡ judged_by (greatest_of (map (depth_within unbounded es) changed)) a
-judged_changed es a changed low = judged_high es a (depth_within unbounded es) changed (depths_closed es) low
-
--- where none is over 16, the list may stand
-pub judged_low : (es : Entries) (a : Name) (depths : Name → ℕ) → IsClosed es depths → IsLowBut depths [] → judged es a ≡ None
-judged_low es a depths h low = judged_high es a depths [] h low ∙ judged_none_by 0 a (omega arith)

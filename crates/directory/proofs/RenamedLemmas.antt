@@ -1,4 +1,4 @@
-use Rattle.std.proofs.Common.{◌≡◌, ◌≢◌, inl, inr, ◌+◌, ◌∙◌, ℕ, suc, min, true, cond, List, [], ◌∷◌, map, refl, ap, sym, subst, arith, Option, None, Some, true≢false}
+use Rattle.std.proofs.Common.{◌≡◌, ◌≢◌, inl, inr, ◌+◌, ◌∙◌, ℕ, zero, suc, min, cond, List, [], ◌∷◌, map, refl, ap, sym, subst, arith, Option, None, Some, true≢false}
 use Rattle.std.specs.List.{Contains}
 use Rattle.std.specs.Option.{option_map}
 use Rattle.name_core.specs.declared.name.Name.{Name}
@@ -11,10 +11,10 @@ use Rattle.object_set.proofs.Renamed.{names_after}
 use Rattle.directory.specs.Walks.{Entries, members_of, object_of, Refers, greatest_of, body_depth, depth_over, unbounded}
 use Rattle.directory.specs.Edits.{renamed_all}
 use Rattle.comb_tree.specs.Changes.{is_among}
-use Rattle.directory.specs.Closed.{depth_step, IsClosed, IsClosedBut, relaxed, moved_depths, HoldsUsers, HoldsRenamedUsers}
-use Rattle.directory.proofs.WalkLemmas.{name_tells, same_or_apart}
-use Rattle.directory.proofs.ClosedLemmas.{in_head, in_tail}
-use Rattle.directory.proofs.EditLemmas.{other, rename_gone, rename_kept, absent_head}
+use Rattle.directory.specs.Closed.{depth_step, IsClosed, IsClosedBut, moved_depths, HoldsRenamedUsers}
+use Rattle.object_pages.specs.Entries.{HoldsUsers}
+use Rattle.shared_pages.proofs.NameLemmas.{name_tells}
+use Rattle.object_pages.proofs.EntryLemmas.{same_or_apart, other, rename_gone, rename_kept, absent_head, new_here, new_away}
 
 -- ---- the objects
 pub rename_there : (es : Entries) (a b : Name) → object_of es b ≡ None → object_of (renamed_all es a b) b ≡ option_map (renamed_object a b) (object_of es a)
@@ -25,13 +25,6 @@ rename_there ((k, o) ∷ es) a b none =
       | inl t ↦ elim (name_tells b b) [ inl s ↦ elim (name_tells a k) [ inl r ↦ rw (t.0, s.0, r.0) | inr r ↦ absurd (r.1 (sym t.1)) ] | inr s ↦ absurd (s.1 refl) ]
       | inr t ↦ rw (t.0, other b k (λ e. rest.0 (sym e)), other a k (λ e. t.1 (sym e))) (rename_there es a b rest.1)
     ]
-
--- ---- the new names of members
-pub new_here : (a b x : Name) → x ≡ a → new_name a b x ≡ b
-new_here a b x e = elim (name_tells x a) [ inl t ↦ ap (λ c. cond c b x) t.0 | inr t ↦ absurd (t.1 e) ]
-
-pub new_away : (a b x : Name) → x ≢ a → new_name a b x ≡ x
-new_away a b x apart = elim (name_tells x a) [ inl t ↦ absurd (apart t.1) | inr t ↦ ap (λ c. cond c b x) t.0 ]
 
 -- ---- the depths
 pub moved_new : (depths : Name → ℕ) (a b x : Name) → x ≡ b → moved_depths depths a b x ≡ depths a
@@ -71,10 +64,6 @@ step_renamed es depths a b x y is free =
     ap (λ (o : Option Parts). min unbounded (depth_over o (moved_depths depths a b))) is
     ∙ ap (min unbounded) (over_renamed (moved_depths depths a b) depths a b (object_of es x) (λ m c. moved_member depths a b m (λ e. free (subst (λ (n : Name). Refers es x n) e c))))
 
--- they are those without a's, with that of a for b
-pub moved_twice : (depths : Name → ℕ) (a b x : Name) → relaxed (relaxed depths a 0) b (depths a) x ≡ moved_depths depths a b x
-moved_twice depths a b x = refl
-
 -- ---- `rename_all`
 -- the moved depths are closed but at what referred to b before, where b dangled
 pub rename_closed : (es : Entries) (a b : Name) (depths : Name → ℕ) (users : List Name) → IsClosed es depths → object_of es b ≡ None → HoldsRenamedUsers es a b users
@@ -91,18 +80,32 @@ rename_closed es a b depths users h none holds x out =
     free : (y : Name) → new_name a b y ≡ x → ¬ (Refers es y b)
     free y e c = true≢false (sym (holds y c) ∙ ap (is_among users) e ∙ out)
 
--- where nothing refers to b, they are closed
-pub rename_all_closed : (es : Entries) (a b : Name) (depths : Name → ℕ) → IsClosed es depths → object_of es b ≡ None → ((x : Name) → ¬ (Refers es x b)) → IsClosed (renamed_all es a b) (moved_depths depths a b)
-rename_all_closed es a b depths h none free x = rename_closed es a b depths [] h none (λ y c. absurd (free y c)) x refl
+-- ---- the names that refer to b after that are those that referred to b, as they are called now
+contains_map : (f : Name → Name) (xs : List Name) (x : Name) → Contains xs x → Contains (map f xs) (f x)
+contains_map f [] x c = absurd (omega (arith, c.1))
+contains_map f (y ∷ xs) x (zero, lt, is) = (0, omega arith, ap f is)
+contains_map f (y ∷ xs) x (suc i, lt, is) = let r = contains_map f xs x (i, omega arith, is) in (suc r.0, omega (arith, r.1), r.2)
 
--- ---- the names that referred to b, as they are called after that
-in_renamed : (names : List Name) (a b x : Name) → is_among names x ≡ true → is_among (map (new_name a b) names) (new_name a b x) ≡ true
-in_renamed [] a b x h = cc
-in_renamed (y ∷ names) a b x h =
-    elim (name_tells x y) [
-      | inl t ↦ ap (is_among (map (new_name a b) (y ∷ names))) (ap (new_name a b) t.1) ∙ in_head (new_name a b y) (map (new_name a b) names)
-      | inr t ↦ in_tail (new_name a b y) (map (new_name a b) names) (new_name a b x) (in_renamed names a b x (rw t.0 at h))
+new_stays : (a b : Name) → new_name a b b ≡ b
+new_stays a b = elim (same_or_apart b a) [ inl e ↦ new_here a b b e | inr away ↦ new_away a b b away ]
+
+still_named : (a b : Name) (o : Option Parts) → Contains (members_of o) b → Contains (members_of (option_map (renamed_object a b) o)) b
+still_named a b None c = c
+still_named a b (Some o) c =
+    subst (λ (l : List Name). Contains l b) (sym (names_after a b o.body))
+    (subst (λ (y : Name). Contains (map (new_name a b) (member_names o.body)) y) (new_stays a b) (contains_map (new_name a b) (member_names o.body) b c))
+
+-- its object is the renamed one
+renamed_at : (es : Entries) (a b x : Name) → x ≢ b → object_of es b ≡ None → object_of (renamed_all es a b) (new_name a b x) ≡ option_map (renamed_object a b) (object_of es x)
+renamed_at es a b x apart none =
+    elim (same_or_apart x a) [
+      | inl e ↦ ap (object_of (renamed_all es a b)) (new_here a b x e) ∙ rename_there es a b none ∙ ap (λ (y : Name). option_map (renamed_object a b) (object_of es y)) (sym e)
+      | inr away ↦ ap (object_of (renamed_all es a b)) (new_away a b x away) ∙ rename_kept es a b x apart away
     ]
 
-pub renamed_users : (es : Entries) (a b : Name) (users : List Name) → HoldsUsers es b users → HoldsRenamedUsers es a b (map (new_name a b) users)
-renamed_users es a b users holds x c = in_renamed users a b x (holds x c)
+pub users_renamed : (es : Entries) (a b : Name) (users : List Name) → object_of es b ≡ None → HoldsUsers (renamed_all es a b) b users → HoldsRenamedUsers es a b users
+users_renamed es a b users none holds x c =
+    elim (same_or_apart x b) [
+      | inl e ↦ let empty : Contains [] b = subst (λ (o : Option Parts). Contains (members_of o) b) (ap (object_of es) e ∙ none) c in absurd (omega (arith, empty.1))
+      | inr apart ↦ holds (new_name a b x) (subst (λ (o : Option Parts). Contains (members_of o) b) (sym (renamed_at es a b x apart none)) (still_named a b (object_of es x) c))
+    ]

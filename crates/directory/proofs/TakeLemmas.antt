@@ -1,19 +1,17 @@
--- The first pairs of a list.
-use Rattle.std.proofs.Common.{◌≡◌, ◌⊎◌, inl, inr, ◌<◌, ◌≤◌, ◌+◌, ◌∙◌, ℕ, zero, suc, [], ◌∷◌, ◌++◌, take, length, refl, ap, arith, add-one, false, Some, None}
+use Rattle.std.proofs.Common.{◌≡◌, ◌⊎◌, inl, inr, ◌<◌, ◌≤◌, ◌∙◌, ℕ, zero, suc, [], ◌∷◌, ◌++◌, take, length, refl, ap, arith, false, Some, None}
 use Rattle.std.specs.Prelude.{slice_get, position}
 use Rattle.std.specs.List.{AllByRecursion, IsDistinct, position_or_len}
 use Rattle.std.specs.Map.{keys_of}
 use Rattle.std.proofs.lemmas.Map.Keys.{IsDistinct-cons, IsDistinct-from_apart, IsDistinct-head, IsDistinct-tail}
-use Rattle.std.proofs.lemmas.List.Sums.{sum_by-append, sum_by-cons}
 use Rattle.name_core.specs.declared.name.Name.{Name}
 use Rattle.name_core.specs.Same.{same_name}
-use Rattle.object_set.specs.Objects.{Parts, member_names}
-use Rattle.directory.specs.Counting.{times, AreFew}
-use Rattle.directory.specs.Edits.{references_of}
-use Rattle.directory.specs.Walks.{Entries, IsSound, members_of, object_of}
-use Rattle.directory.proofs.EditLemmas.{IsWithin, refers_of, take_one_more, weight_of, within_sound}
+use Rattle.object_set.specs.Objects.{Parts}
+use Rattle.directory.specs.Walks.{Entries, IsSound, object_of}
+use Rattle.directory.proofs.EditLemmas.{IsWithin, refers_of, weight_of, within_sound}
 use Rattle.directory.proofs.PlaceLemmas.{place_is}
-use Rattle.directory.proofs.WalkLemmas.{name_tells}
+use Rattle.shared_pages.proofs.NameLemmas.{name_tells}
+
+-- The first pairs of a list.
 
 pub taken_at : (es : Entries) (n i : ℕ) → i < n → slice_get (take n es) i ≡ slice_get es i
 taken_at es zero i lt = absurd (omega (arith, lt))
@@ -31,7 +29,7 @@ all_taken P es zero h = tt
 all_taken P [] (suc n) h = tt
 all_taken P (e ∷ es) (suc n) h = (h.0, all_taken P es n h.1)
 
-nothing_distinct : IsDistinct same_name []
+pub nothing_distinct : IsDistinct same_name []
 nothing_distinct = IsDistinct-from_apart same_name [] (λ i j d apart lt. absurd (omega (arith, lt)))
 
 pub taken_distinct : (es : Entries) (n : ℕ) → IsDistinct same_name (keys_of es) → IsDistinct same_name (keys_of (take n es))
@@ -40,11 +38,6 @@ taken_distinct [] (suc n) h = nothing_distinct
 taken_distinct (e ∷ es) (suc n) h =
     IsDistinct-cons same_name e.0 (keys_of (take n es)) (all_taken (λ y. same_name e.0 y ≡ false) es n (IsDistinct-head same_name e.0 (keys_of es) h))
     (taken_distinct es n (IsDistinct-tail same_name e.0 (keys_of es) h))
-
-pub taken_few : (es : Entries) (n : ℕ) → AreFew es → AreFew (take n es)
-taken_few es zero few = tt
-taken_few [] (suc n) few = tt
-taken_few (e ∷ es) (suc n) few = (few.0, taken_few es n few.1)
 
 -- ---- names among them
 look_taken : (es : Entries) (n : ℕ) (x : Name) → (object_of (take n es) x ≡ object_of es x) ⊎ (object_of (take n es) x ≡ None)
@@ -80,13 +73,6 @@ missing_before ((k, p) ∷ es) a (suc n) le =
 -- a name whose pair comes later
 pub later_missing : (es : Entries) (a : Name) (n i : ℕ) → position (same_name a) (keys_of es) ≡ Some i → n ≤ i → object_of (take n es) a ≡ None
 later_missing es a n i at le = missing_before es a n (omega (arith, le, place_is a i (keys_of es) at))
-
--- ---- leaves among them
-pub taken_references : (es : Entries) (i : ℕ) (k : Name) (o : Parts) (a : Name) → slice_get es i ≡ Some (k, o) → references_of (take (i + 1) es) a ≡ references_of (take i es) a + times (member_names o.body) a
-taken_references es i k o a at =
-    let f : Name × Parts → ℕ = λ e. times (members_of (Some e.1)) a in
-    let one : references_of (take (suc i) es) a ≡ references_of (take i es ++ (k, o) ∷ []) a = ap (λ (l : Entries). references_of l a) (take_one_more es i (k, o) at) in
-    rw add-one (omega (arith, one, sum_by-append f (take i es) ((k, o) ∷ []), sum_by-cons f (k, o) []))
 
 -- ---- the first pairs of a longer list
 pub front_taken : (es fs : Entries) (i : ℕ) → i ≤ length es → take i (es ++ fs) ≡ take i es

@@ -2,18 +2,18 @@ use Rattle.std.proofs.Common.{◌≡◌, ◌≢◌, inl, inr, ◌+◌, ◌<◌, 
 use Rattle.std.specs.Prelude.{nat_le, nat_lt, not, is_some}
 use Rattle.std.specs.List.{IsDistinct}
 use Rattle.std.specs.Map.{keys_of}
-use Rattle.std.proofs.lemmas.Bool.{leb-false, lt-leb, le-leb}
+use Rattle.std.proofs.lemmas.Bool.{leb-false, lt-leb}
 use Rattle.std.proofs.lemmas.Bool.Decides.{leb_tells}
 use Rattle.name_core.specs.declared.name.Name.{Name}
 use Rattle.name_core.specs.Same.{same_name}
 use Rattle.object_set.specs.Objects.{Parts}
-use Rattle.object_set.specs.TextValues.{IsTextValue}
 use Rattle.directory.specs.declared.fault.DirFault.{DirFault}
 use Rattle.directory.specs.declared.fault.DirFault.TheVariants.{Exists, Missing, Full, Cycle, Deep, Memory}
 use Rattle.directory.specs.Walks.{Entries, object_of, HasCycleThrough, IsGreatestDepth, IsSound, most_depth, most_objects, unbounded, deepest}
-use Rattle.directory.specs.Edits.{first_of, when, judged_by, judged, appended, put_fault, replaced, replace_fault, removed, remove_fault, renamed_all, rename_fault, IsCause, Follows, Tells}
+use Rattle.directory.specs.Edits.{first_of, when, judged_by, judged, appended, put_fault, replaced, replace_fault, renamed_all, rename_fault, Follows, Tells}
 use Rattle.directory.proofs.WalkLemmas.{AddsOnlyAt, no_cycle, all_walks, greatest_depth, cycle_at_bound}
-use Rattle.directory.proofs.EditLemmas.{push_adds, replace_adds, rename_adds, length-replaced, length-renamed_all, remove_within, within_sound, length-removed}
+use Rattle.directory.proofs.EditLemmas.{push_adds, replace_adds, rename_adds}
+use Rattle.object_pages.proofs.EntryLemmas.{length-replaced, length-renamed_all}
 
 -- ---- the first fault
 pub first_holds : (b : Bool) (f : DirFault) (rest : List (Option DirFault)) → b ≡ true → first_of (when b f ∷ rest) ≡ Some f
@@ -32,47 +32,21 @@ past : (b : Bool) (f : DirFault) (rest : List (Option DirFault)) (r : Option Dir
 past true f rest r apart e = absurd (apart e)
 past false f rest r apart e = (refl, e)
 
-pub not_true : (b : Bool) → not b ≡ false → b ≡ true
-not_true true e = refl
-not_true false e = cc
-
 -- ---- the faults in order, for the code
 pub put_exists : (es : Entries) (a : Name) (o : Parts) → is_some (object_of es a) ≡ true → put_fault es a o ≡ Some Exists
 put_exists es a o h = first_holds (is_some (object_of es a)) Exists _ h
-
-pub put_full : (es : Entries) (a : Name) (o : Parts) → is_some (object_of es a) ≡ false → most_objects ≤ length es → put_fault es a o ≡ Some Full
-put_full es a o h le = first_past (is_some (object_of es a)) Exists _ h ∙ first_holds (nat_le most_objects (length es)) Full _ (le-leb most_objects (length es) le)
 
 pub put_rest : (es : Entries) (a : Name) (o : Parts) → is_some (object_of es a) ≡ false → length es < most_objects → judged (appended es a o) a ≡ put_fault es a o
 put_rest es a o h lt =
     sym (first_past (is_some (object_of es a)) Exists _ h ∙ first_past (nat_le most_objects (length es)) Full _ (lt-leb most_objects (length es) lt) ∙ last_one (judged (appended es a o) a))
 
-pub replace_missing : (es : Entries) (a : Name) (o : Parts) → is_some (object_of es a) ≡ false → replace_fault es a o ≡ Some Missing
-replace_missing es a o h = first_holds (not (is_some (object_of es a))) Missing _ (ap not h)
-
 pub replace_rest : (es : Entries) (a : Name) (o : Parts) → is_some (object_of es a) ≡ true → judged (replaced es a o) a ≡ replace_fault es a o
 replace_rest es a o h = sym (first_past (not (is_some (object_of es a))) Missing _ (ap not h) ∙ last_one (judged (replaced es a o) a))
 
-pub rename_exists : (es : Entries) (a b : Name) → is_some (object_of es b) ≡ true → rename_fault es a b ≡ Some Exists
-rename_exists es a b h = first_holds (is_some (object_of es b)) Exists _ h
-
-pub rename_missing : (es : Entries) (a b : Name) → is_some (object_of es b) ≡ false → is_some (object_of es a) ≡ false → rename_fault es a b ≡ Some Missing
-rename_missing es a b h k = first_past (is_some (object_of es b)) Exists _ h ∙ first_holds (not (is_some (object_of es a))) Missing _ (ap not k)
-
-pub rename_rest : (es : Entries) (a b : Name) → is_some (object_of es b) ≡ false → is_some (object_of es a) ≡ true → judged (renamed_all es a b) b ≡ rename_fault es a b
-rename_rest es a b h k =
-    sym (first_past (is_some (object_of es b)) Exists _ h ∙ first_past (not (is_some (object_of es a))) Missing _ (ap not k) ∙ last_one (judged (renamed_all es a b) b))
-
-pub cause_of : (v : Option DirFault) (f : DirFault) → v ≡ Some f → IsCause v f
-cause_of v Exists e = e
-cause_of v Missing e = e
-cause_of v Full e = e
-cause_of v (Cycle a) e = e
-cause_of v (Deep n) e = e
-cause_of v Memory e = tt
-
-pub follows_by : (old : Entries) (v w : Option DirFault) (made : Entries) (r : Result (Unit {0}) DirFault) (after : Entries) → v ≡ w → Follows old v made r after → Follows old w made r after
-follows_by old v w made r after e h = subst (λ (x : Option DirFault). Follows old x made r after) e h
+-- ---- what a test of a name tells
+pub missing_then : (o : Option Parts) → is_some o ≡ false → o ≡ None
+missing_then None e = refl
+missing_then (Some p) e = cc
 
 -- ---- what the verdict tells
 judged_none : (d : ℕ) (a : Name) → judged_by d a ≡ None → d ≤ most_depth
@@ -169,29 +143,6 @@ rename_tells es a b (Err Missing) after sound distinct h = tt
 rename_tells es a b (Err Full) after sound distinct h = tt
 rename_tells es a b (Err Memory) after sound distinct h = tt
 
-no_other : (b : Bool) (f : DirFault) → when b Missing ≡ Some f → Missing ≡ f
-no_other true f e = cc
-no_other false f e = cc
-
-pub remove_tells : (es : Entries) (a : Name) (r : Result (Unit {0}) DirFault) (after : Entries) → IsSound es → IsDistinct same_name (keys_of after)
-    → Follows es (remove_fault es a) (removed es a) r after → Tells (removed es a) a r
-remove_tells es a (Ok u) after sound distinct h =
-    within_sound es (removed es a) (remove_within es a sound.distinct) sound (omega (arith, sound.small, length-removed es a)) (subst (λ (l : Entries). IsDistinct same_name (keys_of l)) h.1 distinct)
-remove_tells es a (Err (Cycle b)) after sound distinct h = let wrong = no_other (not (is_some (object_of es a))) (Cycle b) h.0 in cc
-remove_tells es a (Err (Deep n)) after sound distinct h = let wrong = no_other (not (is_some (object_of es a))) (Deep n) h.0 in cc
-remove_tells es a (Err Exists) after sound distinct h = tt
-remove_tells es a (Err Missing) after sound distinct h = tt
-remove_tells es a (Err Full) after sound distinct h = tt
-remove_tells es a (Err Memory) after sound distinct h = tt
-
--- every answer leaves a sound list
-pub follows_sound : (es made : Entries) (a : Name) (v : Option DirFault) (r : Result (Unit {0}) DirFault) (after : Entries) → IsSound es → Follows es v made r after → Tells made a r → IsSound after
-follows_sound es made a v (Ok u) after sound h t = subst (λ (l : Entries). IsSound l) (sym h.1) t
-follows_sound es made a v (Err f) after sound h t = subst (λ (l : Entries). IsSound l) (sym h.1) sound
-
 pub nothing_sound : (es : Entries) → es ≡ [] → IsDistinct same_name (keys_of es) → IsSound es
 nothing_sound [] e distinct = judged_sound [] [] refl (omega arith) distinct
 nothing_sound (x ∷ es) e distinct = cc
-
-pub no_title : IsTextValue []
-no_title = record { short = omega arith; one_line = λ i d lt. absurd (omega (arith, lt)); no_return = λ i d lt. absurd (omega (arith, lt)); group = refl }

@@ -1,3 +1,4 @@
+use Rattle.object_pages.proofs.EntryLemmas.{same_or_apart}
 use Rattle.std.proofs.Common.{◌≡◌, ◌≢◌, ◌⊎◌, inl, inr, ◌<◌, ◌≤◌, ◌+◌, ◌∙◌, ℕ, zero, suc, min, Bool, true, false, List, [], ◌∷◌, ◌++◌, map, refl, ap, sym, subst, arith, append_assoc, Option, None, Some}
 use Rattle.std.specs.List.{Contains}
 use Rattle.std.specs.Map.{keys_of}
@@ -16,9 +17,6 @@ tells_by false x y h = inr (refl, λ e. let wrong : false ≡ true = h.1 e in cc
 
 pub name_tells : (x y : Name) → ((same_name x y ≡ true) × (x ≡ y)) ⊎ ((same_name x y ≡ false) × (x ≢ y))
 name_tells x y = tells_by (same_name x y) x y (same_name_decides x y)
-
-pub same_or_apart : (x y : Name) → (x ≡ y) ⊎ (x ≢ y)
-same_or_apart x y = elim (name_tells x y) [ inl t ↦ inl t.1 | inr t ↦ inr t.1 ]
 
 -- away from the name a, `new` has no combination and no reference that `old` has not
 pub record AddsOnlyAt (a : Name) (old new : Entries) : Type 0 where

@@ -10,6 +10,10 @@ use Rattle.directory.specs.Walks.{Entries, object_of, Refers, depth_over, most_d
 abbrev pub depth_step : Entries → (Name → ℕ) → Name → ℕ
 depth_step es depths a = min unbounded (depth_over (object_of es a) depths)
 
+-- a name has the depth that its members give it
+abbrev pub IsClosedAt : Entries → (Name → ℕ) → Name → Type 0
+IsClosedAt es depths a = depths a ≡ depth_step es depths a
+
 -- each name has the depth that its members give it
 abbrev pub IsClosed : Entries → (Name → ℕ) → Type 0
 IsClosed es depths = (a : Name) → depths a ≡ depth_step es depths a
@@ -21,18 +25,6 @@ IsClosedBut es depths dirty = (a : Name) → is_among dirty a ≡ false → dept
 -- the depths with another one for a
 abbrev pub relaxed : (Name → ℕ) → Name → ℕ → Name → ℕ
 relaxed depths a depth x = cond (same_name a x) depth (depths x)
-
--- each name that refers to a is one of the names
-abbrev pub HoldsUsers : Entries → Name → List Name → Type 0
-HoldsUsers es a users = (x : Name) → Refers es x a → is_among users x ≡ true
-
--- one of the names is that of each object that refers to one of the others
-abbrev pub HoldsUsersOf : Entries → List Name → List Name → Type 0
-HoldsUsersOf es names users = (x a : Name) → is_among names a ≡ true → Refers es x a → is_among users x ≡ true
-
--- the depths without those of the names
-abbrev pub cleared : (Name → ℕ) → List Name → Name → ℕ
-cleared depths names x = cond (is_among names x) 0 (depths x)
 
 -- the depths after b took the place of a: b is as deep as a was
 abbrev pub moved_depths : (Name → ℕ) → Name → Name → Name → ℕ

@@ -1,14 +1,11 @@
 -- What each edit makes of the list, and the first fault for which it is refused.
-use Rattle.std.specs.Prelude.{◌≡◌, ◌<◌, ℕ, nat_le, nat_lt, List, [], ◌∷◌, ◌++◌, length, map, filter, not, Bool, cond, Option, None, Some, is_some, Result, Ok, Err}
-use Rattle.std.specs.List.{list_any, count_by, sum_by}
-use Rattle.std.specs.Map.{set_value, remove_entry}
+use Rattle.std.specs.Prelude.{◌≡◌, ◌<◌, ℕ, nat_le, nat_lt, List, [], ◌∷◌, length, not, Bool, cond, Option, None, Some, is_some, Result, Ok, Err}
 use Rattle.name_core.specs.declared.name.Name.{Name}
-use Rattle.name_core.specs.Same.{same_name}
 use Rattle.object_set.specs.Objects.{Parts}
-use Rattle.object_set.specs.Renaming.{new_name, renamed_object}
+pub use Rattle.object_pages.specs.Changes.{appended, replaced, removed, without_all, renamed_all, references_of}
 use Rattle.directory.specs.declared.fault.DirFault.{DirFault}
 use Rattle.directory.specs.declared.fault.DirFault.TheVariants.{Exists, Missing, Full, Cycle, Deep, Memory}
-use Rattle.directory.specs.Walks.{Entries, object_of, members_of, HasCycleThrough, IsGreatestDepth, IsSound, most_objects, most_depth, unbounded, deepest}
+use Rattle.directory.specs.Walks.{Entries, object_of, HasCycleThrough, IsGreatestDepth, IsSound, most_objects, most_depth, unbounded, deepest}
 
 -- the first fault of those that hold
 abbrev pub first_of : List (Option DirFault) → Option DirFault
@@ -26,37 +23,17 @@ judged_by depth a = first_of (when (nat_le unbounded depth) (Cycle a) ∷ when (
 abbrev pub judged : Entries → Name → Option DirFault
 judged dir a = judged_by (deepest dir) a
 
--- the list with a pair more
-abbrev pub appended : Entries → Name → Parts → Entries
-appended dir a o = dir ++ (a, o) ∷ []
-
 -- why a pair is not added: the name is there, the list is full, or the list with it may not stand
 abbrev pub put_fault : Entries → Name → Parts → Option DirFault
 put_fault dir a o = first_of (when (is_some (object_of dir a)) Exists ∷ when (nat_le most_objects (length dir)) Full ∷ judged (appended dir a o) a ∷ [])
-
--- the object of a replaced in its place
-abbrev pub replaced : Entries → Name → Parts → Entries
-replaced dir a o = set_value (same_name a) dir o
 
 -- why an object is not replaced: the name is not there, or the list with the new one may not stand
 abbrev pub replace_fault : Entries → Name → Parts → Option DirFault
 replace_fault dir a o = first_of (when (not (is_some (object_of dir a))) Missing ∷ judged (replaced dir a o) a ∷ [])
 
--- the pair of a taken out
-abbrev pub removed : Entries → Name → Entries
-removed dir a = remove_entry (same_name a) dir
-
 -- why a pair is not taken out: the name is not there
 abbrev pub remove_fault : Entries → Name → Option DirFault
 remove_fault dir a = when (not (is_some (object_of dir a))) Missing
-
--- the pairs without those of the names
-abbrev pub without_all : Entries → List Name → Entries
-without_all dir names = filter (λ e. not (list_any (same_name e.0) names)) dir
-
--- every name, of an object and of a leaf, with b in the place of a
-abbrev pub renamed_all : Entries → Name → Name → Entries
-renamed_all dir a b = map (λ e. (new_name a b e.0, renamed_object a b e.1)) dir
 
 -- why a name is not replaced: the new one is there, the old one is not, or the renamed list may not stand
 abbrev pub rename_fault : Entries → Name → Name → Option DirFault
@@ -86,6 +63,7 @@ Tells made a (Err Missing) = Unit {0}
 Tells made a (Err Full) = Unit {0}
 Tells made a (Err Memory) = Unit {0}
 
--- how many leaves name a
-abbrev pub references_of : Entries → Name → ℕ
-references_of dir a = sum_by (λ e. count_by (λ n. same_name n a) (members_of (Some e.1))) dir
+-- what an edit with this first fault gives: the list that it makes, or why there is none
+abbrev pub Makes : Option DirFault → Entries → Result Entries DirFault → Type 0
+Makes fault made (Ok after) = (fault ≡ None) × (after ≡ made)
+Makes fault made (Err why) = IsCause fault why

@@ -1,31 +1,9 @@
 -- Depths kept by place, one for each name of the list, in the words of the code.
-use Rattle.std.specs.Prelude.{◌≡◌, ◌<◌, ◌≤◌, ℕ, zero, suc, List, [], ◌∷◌, Option, None, Some, position, slice_index, slice_get, map, flat_map}
-use Rattle.std.specs.Option.{option_map_or}
+use Rattle.std.specs.Prelude.{◌≡◌, ◌<◌, ◌≤◌, ℕ, zero, suc, List, Option, None, Some, slice_index, slice_get, map}
 use Rattle.std.specs.Map.{keys_of}
 use Rattle.name_core.specs.declared.name.Name.{Name}
-use Rattle.name_core.specs.Same.{same_name}
-use Rattle.comb_tree.specs.declared.node.CombNode.{CombNode}
-use Rattle.comb_tree.specs.declared.node.CombNode.TheVariants.{Leaf, U, N, Minus}
 use Rattle.object_set.specs.Objects.{Parts}
 use Rattle.directory.specs.Walks.{Entries, greatest_of, depth_over, depth_within, unbounded}
-
--- the name of a leaf
-abbrev pub name_of_node : CombNode → List Name
-name_of_node (Leaf name placement) = name ∷ []
-name_of_node U = []
-name_of_node N = []
-name_of_node Minus = []
-
-abbrev pub node_names : List CombNode → List Name
-node_names nodes = flat_map name_of_node nodes
-
--- the depth that stands at the name's place, 0 where it has none
-abbrev pub depth_at : List ℕ → List Name → Name → ℕ
-depth_at depths names a = option_map_or (λ i. slice_index depths i) (position (same_name a) names) 0
-
--- the depth of an object over them
-abbrev pub depth_of_object : List ℕ → List Name → Parts → ℕ
-depth_of_object depths names object = depth_over (Some object) (depth_at depths names)
 
 -- the bounded depth of the deepest of the names
 abbrev pub names_within : ℕ → Entries → List Name → ℕ

@@ -1,33 +1,17 @@
 -- A directory's list of names and objects: who refers to whom, walks, cycles, depth, soundness.
 use Rattle.std.specs.Prelude.{◌≡◌, ℕ, zero, suc, ◌+◌, ◌≤◌, max, List, [], ◌∷◌, ◌++◌, map, length, Option, None, Some}
-use Rattle.std.specs.List.{Contains, IsDistinct}
-use Rattle.std.specs.Map.{lookup, keys_of}
+use Rattle.std.specs.List.{IsDistinct}
+use Rattle.std.specs.Map.{keys_of}
 use Rattle.name_core.specs.declared.name.Name.{Name}
 use Rattle.name_core.specs.Same.{same_name}
 use Rattle.object_set.specs.Objects.{Parts, member_names}
+pub use Rattle.object_pages.specs.Entries.{Entries, object_of, members_of, Refers, most_objects}
 use Rattle.object_set.specs.declared.object.Body.{Body}
 use Rattle.object_set.specs.declared.object.Body.TheVariants.{Solid, Comb}
-
--- so many objects may be in a directory
-abbrev pub most_objects : ℕ
-most_objects = 65535
 
 -- so many combinations may lie one in the other
 abbrev pub most_depth : ℕ
 most_depth = 16
-
--- names and their objects, in order
-abbrev pub Entries : Type 0
-Entries = List (Name × Parts)
-
--- the object of a name
-abbrev pub object_of : Entries → Name → Option Parts
-object_of dir a = lookup (same_name a) dir
-
--- the names of its leaves
-abbrev pub members_of : Option Parts → List Name
-members_of None = []
-members_of (Some object) = member_names object.body
 
 -- 1 for a combination, else 0
 abbrev pub body_weight : Body → ℕ
@@ -37,10 +21,6 @@ body_weight (Comb attr tree) = 1
 abbrev pub comb_weight : Option Parts → ℕ
 comb_weight None = 0
 comb_weight (Some object) = body_weight object.body
-
--- a is there as a combination with a leaf of the name b
-abbrev pub Refers : Entries → Name → Name → Type 0
-Refers dir a b = Contains (members_of (object_of dir a)) b
 
 -- a refers to the first of the names, where there is one
 abbrev pub RefersToFirst : Entries → Name → List Name → Type 0

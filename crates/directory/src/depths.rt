@@ -1,93 +1,115 @@
-ghost use Rattle.std.specs.Prelude.{◌≡◌, ◌<◌, max, map, length};
-ghost use Rattle.name_core.specs.declared.name.Name.{Name};
-ghost use Rattle.indexmap.specs.IndexMap.{keys};
-ghost use Rattle.directory.specs.Walks.{greatest_of, unbounded};
-ghost use Rattle.directory.specs.Edits.{judged_by};
-ghost use Rattle.directory.specs.Places.{name_of_node, node_names, depth_at, depth_of_object};
+ghost use Rattle.std.specs.Prelude.{◌≡◌, map, None, IfOk};
+ghost use Rattle.name_core.specs.declared.name.Name.{Name as Bytes};
+ghost use Rattle.shared_pages.specs.Buckets.{value_of};
+ghost use Rattle.object_pages.specs.Members.{name_of_node, node_names};
+ghost use Rattle.directory.specs.Walks.{greatest_of};
+ghost use Rattle.directory.specs.Closed.{depth_step, relaxed};
+ghost use Rattle.directory.specs.Depths.{depth_kept};
 
-use crate::fault::DirFault;
-use crate::limit::DEPTH;
+use crate::levels::{UNBOUNDED, larger};
 use comb_tree::CombNode;
-use indexmap::IndexMap;
+use memory_core::Memory;
 use name_core::Name;
-use object_set::{Body, Object};
+use object_pages::ObjectPages;
+use object_set::Body;
+use shared_pages::SharedMap;
+use std::alloc::Global;
+use std::marker::Model;
 
-/// More than the depth of any name after one edit of a sound directory without a cycle. It stands for a depth that is not
-/// known.
-pub(crate) const UNBOUNDED: u8 = 34;
-
-/// The depth that the list gives for a name, 0 where it is not there.
-fn at_name(objects: &IndexMap<Name, Object>, below: &[u8], name: &Name) -> u8
-    requires { length below.now ≡ length objects.now.entries }
-    ensures { result ≡ depth_at below.now (keys objects.now) name.now }
-{
-    match objects.get_index_of(name) {
-        Some(place) => below[place],
-        None => 0,
-    }
+/// The depth of each name, where it is over 0. A copy shares them all. Contracts see by `depth_kept` that of a name.
+#[derive(Drop)]
+pub(crate) struct Depths {
+    levels: SharedMap<u8>,
 }
 
-/// The depth that the list gives for the name of a leaf, 0 for another node.
-fn at_node(objects: &IndexMap<Name, Object>, below: &[u8], node: &CombNode) -> u8
-    requires { length below.now ≡ length objects.now.entries }
-    ensures { result ≡ greatest_of (map (depth_at below.now (keys objects.now)) (name_of_node node.now)) }
-{
-    match node {
-        CombNode::Leaf { name, .. } => at_name(objects, below, name),
-        _ => 0,
-    }
+impl Model for Depths {
+    ghost use Rattle.std.specs.Prelude.{ℕ};
+    ghost use Rattle.shared_pages.specs.Buckets.{Shelves};
+
+    ghost Value = { Shelves ℕ };
+
+    ghost view = { λ s. s.levels };
 }
 
-/// The larger of two depths.
-pub(crate) fn larger(one: u8, other: u8) -> u8
-    ensures { result ≡ max one other }
-{
-    if one < other { other } else { one }
-}
-
-/// The greatest depth of the names of the leaves.
-fn deepest_of(objects: &IndexMap<Name, Object>, below: &[u8], nodes: &[CombNode]) -> u8
-    requires { length below.now ≡ length objects.now.entries }
-    ensures { result ≡ greatest_of (map (depth_at below.now (keys objects.now)) (node_names nodes.now)) }
-{
-    let mut most = 0;
-    for node in nodes {
-        most = larger(most, at_node(objects, below, node));
+impl Depths {
+    /// No name has a depth over 0. It takes no memory.
+    pub(crate) fn new(alloc: Global) -> Depths
+        ensures { (a : Bytes) → value_of result a ≡ None }
+    {
+        Depths {
+            levels: SharedMap::new(alloc),
+        }
     }
-    most
-}
 
-/// An object's depth, over the depths of the names.
-pub(crate) fn depth_of(objects: &IndexMap<Name, Object>, below: &[u8], object: &Object) -> u8
-    requires len { length below.now ≡ length objects.now.entries }
-    requires small { (a : Name) → depth_at below.now (keys objects.now) a < 100 }
-    ensures { result ≡ depth_of_object below.now (keys objects.now) object.now }
-{
-    match object.body() {
-        Body::Solid(_) => 0,
-        Body::Comb { tree, .. } => deepest_of(objects, below, tree.nodes()) + 1,
+    /// The same depths again. They are all shared.
+    pub(crate) fn copy(&self) -> Result<Depths, Memory>
+        ensures { IfOk result (λ d. d ≡ self.now) }
+    {
+        let levels = self.levels.copy()?;
+        Ok(Depths { levels })
     }
-}
 
-/// The greatest of the depths.
-pub(crate) fn greatest(depths: &[u8]) -> u8
-    ensures { result ≡ greatest_of depths.now }
-{
-    let mut most = 0;
-    for depth in depths {
-        most = larger(most, *depth);
+    /// The depth of a name.
+    pub(crate) fn of(&self, name: &Name) -> u8
+        ensures { result ≡ depth_kept self.now name.now }
+    {
+        match self.levels.get(name) {
+            Some(depth) => *depth,
+            None => 0,
+        }
     }
-    most
-}
 
-/// Why a directory of these depths, which has no cycle, may not stand.
-pub(crate) fn judge(depths: &[u8]) -> Option<DirFault>
-    requires { greatest_of depths.now < unbounded }
-    ensures { (edited : Name) → result ≡ judged_by (greatest_of depths.now) edited }
-{
-    let most = greatest(depths);
-    if most > DEPTH {
-        return Some(DirFault::Deep(u32::from(most)));
+    /// The depths with another one for a name. What others share stays as it is there.
+    pub(crate) fn set(self, alloc: Global, name: &Name, depth: u8) -> Result<Depths, Memory>
+        ensures { IfOk result (λ d. (a : Bytes) → depth_kept d a ≡ relaxed (depth_kept self) name.now depth a) }
+    {
+        let Depths { levels } = self;
+        let levels = if depth == 0 {
+            levels.remove(alloc, name)?
+        } else {
+            levels.put(alloc, name, depth)?
+        };
+        Ok(Depths { levels })
     }
-    None
+
+    /// The depth of the name of a leaf, 0 of another node.
+    fn of_node(&self, node: &CombNode) -> u8
+        ensures { result ≡ greatest_of (map (depth_kept self.now) (name_of_node node.now)) }
+    {
+        match node {
+            CombNode::Leaf { name, .. } => self.of(name),
+            _ => 0,
+        }
+    }
+
+    /// The greatest depth of the names of the leaves.
+    fn deepest_of(&self, nodes: &[CombNode]) -> u8
+        ensures { result ≡ greatest_of (map (depth_kept self.now) (node_names nodes.now)) }
+    {
+        let mut most = 0;
+        for node in nodes {
+            most = larger(most, self.of_node(node));
+        }
+        most
+    }
+
+    /// The depth that the members of a name give it, 34 at most.
+    pub(crate) fn step(&self, list: &ObjectPages, name: &Name) -> u8
+        ensures { result ≡ depth_step list.now (depth_kept self.now) name.now }
+    {
+        match list.get(name) {
+            Some(object) => match object.body() {
+                Body::Solid(_) => 0,
+                Body::Comb { tree, .. } => {
+                    let below = self.deepest_of(tree.nodes());
+                    if below < UNBOUNDED {
+                        below + 1
+                    } else {
+                        UNBOUNDED
+                    }
+                }
+            },
+            None => 0,
+        }
+    }
 }

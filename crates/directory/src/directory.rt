@@ -1,8 +1,5 @@
-use crate::counted::{put_counted, remove_counted, rename_counted, replace_counted};
-use crate::counts::Counts;
+use crate::contents::Contents;
 use crate::fault::DirFault;
-use crate::whole::{copy_of, remove_pairs};
-use indexmap::IndexMap;
 use memory_core::Memory;
 use name_core::Name;
 use object_set::Object;
@@ -11,39 +8,36 @@ use std::marker::Model;
 
 /// A title and a list of named objects, in order. No name stands twice, no combination is its own member, directly or
 /// through others, at most 16 combinations lie one in the other, and there are at most 65,535 objects. Names that are
-/// not there may be members. Contracts see the title and the list.
+/// not there may be members. A copy shares the objects, and an edit of it copies what it touches. Contracts see the title
+/// and the list.
 #[derive(Drop)]
 pub struct Directory {
     title: Vec<u8>,
-    objects: IndexMap<Name, Object>,
-    /// The depths of the objects, by place.
-    depths: Vec<u8>,
-    /// How many leaves have each name.
-    counts: Counts,
+    contents: Contents,
+    /// Where edits take their memory.
+    alloc: Global,
 }
 
 impl Model for Directory {
-    ghost use Rattle.std.specs.Prelude.{◌≡◌};
     ghost use Rattle.std.specs.Coded.{codes};
     ghost use Rattle.object_set.specs.contracts.object.Object as parts;
+    ghost use Rattle.object_set.specs.TextValues.{IsTextValue};
     ghost use Rattle.directory.specs.Listing.{Listing};
-    ghost use Rattle.directory.specs.Keeping.{IsKept};
 
     ghost Value = { Listing };
 
     ghost coded = { Prim.hlevel (codes, parts.the_row.coded) };
 
-    ghost view = { λ s. record { title = s.title.items; objects = s.objects.entries } };
+    ghost view = { λ s. record { title = s.title.items; objects = s.contents } };
 
-    ghost invariant = { λ s. IsKept s.title.items s.objects.entries s.depths.items s.counts };
+    ghost invariant = { λ s. IsTextValue s.title.items };
 }
 
 impl Directory {
-    ghost use Rattle.std.specs.Prelude.{◌≡◌, ◌≢◌, [], Err, Option, length, slice_get, IfOk, OnOk, OnErr};
+    ghost use Rattle.std.specs.Prelude.{◌≡◌, [], length, slice_get, IfOk, OnOk, OnErr};
     ghost use Rattle.std.specs.Option.{option_copied, option_map};
     ghost use Rattle.std.specs.Map.Iter.{deref_pair};
     ghost use Rattle.object_set.specs.TextValues.{IsTextValue};
-    ghost use Rattle.directory.specs.Keeping.{IsKept};
     ghost use Rattle.directory.specs.Walks.{IsSound, object_of};
     ghost use Rattle.directory.specs.Edits.{appended, put_fault, replaced, replace_fault, removed, remove_fault, renamed_all, rename_fault, without_all, references_of, Follows, Tells};
 
@@ -54,28 +48,21 @@ impl Directory {
     {
         Directory {
             title: Vec::new(alloc),
-            objects: IndexMap::new(alloc),
-            depths: Vec::new(alloc),
-            counts: Counts::new(alloc),
+            contents: Contents::new(alloc),
+            alloc,
         }
     }
 
     /// The directory of these parts.
-    pub(crate) fn of_parts(
-        title: Vec<u8>,
-        objects: IndexMap<Name, Object>,
-        depths: Vec<u8>,
-        counts: Counts,
-    ) -> Directory
-        requires { IsKept title.items objects.entries depths.items counts }
+    pub(crate) fn of_parts(alloc: Global, title: Vec<u8>, contents: Contents) -> Directory
+        requires { IsTextValue title.items }
         ensures title { result.title ≡ title.items }
-        ensures objects { result.objects ≡ objects.entries }
+        ensures objects { result.objects ≡ contents }
     {
         Directory {
             title,
-            objects,
-            depths,
-            counts,
+            contents,
+            alloc,
         }
     }
 
@@ -92,21 +79,21 @@ impl Directory {
         ensures value { result ≡ length self.now.objects }
         ensures sound { IsSound self.now.objects }
     {
-        self.objects.len() as u32
+        self.contents.len() as u32
     }
 
     /// The name and the object at the place, counted from 0, or `None` exactly past the end.
     pub fn at(&self, place: u32) -> Option<(&Name, &Object)>
         ensures { option_map deref_pair result ≡ slice_get self.now.objects place }
     {
-        self.objects.get_index(place as usize)
+        self.contents.at(place as usize)
     }
 
     /// The object of this name, or `None` exactly where it is not there.
     pub fn get(&self, name: &Name) -> Option<&Object>
         ensures { option_copied result ≡ object_of self.now.objects name.now }
     {
-        self.objects.get(name)
+        self.contents.get(name)
     }
 
     /// Adds an object under a new name, at the end. `Exists`, `Full`, then `Cycle` and `Deep` of the list with it.
@@ -117,15 +104,10 @@ impl Directory {
         ensures means { Tells (appended self.old.objects name.now object) name.now result }
         ensures title { self.new.title ≡ self.old.title }
     {
-        let answer = put_counted(
-            &mut self.objects,
-            &mut self.depths,
-            &mut self.counts,
-            name,
-            object,
-        );
-        let _count = self.objects.len();
-        answer
+        let _count = self.contents.len();
+        let contents = self.contents.put(self.alloc, name, object)?;
+        self.contents = contents;
+        Ok(())
     }
 
     /// Replaces the object of a name, in its place. `Missing`, then `Cycle` and `Deep` of the list with the new object.
@@ -134,27 +116,22 @@ impl Directory {
         ensures means { Tells (replaced self.old.objects name.now object) name.now result }
         ensures title { self.new.title ≡ self.old.title }
     {
-        let answer = replace_counted(
-            &mut self.objects,
-            &mut self.depths,
-            &mut self.counts,
-            name,
-            object,
-        );
-        let _count = self.objects.len();
-        answer
+        let _count = self.contents.len();
+        let contents = self.contents.replace(self.alloc, name, object)?;
+        self.contents = contents;
+        Ok(())
     }
 
-    /// Takes a name and its object out. `Missing` is the only fault, and no memory is taken.
+    /// Takes a name and its object out. `Missing` is the only fault beside want of memory.
     pub fn remove(&mut self, name: &Name) -> Result<(), DirFault>
         ensures exact { Follows self.old.objects (remove_fault self.old.objects name.now) (removed self.old.objects name.now) result self.new.objects }
         ensures means { Tells (removed self.old.objects name.now) name.now result }
-        ensures memory { result ≢ Err DirFault.Memory }
         ensures title { self.new.title ≡ self.old.title }
     {
-        let answer = remove_counted(&mut self.objects, &mut self.depths, &mut self.counts, name);
-        let _count = self.objects.len();
-        answer
+        let _count = self.contents.len();
+        let contents = self.contents.remove(self.alloc, name)?;
+        self.contents = contents;
+        Ok(())
     }
 
     /// Gives an object and every leaf that names it a new name, all in their places. `Exists` for the new name, `Missing`
@@ -164,16 +141,10 @@ impl Directory {
         ensures means { Tells (renamed_all self.old.objects old.now new.now) new.now result }
         ensures title { self.new.title ≡ self.old.title }
     {
-        let answer = rename_counted(
-            alloc,
-            &mut self.objects,
-            &mut self.depths,
-            &mut self.counts,
-            old,
-            new,
-        );
-        let _count = self.objects.len();
-        answer
+        let _count = self.contents.len();
+        let contents = self.contents.rename(alloc, old, new)?;
+        self.contents = contents;
+        Ok(())
     }
 
     /// Replaces the title by a text that can be one. After an `Err` it is as before.
@@ -195,13 +166,9 @@ impl Directory {
         ensures err { OnErr result (self.new.objects ≡ self.old.objects) }
         ensures title { self.new.title ≡ self.old.title }
     {
-        remove_pairs(
-            alloc,
-            &mut self.objects,
-            &mut self.depths,
-            &mut self.counts,
-            names,
-        )
+        let contents = self.contents.remove_all(alloc, names)?;
+        self.contents = contents;
+        Ok(())
     }
 
     /// The same directory again.
@@ -209,14 +176,11 @@ impl Directory {
         ensures { IfOk result (λ d. d ≡ self.now) }
     {
         let title = Vec::from_slice(alloc, &self.title)?;
-        let objects = copy_of(alloc, &self.objects)?;
-        let depths = Vec::from_slice(alloc, &self.depths)?;
-        let counts = self.counts.copy()?;
+        let contents = self.contents.copy()?;
         Ok(Directory {
             title,
-            objects,
-            depths,
-            counts,
+            contents,
+            alloc,
         })
     }
 
@@ -224,6 +188,6 @@ impl Directory {
     pub fn references(&self, name: &Name) -> u64
         ensures { result ≡ references_of self.now.objects name.now }
     {
-        self.counts.of(name)
+        self.contents.references(name)
     }
 }

@@ -119,7 +119,7 @@ impl Draft {
         ensures { SettlesTo self result }
     {
         let Draft { title, objects } = self;
-        let (depths, counts) = settle_pairs(alloc, &objects)?;
-        Ok(Directory::of_parts(title, objects, depths, counts))
+        let contents = settle_pairs(alloc, objects)?;
+        Ok(Directory::of_parts(alloc, title, contents))
     }
 }

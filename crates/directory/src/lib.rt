@@ -1,19 +1,17 @@
 //! The directory: a title and a list of named objects, without cycles and at most sixteen combinations deep.
 #![tactic(auto)]
 
-mod counted;
-mod counts;
+mod contents;
 mod depths;
 mod directory;
 mod draft;
-mod edits;
 mod fault;
+mod levels;
 mod limit;
-mod members;
 mod recall;
+mod relax;
 mod settling;
 mod walk;
-mod whole;
 
 pub use directory::Directory;
 pub use draft::{Draft, DraftFault};

@@ -1,9 +1,6 @@
 ghost use Rattle.std.specs.Prelude.{◌≡◌};
 ghost use Rattle.directory.specs.Walks.{most_objects, most_depth};
 
-/// The greatest number of objects.
-pub(crate) const OBJECTS: usize = 65_535;
-
 /// The greatest number of combinations on a walk.
 pub(crate) const DEPTH: u8 = 16;
 

@@ -1,23 +1,24 @@
 //! A gathered list is judged as a whole: its depths are found at once, and where it may not stand, the first pair that makes
 //! it so is found by halving.
 ghost use Rattle.std.specs.Prelude.{◌≡◌, ◌<◌, ◌≤◌, ◌+◌, true, false, length, take, Some, OnOk, IfOk, IfErr};
-ghost use Rattle.directory.specs.Counting.{AreCounts, AreFew};
+ghost use Rattle.object_pages.specs.Entries.{AreFew};
+ghost use Rattle.directory.specs.Depths.{AreDepths};
 ghost use Rattle.directory.specs.Drafts.{gather_fault, IsFirstRefused, IsRefused};
 ghost use Rattle.directory.specs.Edits.{appended, judged, Follows};
 ghost use Rattle.directory.specs.Places.{known_depths};
 ghost use Rattle.directory.specs.Walks.{IsSound, deepest, most_depth, most_objects};
 
-use crate::counts::Counts;
-use crate::depths::{UNBOUNDED, greatest};
+use crate::contents::Contents;
+use crate::depths::Depths;
 use crate::draft::DraftFault;
-use crate::edits::push_new;
 use crate::fault::DirFault;
-use crate::limit::{DEPTH, OBJECTS};
-use crate::members::nodes_of;
+use crate::levels::{UNBOUNDED, greatest};
+use crate::limit::DEPTH;
 use crate::walk::find_first;
 use indexmap::IndexMap;
 use memory_core::Memory;
 use name_core::Name;
+use object_pages::{OBJECTS, ObjectPages, nodes_of};
 use object_set::Object;
 use std::alloc::Global;
 
@@ -40,8 +41,8 @@ pub(crate) fn gather(
     if objects.len() >= OBJECTS {
         return Err(DirFault::Full);
     }
-    match push_new(objects, *name, object) {
-        Ok(()) => Ok(()),
+    match objects.insert(*name, object) {
+        Ok(_) => Ok(()),
         Err(_) => Err(DirFault::Memory),
     }
 }
@@ -148,57 +149,57 @@ fn first_refused(objects: &IndexMap<Name, Object>, depths: &mut Vec<u8>) -> Draf
     }
 }
 
-/// Counts the leaves of the object at the place once more.
-fn count_at(
-    objects: &IndexMap<Name, Object>,
-    counts: &mut Counts,
-    place: usize,
-) -> Result<(), Memory>
-    requires small { length objects.now.entries ≤ most_objects }
-    requires few { AreFew objects.now.entries }
-    requires within { place < length objects.now.entries }
-    requires counted { AreCounts (take place objects.now.entries) counts.old }
-    ensures { OnOk result (AreCounts (take (place + 1) objects.now.entries) counts.new) }
+/// The list on pages.
+fn list_of(alloc: Global, objects: IndexMap<Name, Object>) -> Result<ObjectPages, Memory>
+    requires small { length objects.entries ≤ most_objects }
+    requires few { AreFew objects.entries }
+    ensures { IfOk result (λ l. l ≡ objects.entries) }
 {
-    match objects.get_index(place) {
-        Some((_name, object)) => {
-            counts.make_places(object)?;
-            counts.add(object);
-            Ok(())
-        }
-        None => unreachable!(),
+    let _count = objects.len();
+    let mut list = ObjectPages::new(alloc);
+    for (name, object) in objects {
+        list = list.append(alloc, &name, object)?;
     }
+    Ok(list)
 }
 
-/// How many leaves of the list have each name.
-fn counts_of(alloc: Global, objects: &IndexMap<Name, Object>) -> Result<Counts, Memory>
-    requires small { length objects.now.entries ≤ most_objects }
-    requires few { AreFew objects.now.entries }
-    ensures { IfOk result (λ counts. AreCounts objects.now.entries counts) }
-{
-    let mut counts = Counts::new(alloc);
-    for place in 0..objects.len() {
-        count_at(objects, &mut counts, place)?;
-    }
-    Ok(counts)
-}
-
-/// The depths and the counts of a list that may stand, or its first pair that may not be put behind those before it.
-pub(crate) fn settle_pairs(
+/// The depths by name of those by place.
+fn depths_of(
     alloc: Global,
     objects: &IndexMap<Name, Object>,
-) -> Result<(Vec<u8>, Counts), DraftFault>
-    requires small { length objects.now.entries ≤ most_objects }
-    requires few { AreFew objects.now.entries }
-    ensures sound { OnOk result (IsSound objects.now.entries) }
-    ensures known { IfOk result (λ found. found.0.items ≡ known_depths objects.now.entries) }
-    ensures counted { IfOk result (λ found. AreCounts objects.now.entries found.1) }
-    ensures refused { IfErr result (λ fault. IsRefused objects.now.entries fault) }
+    depths: &[u8],
+) -> Result<Depths, Memory>
+    requires { depths.now ≡ known_depths objects.now.entries }
+    ensures { IfOk result (λ levels. AreDepths objects.now.entries levels) }
+{
+    let _count = objects.len();
+    let mut levels = Depths::new(alloc);
+    for place in 0..depths.len() {
+        if let Some((name, _object)) = objects.get_index(place) {
+            if depths[place] > 0 {
+                levels = levels.set(alloc, name, depths[place])?;
+            }
+        }
+    }
+    Ok(levels)
+}
+
+/// The contents of a list that may stand, or its first pair that may not be put behind those before it.
+pub(crate) fn settle_pairs(
+    alloc: Global,
+    objects: IndexMap<Name, Object>,
+) -> Result<Contents, DraftFault>
+    requires small { length objects.entries ≤ most_objects }
+    requires few { AreFew objects.entries }
+    ensures sound { OnOk result (IsSound objects.entries) }
+    ensures list { IfOk result (λ c. c ≡ objects.entries) }
+    ensures refused { IfErr result (λ fault. IsRefused objects.entries fault) }
 {
     let mut depths = unknown_depths(alloc, objects.len())?;
-    if !all_stand(objects, &mut depths) {
-        return Err(first_refused(objects, &mut depths));
+    if !all_stand(&objects, &mut depths) {
+        return Err(first_refused(&objects, &mut depths));
     }
-    let counts = counts_of(alloc, objects)?;
-    Ok((depths, counts))
+    let levels = depths_of(alloc, &objects, &depths)?;
+    let list = list_of(alloc, objects)?;
+    Ok(Contents::of_parts(list, levels))
 }

@@ -1,14 +1,13 @@
 //! Depths of the first objects of a list, found by one walk down, which visits each combination at most once. To it a name
 //! whose object comes later is a name without one.
-ghost use Rattle.std.specs.Prelude.{◌≡◌, ◌<◌, ◌≤◌, true, false, length, take, None, slice_get, slice_index, IsSome};
+ghost use Rattle.std.specs.Prelude.{◌≡◌, ◌<◌, ◌≤◌, true, false, length, take, slice_get, slice_index, IsSome};
 ghost use Rattle.name_core.specs.declared.name.Name.{Name};
 ghost use Rattle.object_set.specs.Objects.{Parts};
 ghost use Rattle.directory.specs.Walks.{unbounded, depth_within, deepest};
-ghost use Rattle.directory.specs.Edits.{judged};
-ghost use Rattle.directory.specs.Places.{name_of_node, node_names, names_within, object_within, known_depths, Finds, AreFound, KeepsFound};
+ghost use Rattle.object_pages.specs.Members.{name_of_node, node_names};
+ghost use Rattle.directory.specs.Places.{names_within, object_within, known_depths, Finds, AreFound, KeepsFound};
 
-use crate::depths::{UNBOUNDED, judge, larger};
-use crate::fault::DirFault;
+use crate::levels::{UNBOUNDED, larger};
 use comb_tree::CombNode;
 use indexmap::IndexMap;
 use name_core::Name;
@@ -176,41 +175,4 @@ pub(crate) fn find_first(objects: &IndexMap<Name, Object>, depths: &mut [u8], co
         }
     }
     true
-}
-
-/// Finds the depths of all objects, and says whether none of them is over 33.
-fn find_all(objects: &IndexMap<Name, Object>, depths: &mut [u8]) -> bool
-    requires { length depths.old ≡ length objects.now.entries }
-    ensures known { result ≡ true → depths.new ≡ known_depths objects.now.entries }
-    ensures shallow { result ≡ true → deepest objects.now.entries < unbounded }
-    ensures cycle { result ≡ false → unbounded ≤ deepest objects.now.entries }
-{
-    find_first(objects, depths, objects.len())
-}
-
-/// Finds the depths of all objects, and why they may not stand after an edit of the name.
-pub(crate) fn settle(
-    objects: &IndexMap<Name, Object>,
-    depths: &mut Vec<u8>,
-    edited: &Name,
-) -> Option<DirFault>
-    requires { length depths.old.items ≡ length objects.now.entries }
-    ensures fault { result ≡ judged objects.now.entries edited.now }
-    ensures known { result ≡ None → depths.new.items ≡ known_depths objects.now.entries }
-    ensures len { length depths.new.items ≡ length objects.now.entries }
-{
-    if find_all(objects, depths.as_mut_slice()) {
-        judge(depths)
-    } else {
-        Some(DirFault::Cycle(*edited))
-    }
-}
-
-/// Finds the depths of all objects, among which there is no cycle.
-pub(crate) fn resettle(objects: &IndexMap<Name, Object>, depths: &mut Vec<u8>)
-    requires len { length depths.old.items ≡ length objects.now.entries }
-    requires shallow { deepest objects.now.entries < unbounded }
-    ensures { depths.new.items ≡ known_depths objects.now.entries }
-{
-    let _found = find_all(objects, depths.as_mut_slice());
 }

@@ -26,8 +26,9 @@ use Rattle.directory.specs.Listing.{Listing}
 use Rattle.directory.specs.Walks.{Entries, object_of, members_of, comb_weight, HasCycleThrough, IsSound, most_objects, most_depth, unbounded, deepest}
 use Rattle.directory.specs.Edits.{first_of, judged_by, judged, appended, put_fault, replaced, replace_fault, Follows}
 use Rattle.directory.specs.Edits as of_directory
-use Rattle.directory.proofs.WalkLemmas.{same_or_apart}
-use Rattle.directory.proofs.EditLemmas.{same_away, IsWithin, within_sound, replace_there, replace_other, length-replaced}
+use Rattle.object_pages.proofs.EntryLemmas.{same_or_apart}
+use Rattle.directory.proofs.EditLemmas.{same_away, IsWithin, within_sound}
+use Rattle.object_pages.proofs.EntryLemmas.{replace_there, replace_other, length-replaced}
 use Rattle.directory.proofs.TellLemmas.{judged_cycle, judged_deep, replace_rest}
 use Rattle.edit_core.specs.ListForms.{list_of}
 use Rattle.edit_core.specs.Edits.{object_at, own_list, set_object, extended, tree_at, made}

@@ -8,5 +8,3 @@ mod adapters;
 mod counting;
 #[cfg(test)]
 mod gates;
-#[cfg(test)]
-mod sharing;

@@ -7,7 +7,7 @@ use Rattle.std.specs.Result.{result_ok}
 use Rattle.transcript.proofs.Readable.{IfSomeKeeps}
 use Rattle.name_core.specs.declared.name.Name.{Name}
 use Rattle.name_core.specs.Same.{same_name}
-use Rattle.directory.proofs.WalkLemmas.{name_tells}
+use Rattle.shared_pages.proofs.NameLemmas.{name_tells}
 use Rattle.transcript.specs.Lines.{Lacks, text_of, ended}
 use Rattle.transcript.proofs.LineLaws.{lacks_append}
 use Rattle.transcript.proofs.TranscriptLaws.{computed}

@@ -59,16 +59,13 @@ module _ {K X : Type 0} (test : K → Bool) where
       by true is rest = let wrong : Some e.1 ≡ None = rw is at h in cc
       by false is rest = let later = rest (rw is at h) in rw is later
 
-  removed_short : (es : List (K × X)) → length (remove_entry test es) ≤ length es
-  removed_short [] = omega arith
-  removed_short (e ∷ es) = by (test e.0) refl (removed_short es)
+  pub removed_one : (es : List (K × X)) → IsSome (lookup test es) → length (remove_entry test es) + 1 ≡ length es
+  removed_one [] h = cc
+  removed_one (e ∷ es) h = by (test e.0) refl (λ later. removed_one es later)
     where
-      by : (t : Bool) → test e.0 ≡ t → length (remove_entry test es) ≤ length es → length (remove_entry test (e ∷ es)) ≤ length (e ∷ es)
+      by : (t : Bool) → test e.0 ≡ t → (IsSome (lookup test es) → length (remove_entry test es) + 1 ≡ length es) → length (remove_entry test (e ∷ es)) + 1 ≡ length (e ∷ es)
       by true is rest = rw is (omega arith)
-      by false is rest = rw is (omega (arith, rest))
-
-  pub removed_within : (most : ℕ) (es : List (K × X)) → length es ≤ most → length (remove_entry test es) ≤ most
-  removed_within most es le = omega (arith, le, removed_short es)
+      by false is rest = let later = rest (rw is at h) in rw is (omega (arith, later))
 
 module _ {V : Type 0} where
   pub inserted_there : (es : List (Name × V)) (a : Name) (v : V) → IsSome (lookup (same_name a) es) → insert_entry same_name es a v ≡ set_value (same_name a) es v

@@ -90,27 +90,6 @@ module _ {V : Type 0} where
   pub page_least : (pages : Pages V) (count n : ℕ) (ps : List (Name × V)) → ArePages pages count → lookup (nat_eq n) pages ≡ Some ps → length ps ≤ count
   page_least pages count n ps h there = omega (arith, h.count_is, count_removed (nat_eq n) pages ps there)
 
-  -- where there is no such page, nothing changes
-  missing_removed : (test : ℕ → Bool) (pages : Pages V) → lookup test pages ≡ None → remove_entry test pages ≡ pages
-  missing_removed test [] h = refl
-  missing_removed test (p ∷ pages) h = by (test p.0) refl (λ later. missing_removed test pages later)
-    where
-      by : (t : Bool) → test p.0 ≡ t → (lookup test pages ≡ None → remove_entry test pages ≡ pages) → remove_entry test (p ∷ pages) ≡ p ∷ pages
-      by true e rest = let wrong : Some p.1 ≡ None = rw e at h in cc
-      by false e rest = let later = rest (rw e at h) in rw e (ap (λ (l : Pages V). p ∷ l) later)
-
-  missing_set : (test : ℕ → Bool) (pages : Pages V) (qs : List (Name × V)) → lookup test pages ≡ None → set_value test pages qs ≡ pages
-  missing_set test [] qs h = refl
-  missing_set test (p ∷ pages) qs h = by (test p.0) refl (λ later. missing_set test pages qs later)
-    where
-      by : (t : Bool) → test p.0 ≡ t → (lookup test pages ≡ None → set_value test pages qs ≡ pages) → set_value test (p ∷ pages) qs ≡ p ∷ pages
-      by true e rest = let wrong : Some p.1 ≡ None = rw e at h in cc
-      by false e rest = let later = rest (rw e at h) in rw e (ap (λ (l : Pages V). p ∷ l) later)
-
-  pub missing_page : (pages : Pages V) (n : ℕ) (qs : List (Name × V)) → lookup (nat_eq n) pages ≡ None → set_page pages n qs ≡ pages
-  missing_page pages n [] h = missing_removed (nat_eq n) pages h
-  missing_page pages n (q ∷ qs) h = missing_set (nat_eq n) pages (q ∷ qs) h
-
   -- ---- a pair more at the end
   pub pairs_pushed : (pages : Pages V) (a : Name) (v : V) → pairs_of (pushed pages a v) ≡ pairs_of pages ++ (a, v) ∷ []
   pairs_pushed [] a v = refl

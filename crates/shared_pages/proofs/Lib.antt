@@ -2,6 +2,7 @@ pub mod DistinctPages
 pub mod KeptPages
 pub mod MapLemmas
 pub mod NameLemmas
+pub mod NamedPages
 pub mod PageLemmas
 pub mod PageOfLemmas
 pub mod PlaceLemmas

@@ -6,7 +6,8 @@ use Rattle.std.proofs.lemmas.Map.{lookup-remove_entry}
 use Rattle.indexmap.specs.IndexMap.{insert_entry}
 use Rattle.name_core.specs.declared.name.Name.{Name}
 use Rattle.name_core.specs.Same.{same_name, same_name_decides, same_name_equiv}
-use Rattle.shared_pages.specs.Buckets.{Shelves, PutsBucket, bucket_at, shelf_of, bucket_of}
+use Rattle.shared_pages.specs.Buckets.{Shelves, bucket_at, shelf_of, bucket_of}
+use Rattle.shared_pages.proofs.PlaceLemmas.{PutsBucket}
 
 -- two names are one or apart
 pub name_tells : (a b : Name) → ((same_name a b ≡ true) × (a ≡ b)) ⊎ ((same_name a b ≡ false) × (a ≢ b))

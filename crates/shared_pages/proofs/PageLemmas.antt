@@ -1,10 +1,12 @@
-use Rattle.std.proofs.Common.{◌≡◌, ◌≢◌, ◌⊎◌, inl, inr, ◌<◌, ◌≤◌, ◌+◌, ◌∙◌, ℕ, zero, suc, Bool, true, false, List, [], ◌∷◌, length, remove, nat_eq, nat_lt, refl, ap, sym, arith, ne_eqb, None, Some}
-use Rattle.std.specs.Prelude.{slice_get, slice_set}
+use Rattle.std.proofs.Common.{◌≡◌, ◌≢◌, ◌⊎◌, inl, inr, ◌<◌, ◌≤◌, ◌+◌, ◌∙◌, ℕ, zero, suc, Bool, true, false, List, [], ◌∷◌, length, remove, nat_eq, nat_lt, refl, ap, sym, arith, ne_eqb, Option, None, Some, IsSome}
+use Rattle.std.specs.Prelude.{slice_get, slice_set, slice_index_or}
 use Rattle.std.specs.Option.{unwrap_or}
 use Rattle.std.specs.Map.{lookup, set_value, remove_entry}
 use Rattle.std.proofs.lemmas.Bool.{cases_eq, eq-eqb, ltb-false, ltb-true}
+use Rattle.std.proofs.lemmas.List.{set-set}
 use Rattle.name_core.specs.declared.name.Name.{Name}
-use Rattle.shared_pages.specs.Pages.{Pages, page_of, set_page, RiseFrom, IsPlace, AreBelow, AreFrom, StandsFrom}
+use Rattle.shared_pages.specs.Pages.{Pages, page_of, set_page, put_at, RiseFrom, IsPlace, AreBelow, AreFrom, StandsFrom}
+use Rattle.shared_pages.proofs.PlaceLemmas.{some_there}
 
 pub cases_lt : (a b : ℕ) → (a < b) ⊎ (b ≤ a)
 cases_lt a b = by (nat_lt a b) refl
@@ -57,7 +59,7 @@ module _ {V : Type 0} where
   pub none_past : (pages : Pages V) (n i : ℕ) → StandsFrom pages n i → None ≡ slice_get pages i → lookup (nat_eq n) pages ≡ None
   none_past pages n i h none =
       none_by pages n (λ k q at is. elim (cases_lt k i) [
-        | inl lt ↦ omega (arith, h.0 k q at lt, is)
+        | inl lt ↦ omega (arith, h.1 k q at lt, is)
         | inr le ↦ some_before pages i k q (sym none) le at
       ])
 
@@ -65,12 +67,9 @@ module _ {V : Type 0} where
   pub other_there : (pages : Pages V) (n i : ℕ) (p : ℕ × List (Name × V)) → RiseFrom 0 pages → StandsFrom pages n i → Some p ≡ slice_get pages i → p.0 ≢ n → lookup (nat_eq n) pages ≡ None
   other_there pages n i p rise h at apart =
       none_by pages n (λ k q there is. elim (cases_lt k i) [
-        | inl lt ↦ omega (arith, h.0 k q there lt, is)
-        | inr le ↦ apart (omega (arith, h.1 i p (sym at) (omega arith), at_most_at pages i k p q rise (sym at) there le, is))
+        | inl lt ↦ omega (arith, h.1 k q there lt, is)
+        | inr le ↦ apart (omega (arith, h.2 i p (sym at) (omega arith), at_most_at pages i k p q rise (sym at) there le, is))
       ])
-
-  pub place_there : (pages : Pages V) (n i : ℕ) (p : ℕ × List (Name × V)) → Some p ≡ slice_get pages i → p.0 ≡ n → IsPlace pages n (Some i)
-  place_there pages n i p at is = (p.1, sym at ∙ ap (λ m. Some (m, p.1)) is)
 
   -- ---- what is done at the place is done at the number
   pub lookup_at : (pages : Pages V) (least n i : ℕ) (ps : List (Name × V)) → RiseFrom least pages → slice_get pages i ≡ Some (n, ps) → lookup (nat_eq n) pages ≡ Some ps
@@ -99,13 +98,32 @@ module _ {V : Type 0} where
       let less : p.0 + 1 ≤ n = least_at pages (p.0 + 1) i (n, ps) h.1 at in
       rw (ne_eqb n p.0 (λ e. omega (arith, less, e))) (ap (λ (l : Pages V). p ∷ l) (removed_at pages (p.0 + 1) n i ps h.1 at))
 
-  pub put_none : (pages : Pages V) (n i : ℕ) (qs : List (Name × V)) → RiseFrom 0 pages → IsPlace pages n (Some i) → length qs ≡ 0 → remove pages i ≡ set_page pages n qs
-  put_none pages n i [] h there is = removed_at pages 0 n i there.0 h there.1
-  put_none pages n i (q ∷ qs) h there is = absurd (omega (arith, is))
+  pub put_there : (pages : Pages V) (n i : ℕ) (qs : List (Name × V)) → RiseFrom 0 pages → IsPlace pages n (Some i) → put_at pages i n qs ≡ set_page pages n qs
+  put_there pages n i [] h there = removed_at pages 0 n i there.0 h there.1
+  put_there pages n i (q ∷ qs) h there = set_at pages 0 n i there.0 (q ∷ qs) h there.1
 
-  pub put_some : (pages : Pages V) (n i : ℕ) (qs : List (Name × V)) → RiseFrom 0 pages → IsPlace pages n (Some i) → length qs ≢ 0 → slice_set pages i (n, qs) ≡ set_page pages n qs
-  put_some pages n i [] h there some = absurd (some refl)
-  put_some pages n i (q ∷ qs) h there some = set_at pages 0 n i there.0 (q ∷ qs) h there.1
+  -- another page at the place before makes no difference
+  removed_again : (pages : Pages V) (i : ℕ) (p : ℕ × List (Name × V)) → remove (slice_set pages i p) i ≡ remove pages i
+  removed_again [] i p = refl
+  removed_again (q ∷ pages) zero p = refl
+  removed_again (q ∷ pages) (suc i) p = ap (λ (l : Pages V). q ∷ l) (removed_again pages i p)
+
+  pub put_again : (pages : Pages V) (n i : ℕ) (qs : List (Name × V)) (p : ℕ × List (Name × V)) → put_at (slice_set pages i p) i n qs ≡ put_at pages i n qs
+  put_again pages n i [] p = removed_again pages i p
+  put_again pages n i (q ∷ qs) p = set-set pages i p (n, q ∷ qs)
+
+  pub put_none : (pages : Pages V) (n i : ℕ) (qs : List (Name × V)) → length qs ≡ 0 → remove pages i ≡ put_at pages i n qs
+  put_none pages n i [] is = refl
+  put_none pages n i (q ∷ qs) is = absurd (omega (arith, is))
+
+  pub put_some : (pages : Pages V) (n i : ℕ) (qs : List (Name × V)) → length qs ≢ 0 → slice_set pages i (n, qs) ≡ put_at pages i n qs
+  put_some pages n i [] some = absurd (some refl)
+  put_some pages n i (q ∷ qs) some = refl
+
+  -- the page at the place of a number
+  pub page_there : (pages : Pages V) (n i : ℕ) (d : ℕ × List (Name × V)) → RiseFrom 0 pages → IsPlace pages n (Some i) → slice_index_or pages i d ≡ (n, page_of pages n)
+  page_there pages n i d h there =
+      sym (some_there d pages i (n, there.0) (sym there.1)) ∙ ap (λ (o : Option (List (Name × V))). (n, unwrap_or o [])) (sym (lookup_at pages 0 n i there.0 h there.1))
 
   pub place_within : (pages : Pages V) (n i : ℕ) → IsPlace pages n (Some i) → i < length pages
   place_within pages n i there = by pages i (n, there.0) there.1
@@ -122,3 +140,10 @@ module _ {V : Type 0} where
   there_is pages n i h there =
       let is : lookup (nat_eq n) pages ≡ Some there.0 = lookup_at pages 0 n i there.0 h there.1 in
       is ∙ ap (λ o. Some (unwrap_or o [])) (sym is)
+
+  pub found_is : (pages : Pages V) (n : ℕ) → IsSome (lookup (nat_eq n) pages) → lookup (nat_eq n) pages ≡ Some (page_of pages n)
+  found_is pages n there = by (lookup (nat_eq n) pages) there
+    where
+      by : (o : Option (List (Name × V))) → IsSome o → o ≡ Some (unwrap_or o [])
+      by None h = cc
+      by (Some ps) h = refl

@@ -119,3 +119,21 @@ module _ {V : Type 0} where
           by true e = rw e refl
           by false e = rw e refl
       last_behind p (q ∷ r ∷ pages) a v = refl
+
+  pub page_of_pushed : (pages : Pages V) (a : Name) (v : V) (n m : ℕ) → RiseFrom 0 pages → n ≡ last_number (pushed pages a v)
+      → page_of (pushed pages a v) m ≡ cond (nat_eq n m) (page_of pages m ++ (a, v) ∷ []) (page_of pages m)
+  page_of_pushed [] a v n m h is = let first : n ≡ 0 = is in elim (cases_eq m 0) [
+    | inl here ↦ rw (first, eq-eqb m 0 here, eq-eqb 0 m (sym here)) refl
+    | inr other ↦ rw (first, ne_eqb m 0 other, ne_eqb 0 m (λ e. other (sym e))) refl
+  ]
+  page_of_pushed (p ∷ pages) a v n m h is =
+      page_pushed p pages a v m 0 h
+      ∙ ap (λ b. cond b (page_of (p ∷ pages) m ++ (a, v) ∷ []) (page_of (p ∷ pages) m)) (same_back m (last_number (pushed (p ∷ pages) a v)) ∙ ap (λ k. nat_eq k m) (sym is))
+
+  -- a name on the page of a number
+  pub page_is : (pages : Pages V) (n : ℕ) (a : Name) → IsSome (lookup (same_name a) (page_of pages n)) → IsSome (lookup (nat_eq n) pages)
+  page_is pages n a h = by (lookup (nat_eq n) pages) h
+    where
+      by : (o : Option (List (Name × V))) → IsSome (lookup (same_name a) (unwrap_or o [])) → IsSome o
+      by None there = cc
+      by (Some ps) there = refl

@@ -1,10 +1,18 @@
-use Rattle.std.proofs.Common.{◌≡◌, ◌≢◌, inl, inr, ◌<◌, ◌∙◌, ℕ, zero, suc, List, [], ◌∷◌, ◌++◌, length, refl, ap, sym, None, Some}
+use Rattle.std.proofs.Common.{◌≡◌, ◌≢◌, ◌⊎◌, inl, inr, ◌<◌, ◌∙◌, ℕ, zero, suc, List, [], ◌∷◌, length, refl, ap, sym, None, Some, Result, Ok, Err, OnOk}
 use Rattle.std.specs.Prelude.{slice_get, slice_set, slice_index_or}
 use Rattle.std.specs.Option.{unwrap_or}
 use Rattle.std.proofs.lemmas.Bool.{cases_eq}
 use Rattle.std.proofs.lemmas.List.{get_or-set_same, get_or-set_other}
 use Rattle.name_core.specs.declared.name.Name.{Name}
-use Rattle.shared_pages.specs.Buckets.{PutsAt, PutsBucket, bucket_at}
+use Rattle.shared_pages.specs.Buckets.{Shelves, bucket_at}
+
+-- new has v at the place, and at each other place what old has, where d stands past the ends
+abbrev pub PutsAt : {A : Type 0} → A → List A → ℕ → A → List A → Type 0
+PutsAt d old i v new = (slice_index_or new i d ≡ v) × ((k : ℕ) → k ≢ i → slice_index_or new k d ≡ slice_index_or old k d)
+
+-- new has this bucket at the place, and at each other place what old has
+abbrev pub PutsBucket : {V : Type 0} → Shelves V → ℕ → ℕ → List (Name × V) → Shelves V → Type 0
+PutsBucket old i j bucket new = (bucket_at new i j ≡ bucket) × ((x y : ℕ) → (x ≢ i) ⊎ (y ≢ j) → bucket_at new x y ≡ bucket_at old x y)
 
 -- ---- places past the end are empty
 module _ {A : Type 0} (d : A) where
@@ -23,13 +31,6 @@ module _ {A : Type 0} (d : A) where
   read_there (x ∷ xs) zero = refl
   read_there (x ∷ xs) (suc i) = read_there xs i
 
-  -- an empty one more
-  pub one_more : (xs : List A) (i : ℕ) → slice_index_or (xs ++ d ∷ []) i d ≡ slice_index_or xs i d
-  one_more [] zero = refl
-  one_more [] (suc i) = refl
-  one_more (x ∷ xs) zero = refl
-  one_more (x ∷ xs) (suc i) = one_more xs i
-
   -- a value put into a list that has the same at the other places
   pub puts_set : (old xs new : List A) (p : ℕ) (v : A) → ((i : ℕ) → i ≢ p → slice_index_or xs i d ≡ slice_index_or old i d) → p < length xs → new ≡ slice_set xs p v → PutsAt d old p v new
   puts_set old xs new p v same lt is = (
@@ -37,9 +38,14 @@ module _ {A : Type 0} (d : A) where
     λ k apart. ap (λ l. slice_index_or l k d) is ∙ get_or-set_other xs p k v d apart ∙ same k apart,
   )
 
+-- ---- what holds whatever came of it
+pub always : {X E P : Type 0} (r : Result X E) → P → OnOk r P
+always (Ok x) h = h
+always (Err e) h = tt
+
 -- ---- a bucket on a shelf
 module _ {V : Type 0} where
-  pub puts_bucket : (old new : List (List (List (Name × V)))) (shelf next : List (List (Name × V))) (i j : ℕ) (bucket : List (Name × V))
+  pub puts_bucket : (old new : Shelves V) (shelf next : List (List (Name × V))) (i j : ℕ) (bucket : List (Name × V))
       → shelf ≡ slice_index_or old i [] → PutsAt [] shelf j bucket next → PutsAt [] old i next new → PutsBucket old i j bucket new
   puts_bucket old new shelf next i j bucket is inner outer = (
     ap (λ l. slice_index_or l j []) outer.0 ∙ inner.0,
@@ -53,3 +59,11 @@ module _ {V : Type 0} where
       ]
     ],
   )
+
+  -- both put back after they were taken out
+  pub back_in : (old taken : Shelves V) (shelf left : List (List (Name × V))) (i j : ℕ) (bucket : List (Name × V)) (new : Shelves V)
+      → shelf ≡ slice_index_or old i [] → ((k : ℕ) → k ≢ i → slice_index_or taken k [] ≡ slice_index_or old k []) → i < length taken
+      → ((k : ℕ) → k ≢ j → slice_index_or left k [] ≡ slice_index_or shelf k []) → j < length left → new ≡ slice_set taken i (slice_set left j bucket) → PutsBucket old i j bucket new
+  back_in old taken shelf left i j bucket new is others there beside within put =
+      puts_bucket old new shelf (slice_set left j bucket) i j bucket is (puts_set [] shelf left (slice_set left j bucket) j bucket beside within refl)
+      (puts_set [] old taken new i (slice_set left j bucket) others there put)

@@ -1,5 +1,5 @@
 -- Where the value of a name stands: in a bucket on a shelf.
-use Rattle.std.specs.Prelude.{ℕ, ◌+◌, ◌*◌, ◌/◌, ◌%◌, ◌≡◌, ◌≢◌, ◌⊎◌, fold, cond, List, [], slice_index_or, Option}
+use Rattle.std.specs.Prelude.{ℕ, ◌+◌, ◌*◌, ◌/◌, ◌%◌, ◌≡◌, fold, cond, List, [], slice_index_or, Option}
 use Rattle.std.specs.Map.{lookup}
 use Rattle.name_core.specs.declared.name.Name.{Name}
 use Rattle.name_core.specs.Same.{same_name}
@@ -20,10 +20,6 @@ shelf_of a = name_number a % 32
 abbrev pub bucket_of : Name → ℕ
 bucket_of a = name_number a / 32 % 32
 
--- new has v at the place, and at each other place what old has, where d stands past the ends
-abbrev pub PutsAt : {A : Type 0} → A → List A → ℕ → A → List A → Type 0
-PutsAt d old i v new = (slice_index_or new i d ≡ v) × ((k : ℕ) → k ≢ i → slice_index_or new k d ≡ slice_index_or old k d)
-
 -- the pairs of a map, bucket by bucket on each shelf
 abbrev pub Shelves : Type 0 → Type 0
 Shelves V = List (List (List (Name × V)))
@@ -32,10 +28,6 @@ module _ {V : Type 0} where
   -- the pairs of a bucket, none where the lists end before it
   abbrev pub bucket_at : Shelves V → ℕ → ℕ → List (Name × V)
   bucket_at shelves i j = slice_index_or (slice_index_or shelves i []) j []
-
-  -- new has this bucket at the place, and at each other place what old has
-  abbrev pub PutsBucket : Shelves V → ℕ → ℕ → List (Name × V) → Shelves V → Type 0
-  PutsBucket old i j bucket new = (bucket_at new i j ≡ bucket) × ((x y : ℕ) → (x ≢ i) ⊎ (y ≢ j) → bucket_at new x y ≡ bucket_at old x y)
 
   -- the value of a name
   abbrev pub value_of : Shelves V → Name → Option V

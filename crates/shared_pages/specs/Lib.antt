@@ -1,3 +1,4 @@
 pub mod Buckets
+pub mod Examples
 pub mod Pages
 pub mod Sharing

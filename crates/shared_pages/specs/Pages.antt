@@ -1,5 +1,5 @@
 -- Pairs on pages, each page under its number.
-use Rattle.std.specs.Prelude.{◌≡◌, ◌<◌, ◌≤◌, ◌+◌, ℕ, zero, suc, cond, nat_eq, nat_lt, List, [], ◌∷◌, ◌++◌, length, slice_get, Option, Some, None}
+use Rattle.std.specs.Prelude.{◌≡◌, ◌<◌, ◌≤◌, ◌+◌, ℕ, zero, suc, cond, nat_eq, nat_lt, List, [], ◌∷◌, ◌++◌, length, slice_get, slice_set, remove, Option, Some, None}
 use Rattle.std.specs.Option.{unwrap_or}
 use Rattle.std.specs.List.{AllByRecursion}
 use Rattle.std.specs.Map.{lookup, remove_entry, set_value}
@@ -33,6 +33,11 @@ module _ {V : Type 0} where
   abbrev pub set_page : Pages V → ℕ → List (Name × V) → Pages V
   set_page pages n [] = remove_entry (nat_eq n) pages
   set_page pages n (pair ∷ pairs) = set_value (nat_eq n) pages (pair ∷ pairs)
+
+  -- the pages with a page of this number and these pairs at the place, where they had another one, or without it where there are no pairs
+  abbrev pub put_at : Pages V → ℕ → ℕ → List (Name × V) → Pages V
+  put_at pages i n [] = remove pages i
+  put_at pages i n (pair ∷ pairs) = slice_set pages i (n, pair ∷ pairs)
 
   -- the number of the last page
   abbrev pub last_number : Pages V → ℕ
@@ -78,6 +83,6 @@ module _ {V : Type 0} where
   abbrev pub AreFrom : Pages V → ℕ → ℕ → Type 0
   AreFrom pages n i = (k : ℕ) (p : ℕ × List (Name × V)) → slice_get pages k ≡ Some p → i ≤ k → n ≤ p.0
 
-  -- so many pages have lesser numbers
+  -- so many pages have lesser numbers, no more than there are
   abbrev pub StandsFrom : Pages V → ℕ → ℕ → Type 0
-  StandsFrom pages n i = AreBelow pages n i × AreFrom pages n i
+  StandsFrom pages n i = (i ≤ length pages) × AreBelow pages n i × AreFrom pages n i

@@ -2,7 +2,6 @@
 #![tactic(auto)]
 
 mod blank;
-mod gathering;
 mod hash;
 mod limit;
 mod map;
@@ -10,11 +9,9 @@ mod page;
 mod page_list;
 mod pairs;
 mod put;
-mod row;
 mod search;
 mod shares;
 
-pub use gathering::Gathering;
 pub use limit::{MOST_PAIRS, limit_laws};
 pub use map::SharedMap;
 pub use page::Page;

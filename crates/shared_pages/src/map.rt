@@ -1,7 +1,7 @@
-ghost use Rattle.std.specs.Prelude.{◌≡◌, ◌<◌, None, Some, IfOk, [], slice_index_or};
+ghost use Rattle.std.specs.Prelude.{◌≡◌, ◌<◌, None, Some, IfOk, [], length, slice_index_or, slice_set};
 ghost use Rattle.std.specs.Option.{option_copied, unwrap_or};
 ghost use Rattle.name_core.specs.declared.name.Name.{Name as Bytes};
-ghost use Rattle.shared_pages.specs.Buckets.{value_of, bucket_at, shelf_of, bucket_of, Gives, PutsBucket};
+ghost use Rattle.shared_pages.specs.Buckets.{value_of, bucket_at, shelf_of, bucket_of, Gives};
 
 use crate::hash::number_of;
 use crate::pairs::Pairs;
@@ -23,8 +23,8 @@ pub(crate) struct Slot {
 pub(crate) fn slot_of(name: &Name) -> Slot
     ensures shelf { result.shelf ≡ shelf_of name.now }
     ensures bucket { result.bucket ≡ bucket_of name.now }
-    ensures small { result.shelf < 32 }
-    ensures small_too { result.bucket < 32 }
+    ensures small_shelf { result.shelf < 32 }
+    ensures small_bucket { result.bucket < 32 }
 {
     let number = number_of(name) as usize;
     Slot {
@@ -33,7 +33,9 @@ pub(crate) fn slot_of(name: &Name) -> Slot
     }
 }
 
-/// Values by name, of which a copy shares them all. Contracts see its pairs, and by `value_of` the value of each name.
+/// Values by name. A copy shares them all, and a change touches only the shelf and the bucket of its name: what a copy
+/// shares is copied first, and what none shares is changed where it stands. Contracts see its pairs, and by `value_of` the
+/// value of each name.
 #[derive(Drop)]
 pub struct SharedMap<V> {
     shelves: Shares<Shares<Pairs<V>>>,
@@ -57,13 +59,6 @@ impl<V: Drop> SharedMap<V> {
         }
     }
 
-    /// The map of these shelves.
-    pub(crate) fn of_shelves(shelves: Shares<Shares<Pairs<V>>>) -> SharedMap<V>
-        ensures { result ≡ shelves }
-    {
-        SharedMap { shelves }
-    }
-
     /// Lends the value of the name, or `None` exactly where it has none.
     pub fn get(&self, name: &Name) -> Option<&V>
         ensures { option_copied result ≡ value_of self.now name.now }
@@ -85,7 +80,7 @@ impl<V: Drop> SharedMap<V> {
         }
     }
 
-    /// The same map again. It shares every value.
+    /// The same map again. It shares every value. An `Err` is want of memory, and this map is as before.
     pub fn copy(&self) -> Result<SharedMap<V>, Memory>
         ensures { IfOk result (λ m. m ≡ self.now) }
     {
@@ -93,61 +88,48 @@ impl<V: Drop> SharedMap<V> {
         Ok(SharedMap { shelves })
     }
 
-    /// A copy of the shelf at the place, an empty one where there is none.
-    fn shelf_copy(&self, alloc: Global, shelf: usize) -> Result<Shares<Pairs<V>>, Memory>
-        ensures { IfOk result (λ s. s ≡ slice_index_or self.now shelf []) }
-    {
-        match self.shelves.get(shelf) {
-            Some(shelf) => shelf.copy(),
-            None => Ok(Shares::new(alloc)),
-        }
-    }
-
-    /// A copy of the bucket at the slot, an empty one where there is none.
-    fn bucket_copy(&self, alloc: Global, slot: &Slot) -> Result<Pairs<V>, Memory>
-        ensures { IfOk result (λ p. p ≡ bucket_at self.now slot.now.shelf slot.now.bucket) }
-    {
-        match self.bucket(slot) {
-            Some(pairs) => pairs.copy(),
-            None => Ok(Pairs::new(alloc)),
-        }
-    }
-
-    /// The map with another bucket at the slot. The other buckets are shared.
-    fn with_bucket(
-        &self,
+    /// The map in which the bucket stands on the shelf again, and the shelf among the others.
+    fn put_back(
         alloc: Global,
+        mut shelves: Shares<Shares<Pairs<V>>>,
+        mut shelf: Shares<Pairs<V>>,
         slot: &Slot,
         bucket: Pairs<V>,
     ) -> Result<SharedMap<V>, Memory>
-        requires { (slot.now.shelf < 32) × (slot.now.bucket < 32) }
-        ensures { IfOk result (PutsBucket self.now slot.now.shelf slot.now.bucket bucket) }
+        requires shelf { slot.now.shelf < length shelves }
+        requires bucket { slot.now.bucket < length shelf }
+        ensures { IfOk result (λ m. m ≡ slice_set shelves slot.now.shelf (slice_set shelf slot.now.bucket bucket)) }
     {
-        let shelf = self.shelf_copy(alloc, slot.shelf)?;
-        let shelf = shelf.with(alloc, slot.bucket, bucket)?;
-        let shelves = self.shelves.with(alloc, slot.shelf, shelf)?;
+        shelf.set(alloc, slot.bucket, bucket)?;
+        shelves.set(alloc, slot.shelf, shelf)?;
         Ok(SharedMap { shelves })
     }
 
-    /// The map in which the name has this value. All else is shared with this map, which stays as it is.
-    pub fn with(&self, alloc: Global, name: &Name, value: V) -> Result<SharedMap<V>, Memory>
-        ensures { IfOk result (Gives self.now name.now (Some value)) }
+    /// The map in which the name has this value. It takes this map over, and what copies of this map share stays as it is
+    /// for them. An `Err` is want of memory: this map and the value are gone then, and the copies are as before.
+    pub fn put(self, alloc: Global, name: &Name, value: V) -> Result<SharedMap<V>, Memory>
+        ensures { IfOk result (Gives self name.now (Some value)) }
     {
+        let SharedMap { mut shelves } = self;
         let slot = slot_of(name);
-        let mut bucket = self.bucket_copy(alloc, &slot)?;
+        let mut shelf = shelves.take(alloc, slot.shelf)?;
+        let mut bucket = shelf.take(alloc, slot.bucket)?;
         let share = Arc::new(alloc, value)?;
         bucket.insert(name, share)?;
-        self.with_bucket(alloc, &slot, bucket)
+        SharedMap::put_back(alloc, shelves, shelf, &slot, bucket)
     }
 
-    /// The map in which the name has no value. All else is shared with this map, which stays as it is.
-    pub fn without(&self, alloc: Global, name: &Name) -> Result<SharedMap<V>, Memory>
-        ensures { IfOk result (Gives self.now name.now None) }
+    /// The map in which the name has no value. It takes this map over, and what copies of this map share stays as it is for
+    /// them. An `Err` is want of memory: this map is gone then, and the copies are as before.
+    pub fn remove(self, alloc: Global, name: &Name) -> Result<SharedMap<V>, Memory>
+        ensures { IfOk result (Gives self name.now None) }
     {
+        let SharedMap { mut shelves } = self;
         let slot = slot_of(name);
-        let mut bucket = self.bucket_copy(alloc, &slot)?;
+        let mut shelf = shelves.take(alloc, slot.shelf)?;
+        let mut bucket = shelf.take(alloc, slot.bucket)?;
         let _count = bucket.len();
         bucket.remove(name);
-        self.with_bucket(alloc, &slot, bucket)
+        SharedMap::put_back(alloc, shelves, shelf, &slot, bucket)
     }
 }

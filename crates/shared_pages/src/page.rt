@@ -1,6 +1,7 @@
-ghost use Rattle.std.specs.Prelude.{◌≡◌, ◌++◌, ◌∷◌, [], None, IfOk};
+ghost use Rattle.std.specs.Prelude.{◌≡◌, ◌∷◌, [], IfOk};
 ghost use Rattle.std.specs.Arc.{arc_value};
-ghost use Rattle.std.specs.Map.{lookup};
+ghost use Rattle.std.specs.Map.{remove_entry};
+ghost use Rattle.indexmap.specs.IndexMap.{insert_entry};
 ghost use Rattle.name_core.specs.Same.{same_name};
 
 use crate::pairs::Pairs;
@@ -63,7 +64,7 @@ impl<V: Drop> Page<V> {
     }
 
     /// The same page again. It shares the values.
-    fn copy(&self) -> Result<Page<V>, Memory>
+    pub(crate) fn copy(&self) -> Result<Page<V>, Memory>
         ensures { IfOk result (λ p. p ≡ self.now) }
     {
         let pairs = self.pairs.copy()?;
@@ -83,13 +84,21 @@ impl<V: Drop> Page<V> {
         }
     }
 
-    /// This page with a pair more at the end.
-    pub(crate) fn and(self, name: &Name, value: Arc<V>) -> Result<Page<V>, Memory>
-        requires { lookup (same_name name.now) self.1 ≡ None }
-        ensures { IfOk result (λ p. p ≡ (self.0, self.1 ++ (name.now, arc_value value) ∷ [])) }
+    /// This page, on which the name has this value: in its place where it has one, else at the end.
+    pub(crate) fn with(self, name: &Name, value: Arc<V>) -> Result<Page<V>, Memory>
+        ensures { IfOk result (λ p. p ≡ (self.0, insert_entry same_name self.1 name.now (arc_value value))) }
     {
         let Page { number, mut pairs } = self;
         pairs.insert(name, value)?;
         Ok(Page { number, pairs })
+    }
+
+    /// The pairs of this page without that of the name.
+    pub(crate) fn without(self, name: &Name) -> Pairs<V>
+        ensures { result ≡ remove_entry (same_name name.now) self.1 }
+    {
+        let Page { mut pairs, .. } = self;
+        pairs.remove(name);
+        pairs
     }
 }

@@ -1,4 +1,4 @@
-ghost use Rattle.std.specs.Prelude.{◌≡◌, ◌<◌, ◌≤◌, ◌++◌, ◌∷◌, [], ℕ, List, Some, None, length, slice_get, nat_eq, IfOk, IsSome};
+ghost use Rattle.std.specs.Prelude.{◌≡◌, cond, ◌<◌, ◌≤◌, ◌++◌, ◌∷◌, [], ℕ, List, Some, None, length, slice_get, nat_eq, IfOk, IsSome};
 ghost use Rattle.std.specs.Arc.{arc_value};
 ghost use Rattle.std.specs.Option.{option_copied, option_map};
 ghost use Rattle.std.specs.List.{IsDistinct};
@@ -20,7 +20,8 @@ use std::marker::Model;
 use std::sync::Arc;
 
 /// Pairs on pages, in order, of which a copy shares all pages. A page has 1 to 128 pairs and keeps its number as long as it
-/// has one, and the numbers rise from page to page. Contracts see the pages with their numbers and pairs.
+/// has one, and the numbers rise from page to page. A change touches one page: one that a copy shares is copied first, and
+/// one that none shares is changed where it stands. Contracts see the pages with their numbers and pairs.
 #[derive(Drop)]
 pub struct PageList<V> {
     pages: Shares<Page<V>>,
@@ -66,7 +67,7 @@ impl<V: Drop> PageList<V> {
         self.pages.get(place)
     }
 
-    /// The same pages again. They are all shared.
+    /// The same pages again. They are all shared. An `Err` is want of memory, and this list is as before.
     pub fn copy(&self) -> Result<PageList<V>, Memory>
         ensures { IfOk result (λ l. l ≡ self.now) }
     {
@@ -100,31 +101,36 @@ impl<V: Drop> PageList<V> {
         }
     }
 
-    /// The list with these pairs on the page of the number, and without the page where there are none. Where there is no
-    /// such page the list is as before. All other pages are shared with this list, which stays as it is.
+    /// The list with these pairs on the page of the number, and without the page where there are none. It takes this list
+    /// over; its other pages stay shared, and the copies of this list keep the page as it was. An `Err` is want of memory:
+    /// this list and the pairs are gone then, and the copies are as before.
     pub fn with_page(
-        &self,
+        self,
         alloc: Global,
         number: u64,
         pairs: Pairs<V>,
     ) -> Result<PageList<V>, Memory>
-        requires { length pairs ≤ most_pairs }
-        ensures { IfOk result (λ l. l ≡ set_page self.now number pairs) }
+        requires small { length pairs ≤ most_pairs }
+        requires there { IsSome (lookup (nat_eq number) self) }
+        ensures list { IfOk result (λ l. l ≡ set_page self number pairs) }
+        ensures pages { IfOk result (λ l. (n : ℕ) → page_of l n ≡ cond (nat_eq number n) pairs (page_of self n)) }
     {
-        let Some(place) = place_of(&self.pages, number) else {
-            return self.copy();
-        };
         let rest = self.count - self.len_of(number);
         let Some(count) = rest.checked_add(pairs.len()) else {
             return Err(Memory);
         };
-        let mut pages = self.pages.copy()?;
-        put_page(alloc, &mut pages, place, number, pairs)?;
+        let PageList { mut pages, .. } = self;
+        match place_of(&pages, number) {
+            Some(place) => put_page(alloc, &mut pages, place, number, pairs)?,
+            None => unreachable!(),
+        }
         Ok(PageList { pages, count })
     }
 
-    /// This list with a pair more at the end, and the number of the page on which it stands. A last page that no other list
-    /// shares is not copied, so a list is gathered pair by pair at the cost of one insert each.
+    /// The list with a pair more at the end, and the number of the page on which it stands. It takes this list over. A last
+    /// page that no copy shares is not copied, so a list is gathered pair by pair at the cost of one insert each; the
+    /// copies of this list keep theirs as it was. An `Err` is want of memory, or of a number for a new page: this list and
+    /// the share of the value are gone then, and the copies are as before.
     pub fn push(
         self,
         alloc: Global,
@@ -134,6 +140,7 @@ impl<V: Drop> PageList<V> {
         requires { lookup (same_name name.now) (pairs_of self) ≡ None }
         ensures list { IfOk result (λ r. r.0 ≡ pushed self name.now (arc_value value)) }
         ensures number { IfOk result (λ r. r.1 ≡ last_number r.0) }
+        ensures pages { IfOk result (λ r. (n : ℕ) → page_of r.0 n ≡ cond (nat_eq r.1 n) (page_of self n ++ (name.now, arc_value value) ∷ []) (page_of self n)) }
         ensures pairs { IfOk result (λ r. pairs_of r.0 ≡ pairs_of self ++ (name.now, arc_value value) ∷ []) }
     {
         let PageList { mut pages, count } = self;
@@ -144,64 +151,57 @@ impl<V: Drop> PageList<V> {
         Ok((PageList { pages, count }, number))
     }
 
-    /// The list with a pair more at the end, and the number of the page on which it stands. All other pages are shared with
-    /// this list, which stays as it is.
-    pub fn pushed(
-        &self,
-        alloc: Global,
-        name: &Name,
-        value: Arc<V>,
-    ) -> Result<(PageList<V>, u64), Memory>
-        requires { lookup (same_name name.now) (pairs_of self.now) ≡ None }
-        ensures list { IfOk result (λ r. r.0 ≡ pushed self.now name.now (arc_value value)) }
-        ensures number { IfOk result (λ r. r.1 ≡ last_number r.0) }
-        ensures pairs { IfOk result (λ r. pairs_of r.0 ≡ pairs_of self.now ++ (name.now, arc_value value) ∷ []) }
-    {
-        let list = self.copy()?;
-        list.push(alloc, name, value)
-    }
-
-    /// A copy of the pairs of the page of the number, none where there is no such page.
-    fn page_copy(&self, alloc: Global, number: u64) -> Result<Pairs<V>, Memory>
-        ensures { IfOk result (λ p. p ≡ page_of self.now number) }
-    {
-        match self.page(number) {
-            Some(pairs) => pairs.copy(),
-            None => Ok(Pairs::new(alloc)),
-        }
-    }
-
-    /// The list in which a name on the page of the number has this value, in its place. All other pages are shared with
-    /// this list, which stays as it is.
+    /// The list in which a name on the page of the number has this value, in its place. It takes this list over; its other
+    /// pages stay shared, and the copies of this list keep the page as it was. An `Err` is want of memory: this list and
+    /// the share of the value are gone then, and the copies are as before.
     pub fn with(
-        &self,
+        self,
         alloc: Global,
         number: u64,
         name: &Name,
         value: Arc<V>,
     ) -> Result<PageList<V>, Memory>
-        requires { IsSome (lookup (same_name name.now) (page_of self.now number)) }
-        ensures list { IfOk result (λ l. l ≡ set_page self.now number (set_value (same_name name.now) (page_of self.now number) (arc_value value))) }
+        requires { IsSome (lookup (same_name name.now) (page_of self number)) }
+        ensures list { IfOk result (λ l. l ≡ set_page self number (set_value (same_name name.now) (page_of self number) (arc_value value))) }
+        ensures pages { IfOk result (λ l. (n : ℕ) → page_of l n ≡ cond (nat_eq number n) (set_value (same_name name.now) (page_of self number) (arc_value value)) (page_of self n)) }
 
         // The name keeps its place among all pairs, of which no two have one name.
-        ensures pairs { IfOk result (λ l. IsDistinct same_name (keys_of (pairs_of self.now)) → pairs_of l ≡ set_value (same_name name.now) (pairs_of self.now) (arc_value value)) }
+        ensures pairs { IfOk result (λ l. IsDistinct same_name (keys_of (pairs_of self)) → pairs_of l ≡ set_value (same_name name.now) (pairs_of self) (arc_value value)) }
     {
         let _count = self.len();
-        let mut pairs = self.page_copy(alloc, number)?;
-        pairs.insert(name, value)?;
-        self.with_page(alloc, number, pairs)
+        let PageList { mut pages, count } = self;
+        match place_of(&pages, number) {
+            Some(place) => {
+                let page = pages.take_at(alloc, place)?.with(name, value)?;
+                pages.set(alloc, place, page)?;
+                Ok(PageList { pages, count })
+            }
+            None => unreachable!(),
+        }
     }
 
-    /// The list without a name on the page of the number. All other pages are shared with this list, which stays as it is.
-    pub fn without(&self, alloc: Global, number: u64, name: &Name) -> Result<PageList<V>, Memory>
-        requires { IsSome (lookup (same_name name.now) (page_of self.now number)) }
-        ensures list { IfOk result (λ l. l ≡ set_page self.now number (remove_entry (same_name name.now) (page_of self.now number))) }
-        ensures pairs { IfOk result (λ l. IsDistinct same_name (keys_of (pairs_of self.now)) → pairs_of l ≡ remove_entry (same_name name.now) (pairs_of self.now)) }
+    /// The list without a name on the page of the number, and without the page where that was its last one. It takes this
+    /// list over; its other pages stay shared, and the copies of this list keep the page as it was. An `Err` is want of
+    /// memory: this list is gone then, and the copies are as before.
+    pub fn without(self, alloc: Global, number: u64, name: &Name) -> Result<PageList<V>, Memory>
+        requires { IsSome (lookup (same_name name.now) (page_of self number)) }
+        ensures list { IfOk result (λ l. l ≡ set_page self number (remove_entry (same_name name.now) (page_of self number))) }
+        ensures pages { IfOk result (λ l. (n : ℕ) → page_of l n ≡ cond (nat_eq number n) (remove_entry (same_name name.now) (page_of self number)) (page_of self n)) }
+        ensures pairs { IfOk result (λ l. IsDistinct same_name (keys_of (pairs_of self)) → pairs_of l ≡ remove_entry (same_name name.now) (pairs_of self)) }
     {
         let _count = self.len();
-        let mut pairs = self.page_copy(alloc, number)?;
-        pairs.remove(name);
-        self.with_page(alloc, number, pairs)
+        let PageList { mut pages, count } = self;
+        match place_of(&pages, number) {
+            Some(place) => {
+                let pairs = pages.take_at(alloc, place)?.without(name);
+                put_page(alloc, &mut pages, place, number, pairs)?;
+                Ok(PageList {
+                    pages,
+                    count: count - 1,
+                })
+            }
+            None => unreachable!(),
+        }
     }
 
     /// Lends the name and the value at the place among all pairs, counted from 0, or `None` exactly past the end. It walks

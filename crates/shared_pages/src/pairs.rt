@@ -59,6 +59,17 @@ impl<V: Drop> Pairs<V> {
         }
     }
 
+    /// Lends the share of the value at the place, counted from 0, or `None` exactly past the end. A clone of it shares the
+    /// value.
+    pub fn share_at(&self, place: usize) -> Option<&Arc<V>>
+        ensures { option_map (λ s. arc_value s.now) result ≡ option_map (λ e. e.1) (slice_get self.now place) }
+    {
+        match self.entries.get_index(place) {
+            Some((_name, value)) => Some(value),
+            None => None,
+        }
+    }
+
     /// Lends the value of the name, or `None` exactly where it has none.
     pub fn get(&self, name: &Name) -> Option<&V>
         ensures { option_copied result ≡ lookup (same_name name.now) self.now }
@@ -69,7 +80,7 @@ impl<V: Drop> Pairs<V> {
         }
     }
 
-    /// The same pairs again. They share every value.
+    /// The same pairs again. They share every value. An `Err` is want of memory.
     pub fn copy(&self) -> Result<Pairs<V>, Memory>
         ensures { IfOk result (λ p. p ≡ self.now) }
     {
@@ -77,7 +88,8 @@ impl<V: Drop> Pairs<V> {
         Ok(Pairs { entries })
     }
 
-    /// Gives the name this value: in its place where it has one, else at the end.
+    /// Gives the name this value: in its place where it has one, else at the end. An `Err` is want of memory: the pairs are
+    /// as before then, and this share of the value is gone.
     pub fn insert(&mut self, name: &Name, value: Arc<V>) -> Result<(), Memory>
         ensures ok { OnOk result (self.new ≡ insert_entry same_name self.old name.now (arc_value value)) }
         ensures err { OnErr result (self.new ≡ self.old) }
@@ -86,7 +98,7 @@ impl<V: Drop> Pairs<V> {
         Ok(())
     }
 
-    /// Takes the name and its value out, where it has one.
+    /// Takes the name and its share of the value out, where it has one.
     pub fn remove(&mut self, name: &Name)
         ensures { self.new ≡ remove_entry (same_name name.now) self.old }
     {

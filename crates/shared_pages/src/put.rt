@@ -1,8 +1,8 @@
-ghost use Rattle.std.specs.Prelude.{◌≡◌, Some, None, OnOk, IfOk};
+ghost use Rattle.std.specs.Prelude.{◌≡◌, ◌<◌, None, length, OnOk, IfOk};
 ghost use Rattle.std.specs.Arc.{arc_value};
 ghost use Rattle.std.specs.Map.{lookup};
 ghost use Rattle.name_core.specs.Same.{same_name};
-ghost use Rattle.shared_pages.specs.Pages.{pairs_of, set_page, pushed, last_number, RiseFrom, IsPlace};
+ghost use Rattle.shared_pages.specs.Pages.{pairs_of, put_at, pushed, last_number};
 
 use crate::limit::MOST_PAIRS;
 use crate::page::Page;
@@ -13,7 +13,7 @@ use name_core::Name;
 use std::alloc::Global;
 use std::sync::Arc;
 
-/// Puts the pairs in the place of a page's, or takes the page out where there are none.
+/// Puts a page of this number and these pairs in the place of another one, or takes that out where there are none.
 pub(crate) fn put_page<V: Drop>(
     alloc: Global,
     pages: &mut Shares<Page<V>>,
@@ -21,9 +21,8 @@ pub(crate) fn put_page<V: Drop>(
     number: u64,
     pairs: Pairs<V>,
 ) -> Result<(), Memory>
-    requires rise { RiseFrom 0 pages.old }
-    requires there { IsPlace pages.old number (Some place) }
-    ensures { OnOk result (pages.new ≡ set_page pages.old number pairs) }
+    requires { place < length pages.old }
+    ensures { OnOk result (pages.new ≡ put_at pages.old place number pairs) }
 {
     if pairs.len() == 0 {
         pages.remove(place);
@@ -52,7 +51,7 @@ pub(crate) fn push_pair<V: Drop>(
         }
     };
     if last.pairs().len() < MOST_PAIRS {
-        let page = last.and(name, value)?;
+        let page = last.with(name, value)?;
         let number = page.number();
         pages.push(alloc, page)?;
         return Ok(number);

@@ -6,6 +6,7 @@ use crate::blank::Blank;
 use memory_core::Memory;
 use std::alloc::Global;
 use std::marker::Model;
+use std::mem;
 use std::sync::Arc;
 
 /// A list of shared values, of which a copy shares them all. Contracts see it as the list of the values.
@@ -97,28 +98,40 @@ impl<T: Drop> Shares<T> {
 }
 
 impl<T: Blank> Shares<T> {
-    ghost use Rattle.std.specs.Prelude.{◌≡◌, ◌≤◌, ◌<◌, ◌^◌, ℕ, length, slice_index_or, IfOk};
-    ghost use Rattle.shared_pages.specs.Buckets.{PutsAt};
+    ghost use Rattle.std.specs.Prelude.{◌≡◌, ◌≢◌, ◌<◌, ℕ, length, slice_index_or, slice_set, IfOk, OnOk};
 
-    /// A copy with so many places at least. The new ones are empty.
-    fn padded(&self, alloc: Global, len: usize) -> Result<Shares<T>, Memory>
-        ensures items { IfOk result (λ s. (i : ℕ) → slice_index_or s i T.empty ≡ slice_index_or self.now i T.empty) }
-        ensures len { IfOk result (λ s. len ≤ length s) }
+    /// Makes places, as far as they are not there, up to this one. The new ones are empty.
+    fn pad(&mut self, alloc: Global, place: usize) -> Result<(), Memory>
+        ensures items { OnOk result ((i : ℕ) → slice_index_or self.new i T.empty ≡ slice_index_or self.old i T.empty) }
+        ensures there { OnOk result (place < length self.new) }
     {
-        let mut list = self.copy()?;
-        while list.len() < len {
-            list.push(alloc, T::blank(alloc))?;
+        while self.items.len() <= place {
+            self.push(alloc, T::blank(alloc))?;
         }
-        Ok(list)
+        Ok(())
     }
 
-    /// A copy with this value at the place. Places before it that were not there are empty.
-    pub(crate) fn with(&self, alloc: Global, place: usize, value: T) -> Result<Shares<T>, Memory>
-        requires { place < 2 ^ 32 }
-        ensures { IfOk result (PutsAt T.empty self.now place value) }
+    /// Takes the value at a place that is there, and leaves an empty one. Where another list shares it, it is a copy.
+    pub(crate) fn take_at(&mut self, alloc: Global, place: usize) -> Result<T, Memory>
+        requires { place < length self.old }
+        ensures value { IfOk result (λ v. v ≡ slice_index_or self.old place T.empty) }
+        ensures hole { OnOk result (self.new ≡ slice_set self.old place T.empty) }
     {
-        let mut list = self.padded(alloc, place + 1)?;
-        list.set(alloc, place, value)?;
-        Ok(list)
+        let hole = Arc::new(alloc, T::blank(alloc))?;
+        let share = mem::replace(&mut self.items[place], hole);
+        match Arc::try_unwrap(share) {
+            Ok(value) => Ok(value),
+            Err(share) => share.again(),
+        }
+    }
+
+    /// Takes the value at the place, and leaves an empty one there. Where another list shares it, it is a copy.
+    pub(crate) fn take(&mut self, alloc: Global, place: usize) -> Result<T, Memory>
+        ensures value { IfOk result (λ v. v ≡ slice_index_or self.old place T.empty) }
+        ensures others { OnOk result ((i : ℕ) → i ≢ place → slice_index_or self.new i T.empty ≡ slice_index_or self.old i T.empty) }
+        ensures there { OnOk result (place < length self.new) }
+    {
+        self.pad(alloc, place)?;
+        self.take_at(alloc, place)
     }
 }

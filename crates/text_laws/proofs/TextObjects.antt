@@ -35,10 +35,12 @@ use Rattle.directory.specs.Listing.{Listing}
 use Rattle.directory.specs.Walks.{Entries, object_of, members_of, comb_weight, IsWalk, combinations, IsSound, depth_within, deepest, unbounded, most_depth}
 use Rattle.directory.specs.declared.fault.DirFault.{DirFault}
 use Rattle.directory.specs.declared.fault.DirFault.TheVariants.{Cycle, Deep}
-use Rattle.directory.proofs.EditLemmas.{IsWithin, within_walk, within_combinations, later_key}
-use Rattle.directory.proofs.PlaceLemmas.{past_head}
+use Rattle.directory.proofs.EditLemmas.{IsWithin, within_walk, within_combinations}
+use Rattle.object_pages.proofs.EntryLemmas.{later_key}
+use Rattle.object_pages.proofs.EntryLemmas.{past_head}
 use Rattle.directory.proofs.TellLemmas.{first_past, put_rest}
-use Rattle.directory.proofs.WalkLemmas.{name_tells, greatest_bound, depth_met}
+use Rattle.directory.proofs.WalkLemmas.{greatest_bound, depth_met}
+use Rattle.shared_pages.proofs.NameLemmas.{name_tells}
 use Rattle.asc_form.specs.Reading.{unless_kind, kind_of_dir, put_into, kept_in, named_made, words_made, read_made, made_by, made_from, made_of, directory_of, empty}
 use Rattle.asc_form.specs.Written.{title_line, objects_lines, written}
 use Rattle.asc_form.specs.Commands.{Piece}

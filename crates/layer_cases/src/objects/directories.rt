@@ -165,6 +165,66 @@ fn remove_all(
     Ok(())
 }
 
+/// The name `n` with five digits.
+fn numbered(number: usize) -> Result<Name, CaseFault> {
+    let digit = |place: usize| -> u8 { b'0' + (number / place % 10) as u8 };
+    name_of(&[
+        b'n',
+        digit(10_000),
+        digit(1_000),
+        digit(100),
+        digit(10),
+        digit(1),
+    ])
+}
+
+/// Puts a copy of the object of a name under the name of a number.
+fn put_again(
+    alloc: Global,
+    directory: &mut Directory,
+    name: &Name,
+    number: usize,
+) -> Result<Result<(), DirFault>, CaseFault> {
+    let again = numbered(number)?;
+    let object = match directory.get(name) {
+        Some(object) => object.copy(alloc)?,
+        None => return Err(CaseFault::Line),
+    };
+    Ok(directory.put(&again, object))
+}
+
+/// `fill COUNT NAME`: puts so many copies of the object of that name, under the names of the numbers from 0.
+fn fill(
+    alloc: Global,
+    directory: &mut Directory,
+    rest: &[u8],
+    out: &mut Shown,
+) -> Result<(), CaseFault> {
+    let (count, name) = first_word(rest);
+    let name = name_of(name)?;
+    for number in 0..number_of(count)? {
+        if let Err(fault) = put_again(alloc, directory, &name, number)? {
+            put_fault(&fault, out);
+            return Ok(());
+        }
+    }
+    out.put(b"ok");
+    Ok(())
+}
+
+/// `drain FROM TO`: removes the names of the numbers from the one to before the other, one by one.
+fn drain(directory: &mut Directory, rest: &[u8], out: &mut Shown) -> Result<(), CaseFault> {
+    let (from, to) = first_word(rest);
+    for number in number_of(from)?..number_of(to)? {
+        if let Err(fault) = directory.remove(&numbered(number)?) {
+            put_fault(&fault, out);
+            return Ok(());
+        }
+    }
+    out.put(b"ok");
+    Ok(())
+}
+
 /// `title TEXT`
 fn set_title(
     alloc: Global,
@@ -260,6 +320,8 @@ fn step(
         "remove" => remove(directory, rest, out),
         "rename" => rename(alloc, directory, rest, out),
         "remove-all" => remove_all(alloc, directory, rest, out),
+        "fill" => fill(alloc, directory, rest, out),
+        "drain" => drain(directory, rest, out),
         "title" => set_title(alloc, directory, rest, out),
         _ => put_asked(alloc, directory, word, rest, out),
     }

@@ -4,7 +4,8 @@ use Rattle.std.specs.Map.{keys_of}
 use Rattle.std.proofs.lemmas.List.{length-take-le}
 use Rattle.name_core.specs.Same.{same_name}
 use Rattle.object_set.specs.declared.object.Body.TheVariants.{Comb}
-use Rattle.directory.specs.Places.{Finds, names_within, object_within, node_names}
+use Rattle.directory.specs.Places.{Finds, names_within, object_within}
+use Rattle.object_pages.specs.Members.{node_names}
 use Rattle.directory.specs.Walks.{depth_within, object_of}
 use Rattle.directory.proofs.FindLemmas.{found_at, kept_found, kept_deep, missing_found, place_found, comb_found, comb_lost, nodes_lost, nodes_next, found_set}
 use Rattle.directory.proofs.TakeLemmas.{later_missing, none_taken, taken_at, taken_distinct}

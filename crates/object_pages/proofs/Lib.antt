@@ -1,0 +1,14 @@
+pub mod ChangeLemmas
+pub mod EntryLemmas
+pub mod ListLemmas
+pub mod MemberLemmas
+pub mod NamesLemmas
+pub mod PageCountLemmas
+pub mod PageEditLemmas
+pub mod PageLemmas
+pub mod PageNameLemmas
+pub mod PagesLemmas
+pub mod ReferenceLemmas
+pub mod RenamingLemmas
+pub mod TallyLemmas
+pub mod UserLemmas

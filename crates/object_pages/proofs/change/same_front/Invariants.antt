@@ -1,0 +1,13 @@
+use Rattle.std.proofs.Common.{length, ◌-◌, ◌≡◌, ◌≤◌, take}
+use Rattle.object_pages.specs.Members.{node_names}
+use Rattle.object_pages.proofs.change.same_front.Given as goal
+
+abbrev pub invariant-loop-count : goal.invariant-loop-count
+invariant-loop-count l = record {
+  one : l.count ≤ length l.one;
+  other : l.count ≤ length l.other;
+  same : node_names (take l.count l.one) ≡ node_names (take l.count l.other);
+}
+
+abbrev pub decreases-loop-count : goal.decreases-loop-count
+decreases-loop-count l = length l.one - l.count

@@ -1,0 +1,5 @@
+pub mod Changes
+pub mod Entries
+pub mod Keeping
+pub mod Members
+pub mod Tallies

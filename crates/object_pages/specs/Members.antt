@@ -1,0 +1,22 @@
+-- The names of the leaves of a list of nodes.
+use Rattle.std.specs.Prelude.{ℕ, List, [], ◌∷◌, flat_map}
+use Rattle.std.specs.List.{count_by}
+use Rattle.name_core.specs.declared.name.Name.{Name}
+use Rattle.name_core.specs.Same.{same_name}
+use Rattle.comb_tree.specs.declared.node.CombNode.{CombNode}
+use Rattle.comb_tree.specs.declared.node.CombNode.TheVariants.{Leaf, U, N, Minus}
+
+-- the name of a leaf
+abbrev pub name_of_node : CombNode → List Name
+name_of_node (Leaf name placement) = name ∷ []
+name_of_node U = []
+name_of_node N = []
+name_of_node Minus = []
+
+-- the names of the leaves among the nodes, in order
+abbrev pub node_names : List CombNode → List Name
+node_names nodes = flat_map name_of_node nodes
+
+-- how many of the names are a
+abbrev pub times : List Name → Name → ℕ
+times names a = count_by (λ n. same_name n a) names

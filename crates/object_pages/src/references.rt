@@ -1,0 +1,174 @@
+ghost use Rattle.std.specs.Prelude.{◌≡◌, ◌≢◌, ◌≤◌, ◌<◌, ◌+◌, ◌^◌, ℕ, None, IfOk, cond, nat_eq};
+ghost use Rattle.std.specs.Option.{option_copied};
+ghost use Rattle.name_core.specs.declared.name.Name.{Name as Bytes};
+ghost use Rattle.name_core.specs.Same.{same_name};
+ghost use Rattle.shared_pages.specs.Buckets.{value_of};
+ghost use Rattle.object_pages.specs.Members.{node_names, times, name_of_node};
+ghost use Rattle.object_pages.specs.Tallies.{count_on, tally_of, leaves_on, Exchanges, MovesCounts};
+
+use crate::change::{Change, change_of};
+use crate::tally::Tally;
+use comb_tree::CombNode;
+use memory_core::Memory;
+use name_core::Name;
+use shared_pages::SharedMap;
+use std::alloc::Global;
+use std::marker::Model;
+
+/// How many leaves of each page name each name. Contracts see the counts, and by `leaves_on` that of a name and a page.
+#[derive(Drop)]
+pub(crate) struct References {
+    tallies: SharedMap<Tally>,
+}
+
+impl Model for References {
+    ghost use Rattle.std.specs.Prelude.{List, ℕ};
+    ghost use Rattle.shared_pages.specs.Buckets.{Shelves};
+
+    ghost Value = { Shelves (List (ℕ × ℕ)) };
+
+    ghost view = { λ s. s.tallies };
+}
+
+impl References {
+    /// No leaves. It takes no memory.
+    pub(crate) fn new(alloc: Global) -> References
+        ensures { (a : Bytes) → value_of result a ≡ None }
+    {
+        References {
+            tallies: SharedMap::new(alloc),
+        }
+    }
+
+    /// The same counts again. They are all shared.
+    pub(crate) fn copy(&self) -> Result<References, Memory>
+        ensures { IfOk result (λ r. r ≡ self.now) }
+    {
+        let tallies = self.tallies.copy()?;
+        Ok(References { tallies })
+    }
+
+    /// Lends the counts of a name, by page, or `None` where it has none.
+    pub(crate) fn tally(&self, name: &Name) -> Option<&Tally>
+        ensures { option_copied result ≡ value_of self.now name.now }
+    {
+        self.tallies.get(name)
+    }
+
+    /// A copy of the counts of a name.
+    fn tally_copy(&self, alloc: Global, name: &Name) -> Result<Tally, Memory>
+        ensures { IfOk result (λ t. t ≡ tally_of self.now name.now) }
+    {
+        match self.tallies.get(name) {
+            Some(tally) => tally.copy(),
+            None => Ok(Tally::new(alloc)),
+        }
+    }
+
+    /// The counts with these for the name. A name of which no page has a leaf is left out.
+    fn put(self, alloc: Global, name: &Name, tally: Tally) -> Result<References, Memory>
+        ensures { IfOk result (λ r. (a : Bytes) (n : ℕ) → leaves_on r a n ≡ cond (same_name name.now a) (count_on tally n) (leaves_on self a n)) }
+    {
+        let References { tallies } = self;
+        if tally.len() == 0 {
+            let tallies = tallies.remove(alloc, name)?;
+            return Ok(References { tallies });
+        }
+        let tallies = tallies.put(alloc, name, tally)?;
+        Ok(References { tallies })
+    }
+
+    /// The counts with a leaf of the page less, where the node is one.
+    fn take_node(self, alloc: Global, page: u64, node: &CombNode) -> Result<References, Memory>
+        requires { (a : Bytes) → times (name_of_node node.now) a ≤ leaves_on self a page }
+        ensures { IfOk result (λ r. (a : Bytes) (n : ℕ) → leaves_on r a n + cond (nat_eq page n) (times (name_of_node node.now) a) 0 ≡ leaves_on self a n) }
+    {
+        match node {
+            CombNode::Leaf { name, .. } => {
+                let tally = self.tally_copy(alloc, name)?.take(page, 1)?;
+                self.put(alloc, name, tally)
+            }
+            _ => Ok(self),
+        }
+    }
+
+    /// The counts with a leaf of the page more, where the node is one.
+    fn add_node(self, alloc: Global, page: u64, node: &CombNode) -> Result<References, Memory>
+        requires { (a : Bytes) → leaves_on self a page + times (name_of_node node.now) a < 2 ^ 64 }
+        ensures { IfOk result (λ r. (a : Bytes) (n : ℕ) → leaves_on r a n ≡ leaves_on self a n + cond (nat_eq page n) (times (name_of_node node.now) a) 0) }
+    {
+        match node {
+            CombNode::Leaf { name, .. } => {
+                let tally = self.tally_copy(alloc, name)?.add(page, 1)?;
+                self.put(alloc, name, tally)
+            }
+            _ => Ok(self),
+        }
+    }
+
+    /// The counts with the leaves among the nodes less.
+    fn take(self, alloc: Global, page: u64, nodes: &[CombNode]) -> Result<References, Memory>
+        requires { (a : Bytes) → times (node_names nodes.now) a ≤ leaves_on self a page }
+        ensures { IfOk result (λ r. (a : Bytes) (n : ℕ) → leaves_on r a n + cond (nat_eq page n) (times (node_names nodes.now) a) 0 ≡ leaves_on self a n) }
+    {
+        let mut references = self;
+        for node in nodes {
+            references = references.take_node(alloc, page, node)?;
+        }
+        Ok(references)
+    }
+
+    /// The counts with the leaves among the nodes more.
+    fn add(self, alloc: Global, page: u64, nodes: &[CombNode]) -> Result<References, Memory>
+        requires { (a : Bytes) → leaves_on self a page + times (node_names nodes.now) a < 2 ^ 64 }
+        ensures { IfOk result (λ r. (a : Bytes) (n : ℕ) → leaves_on r a n ≡ leaves_on self a n + cond (nat_eq page n) (times (node_names nodes.now) a) 0) }
+    {
+        let mut references = self;
+        for node in nodes {
+            references = references.add_node(alloc, page, node)?;
+        }
+        Ok(references)
+    }
+
+    /// The counts after nodes of the page gave way to others. Nodes that stand at the front or at the end of both cost
+    /// nothing but a look.
+    pub(crate) fn exchange(
+        self,
+        alloc: Global,
+        page: u64,
+        before: &[CombNode],
+        after: &[CombNode],
+    ) -> Result<References, Memory>
+        requires there { (a : Bytes) → times (node_names before.now) a ≤ leaves_on self a page }
+        requires room { (a : Bytes) → leaves_on self a page + times (node_names after.now) a < 2 ^ 64 }
+        ensures { IfOk result (Exchanges page (node_names before.now) (node_names after.now) self) }
+    {
+        let Change { front, back } = change_of(before, after);
+        let taken = self.take(alloc, page, &before[front..before.len() - back])?;
+        taken.add(alloc, page, &after[front..after.len() - back])
+    }
+
+    /// The counts of `old` added to those of `new`.
+    fn joined(&self, alloc: Global, old: &Name, new: &Name) -> Result<Tally, Memory>
+        requires room { (n : ℕ) → leaves_on self.now new.now n + leaves_on self.now old.now n < 2 ^ 64 }
+        ensures { IfOk result (λ t. (n : ℕ) → count_on t n ≡ leaves_on self.now new.now n + leaves_on self.now old.now n) }
+    {
+        let joined = self.tally_copy(alloc, new)?;
+        match self.tallies.get(old) {
+            Some(tally) => joined.and(tally),
+            None => Ok(joined),
+        }
+    }
+
+    /// The counts after `new` took the place of `old` in all leaves.
+    pub(crate) fn rename(self, alloc: Global, old: &Name, new: &Name) -> Result<References, Memory>
+        requires apart { old.now ≢ new.now }
+        requires room { (n : ℕ) → leaves_on self new.now n + leaves_on self old.now n < 2 ^ 64 }
+        ensures { IfOk result (MovesCounts old.now new.now self) }
+    {
+        let joined = self.joined(alloc, old, new)?;
+        let References { tallies } = self;
+        let tallies = tallies.remove(alloc, old)?;
+        References { tallies }.put(alloc, new, joined)
+    }
+}

@@ -1,9 +1,0 @@
-use Rattle.std.proofs.Common.{◌≡◌, ◌-◌, ℕ, length}
-use Rattle.std.specs.Prelude.{slice_index_or}
-use Rattle.shared_pages.proofs.shares.Shares.padded.Given as goal
-
-abbrev pub invariant-loop-alloc : goal.invariant-loop-alloc
-invariant-loop-alloc g l = (i : ℕ) → slice_index_or l.list i g.T.Blank.empty ≡ slice_index_or l.fn.self i g.T.Blank.empty
-
-abbrev pub decreases-loop-alloc : goal.decreases-loop-alloc
-decreases-loop-alloc g l = l.len - length l.list

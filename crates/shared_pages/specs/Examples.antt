@@ -1,0 +1,79 @@
+-- A few pairs on pages and in buckets, and what the definitions say of them. A name is one byte, and a value a number.
+use Rattle.std.specs.Prelude.{◌≡◌, ℕ, List, [], ◌∷◌, ◌++◌, replicate, Some, None, refl}
+use Rattle.name_core.specs.declared.name.Name.{Name}
+use Rattle.shared_pages.specs.Buckets.{Shelves, name_number, shelf_of, bucket_of, value_of}
+use Rattle.shared_pages.specs.Pages.{Pages, pairs_of, page_of, set_page, page_after, pushed, last_number}
+
+abbrev named : ℕ → Name
+named n = n ∷ []
+
+abbrev one : ℕ → ℕ → List (Name × ℕ)
+one n v = (named n, v) ∷ []
+
+-- ---- two pages
+abbrev pub two : Pages ℕ
+two = (0, (named 65, 1) ∷ (named 66, 2) ∷ []) ∷ (4, one 67 3) ∷ []
+
+pub all_pairs : pairs_of two ≡ (named 65, 1) ∷ (named 66, 2) ∷ (named 67, 3) ∷ []
+all_pairs = refl
+
+pub first_page : page_of two 0 ≡ (named 65, 1) ∷ (named 66, 2) ∷ []
+first_page = refl
+
+pub second_page : page_of two 4 ≡ one 67 3
+second_page = refl
+
+pub no_such_page : page_of two 1 ≡ []
+no_such_page = refl
+
+pub one_more : pushed two (named 68) 9 ≡ (0, (named 65, 1) ∷ (named 66, 2) ∷ []) ∷ (4, (named 67, 3) ∷ (named 68, 9) ∷ []) ∷ []
+one_more = refl
+
+pub where_it_stands : last_number (pushed two (named 68) 9) ≡ 4
+where_it_stands = refl
+
+pub in_its_place : set_page two 0 (one 66 8) ≡ (0, one 66 8) ∷ (4, one 67 3) ∷ []
+in_its_place = refl
+
+-- ---- a page that has no pairs left is dropped, and the others keep their numbers
+abbrev pub three : Pages ℕ
+three = (0, one 65 1) ∷ (4, one 66 2) ∷ (7, one 67 3) ∷ []
+
+pub without_the_first : set_page three 0 [] ≡ (4, one 66 2) ∷ (7, one 67 3) ∷ []
+without_the_first = refl
+
+pub without_the_middle : set_page three 4 [] ≡ (0, one 65 1) ∷ (7, one 67 3) ∷ []
+without_the_middle = refl
+
+pub without_the_last : set_page three 7 [] ≡ (0, one 65 1) ∷ (4, one 66 2) ∷ []
+without_the_last = refl
+
+-- ---- a page holds 128 pairs
+pub one_fits : page_after (4, replicate 127 (named 65, 1)) (named 66) 2 ≡ (4, replicate 127 (named 65, 1) ++ one 66 2)
+one_fits = refl
+
+pub none_fits : page_after (4, replicate 128 (named 65, 1)) (named 66) 2 ≡ (5, one 66 2)
+none_fits = refl
+
+pub behind_a_full_page : pushed ((4, replicate 128 (named 65, 1)) ∷ []) (named 66) 2 ≡ (4, replicate 128 (named 65, 1)) ∷ (5, one 66 2) ∷ []
+behind_a_full_page = refl
+
+-- ---- where a name stands
+pub number_of_a_name : name_number (65 ∷ 66 ∷ []) ≡ 2081
+number_of_a_name = refl
+
+pub its_shelf : shelf_of (65 ∷ 66 ∷ []) ≡ 1
+its_shelf = refl
+
+pub its_bucket : bucket_of (65 ∷ 66 ∷ []) ≡ 1
+its_bucket = refl
+
+-- 65 stands on shelf 1 in bucket 2
+abbrev pub of_one : Shelves ℕ
+of_one = [] ∷ ([] ∷ [] ∷ one 65 3 ∷ []) ∷ []
+
+pub a_value : value_of of_one (named 65) ≡ Some 3
+a_value = refl
+
+pub no_value : value_of of_one (named 66) ≡ None
+no_value = refl

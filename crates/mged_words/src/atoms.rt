@@ -1,4 +1,4 @@
-//! Numbers among the words of a line.
+//! Words of a line, and numbers among them.
 ghost use Rattle.std.specs.Prelude.{All, ◌≡◌, ◌+◌, ◌<◌, ◌≤◌, ◌^◌, length, map, Some, IfNone};
 ghost use Rattle.std.specs.Int.RustNames.{unsigned_abs};
 ghost use Rattle.word_values.specs.Atoms as values;

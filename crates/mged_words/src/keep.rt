@@ -14,7 +14,7 @@ use command_set::{Command, Edit, KeptPairs, Refusal};
 use object_set::KeptAttrs;
 use put_form::{PutFault, read_keep};
 use std::alloc::Global;
-use tcl_words::{Token, Word, atom_text};
+use tcl_words::{Token, Word, atom_text, is_word};
 
 /// The list of attributes whose values are texts.
 fn list_of(kept: KeptAttrs) -> KeptPairs
@@ -79,7 +79,7 @@ fn is_set(word: Option<&[u8]>) -> bool
     ensures { result ≡ commands.is_set (option_copied word.entry) }
 {
     match word {
-        Some(word) => word == b"set".as_slice(),
+        Some(word) => is_word(word, b"set"),
         None => false,
     }
 }

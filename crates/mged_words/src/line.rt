@@ -30,7 +30,7 @@ use item_list::Items;
 use memory_core::Memory;
 use std::alloc::Global;
 use std::sync::Arc;
-use tcl_words::{Token, Word, WordFault, atom_text, is_blank, read_words, top_words};
+use tcl_words::{Token, Word, WordFault, atom_text, is_blank, is_word, read_words, top_words};
 use word_values::word_atoms;
 
 /// The command of a word and the atoms that follow it.
@@ -38,31 +38,31 @@ fn atom_command(alloc: Global, word: &[u8], atoms: &[&[u8]]) -> Result<Command, 
     requires { length atoms.now < 2 ^ 31 }
     ensures { IsRead result (commands.atom_command word.now (map (λ a. a.now) atoms.now)) }
 {
-    if word == b"in".as_slice() {
+    if is_word(word, b"in") {
         in_command(alloc, atoms)
-    } else if word == b"nirt".as_slice() {
+    } else if is_word(word, b"nirt") {
         nirt_command(alloc, atoms)
-    } else if word == b"rt".as_slice() {
+    } else if is_word(word, b"rt") {
         rt_command(alloc, atoms)
-    } else if word == b"rtcheck".as_slice() {
+    } else if is_word(word, b"rtcheck") {
         rtcheck_command(alloc, atoms)
-    } else if word == b"r".as_slice() {
+    } else if is_word(word, b"r") {
         r_command(alloc, atoms)
-    } else if word == b"g".as_slice() {
+    } else if is_word(word, b"g") {
         g_command(alloc, atoms)
-    } else if word == b"rm".as_slice() {
+    } else if is_word(word, b"rm") {
         rm_command(alloc, atoms)
-    } else if word == b"kill".as_slice() {
+    } else if is_word(word, b"kill") {
         kill_command(alloc, atoms)
-    } else if word == b"mvall".as_slice() {
+    } else if is_word(word, b"mvall") {
         mvall_command(atoms)
-    } else if word == b"ls".as_slice() {
+    } else if is_word(word, b"ls") {
         ls_command(atoms)
-    } else if word == b"l".as_slice() {
+    } else if is_word(word, b"l") {
         l_command(alloc, atoms)
-    } else if word == b"tree".as_slice() {
+    } else if is_word(word, b"tree") {
         tree_command(alloc, atoms)
-    } else if word == b"save".as_slice() {
+    } else if is_word(word, b"save") {
         save_command(atoms)
     } else {
         Err(LineFault::Refused(Refusal::Syntax))
@@ -104,15 +104,15 @@ fn named_command(
     ensures { (word : Word) → IsRead result (commands.named_command line.now tokens.now (slice_index_or words.now 0 word) (drop 1 words.now) name.now) }
 {
     let rest = &words[1..];
-    if name == b"place".as_slice() {
+    if is_word(name, b"place") {
         place_command(alloc, line, tokens, rest)
-    } else if name == b"cattr".as_slice() {
+    } else if is_word(name, b"cattr") {
         cattr_command(alloc, line, tokens, rest)
-    } else if name == b"put".as_slice() {
+    } else if is_word(name, b"put") {
         put_command(alloc, line, tokens, words)
-    } else if name == b"attr".as_slice() {
+    } else if is_word(name, b"attr") {
         attr_command(alloc, line, tokens, rest)
-    } else if name == b"title".as_slice() {
+    } else if is_word(name, b"title") {
         title_command(alloc, line, tokens, rest)
     } else {
         plain_command(alloc, line, tokens, rest, name)

@@ -12,15 +12,19 @@ use lattice_core::Placement;
 use memory_core::Memory;
 use name_core::Name;
 use std::alloc::Global;
+use tcl_words::is_word;
 
 fn operator(word: &[u8]) -> Option<Op>
     ensures { result ≡ commands.operator_of word.now }
 {
-    match word {
-        b"u" => Some(Op::U),
-        b"+" => Some(Op::N),
-        b"-" => Some(Op::Minus),
-        _ => None,
+    if is_word(word, b"u") {
+        Some(Op::U)
+    } else if is_word(word, b"+") {
+        Some(Op::N)
+    } else if is_word(word, b"-") {
+        Some(Op::Minus)
+    } else {
+        None
     }
 }
 

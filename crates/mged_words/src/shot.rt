@@ -10,19 +10,26 @@ use crate::names::read_names;
 use command_set::{Command, NameList, Query, Refusal, ViewFault, WorldRay};
 use lattice_core::{Dir, Ray};
 use std::alloc::Global;
+use tcl_words::is_word;
 use word_values::{VIEW_NUMBER, vector_at};
 
 pub(crate) fn direction(word: &[u8]) -> Option<Dir>
     ensures { result ≡ commands.direction_of word.now }
 {
-    match word {
-        b"+x" => Some(Dir::PlusX),
-        b"-x" => Some(Dir::MinusX),
-        b"+y" => Some(Dir::PlusY),
-        b"-y" => Some(Dir::MinusY),
-        b"+z" => Some(Dir::PlusZ),
-        b"-z" => Some(Dir::MinusZ),
-        _ => None,
+    if is_word(word, b"+x") {
+        Some(Dir::PlusX)
+    } else if is_word(word, b"-x") {
+        Some(Dir::MinusX)
+    } else if is_word(word, b"+y") {
+        Some(Dir::PlusY)
+    } else if is_word(word, b"-y") {
+        Some(Dir::MinusY)
+    } else if is_word(word, b"+z") {
+        Some(Dir::PlusZ)
+    } else if is_word(word, b"-z") {
+        Some(Dir::MinusZ)
+    } else {
+        None
     }
 }
 

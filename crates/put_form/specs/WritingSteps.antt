@@ -10,7 +10,7 @@ use Rattle.comb_tree.specs.declared.node.CombNode.{CombNode}
 use Rattle.comb_tree.specs.declared.node.CombNode.TheVariants as node
 use Rattle.put_form.specs.declared.write_tree.Before.{Before}
 use Rattle.put_form.specs.declared.write_tree.Before.TheVariants.{Operator, LeftSide}
-use Rattle.put_form.specs.Written.{vector_text, operator_text, matrix_text}
+use Rattle.put_form.specs.Written.{numbers_text, vector_text, operator_text, matrix_text}
 
 abbrev pub spaced_text : ℤ → List ℕ
 spaced_text n = 32 ∷ signed_decimal n
@@ -19,9 +19,17 @@ spaced_text n = 32 ∷ signed_decimal n
 abbrev pub vertex_text : ℕ → V3 → List ℕ
 vertex_text number v = codes " V" ++ (decimal number ++ (codes " " ++ vector_text v))
 
+-- a vector and a number, each with its key before it
+abbrev pub keyed_text : List ℕ → V3 → List ℕ → ℤ → List ℕ
+keyed_text before vector between number = before ++ (vector_text vector ++ (between ++ signed_decimal number))
+
 abbrev pub numbers_of_attr : Attr → List ℕ
 numbers_of_attr attr =
     codes " id " ++ (decimal attr.id ++ (codes " air " ++ (decimal attr.air ++ (codes " los " ++ (decimal attr.los ++ (codes " mater " ++ decimal attr.mater))))))
+
+-- a group of numbers, after a blank
+abbrev pub group_text : List ℤ → List ℕ
+group_text numbers = codes " {" ++ (numbers_text numbers ++ codes "}")
 
 abbrev pub leaf_text : Name → Placement → List ℕ
 leaf_text name placement = codes "l " ++ (name ++ matrix_text placement)

@@ -15,7 +15,7 @@ use crate::pairs::KeyValue;
 use memory_core::Memory;
 use region_attr::{Attr, Rgb};
 use std::alloc::Global;
-use tcl_words::{Token, Word, atom_text, read_number};
+use tcl_words::{Token, Word, atom_text, is_word, read_number};
 use word_values::group_atoms;
 
 /// A part of a colour: a number from 0 to 255.
@@ -65,10 +65,7 @@ fn atom_set(key: &[u8], atom: &[u8], attr: Attr) -> Option<Attr>
 fn is_colour_key(key: &[u8]) -> bool
     ensures { result ≡ steps.is_colour (key_of key.now) }
 {
-    match key {
-        b"rgb" => true,
-        _ => false,
-    }
+    is_word(key, b"rgb")
 }
 
 /// The attributes with the one of a key set to the words of a group.

@@ -8,30 +8,25 @@ ghost use Rattle.put_form.specs.Combs as combs;
 ghost use Rattle.put_form.specs.CombSteps as steps;
 
 use crate::pairs::{KeyValue, is_key};
+use tcl_words::is_word;
 
 /// Whether a key is one of an attribute.
 pub(crate) fn is_attribute(key: &[u8]) -> bool
     ensures { result ≡ is_some (key_of key.now) }
 {
-    match key {
-        b"region" => true,
-        b"id" => true,
-        b"air" => true,
-        b"los" => true,
-        b"mater" => true,
-        b"rgb" => true,
-        b"inherit" => true,
-        _ => false,
-    }
+    is_word(key, b"region")
+        || is_word(key, b"id")
+        || is_word(key, b"air")
+        || is_word(key, b"los")
+        || is_word(key, b"mater")
+        || is_word(key, b"rgb")
+        || is_word(key, b"inherit")
 }
 
 fn is_tree_key(key: &[u8]) -> bool
     ensures { result ≡ combs.is_tree_key key.now }
 {
-    match key {
-        b"tree" => true,
-        _ => false,
-    }
+    is_word(key, b"tree")
 }
 
 /// Whether a key is one of a combination.

@@ -2,6 +2,7 @@
 ghost use Rattle.std.specs.Prelude.{◌≡◌};
 ghost use Rattle.put_form.specs.Kinds as kinds;
 
+use tcl_words::is_word;
 use word_values::SolidKind;
 
 /// How a solid is given.
@@ -30,13 +31,18 @@ impl Kind {
     pub fn of_word(word: &[u8]) -> Option<Kind>
         ensures { result ≡ kinds.kind_of word.now }
     {
-        match word {
-            b"sph" => Some(Kind::Solid(SolidForm::Sphere)),
-            b"ell" => Some(Kind::Solid(SolidForm::Ellipsoid)),
-            b"half" => Some(Kind::Solid(SolidForm::Half)),
-            b"arb8" => Some(Kind::Solid(SolidForm::Arb8)),
-            b"comb" => Some(Kind::Comb),
-            _ => None,
+        if is_word(word, b"sph") {
+            Some(Kind::Solid(SolidForm::Sphere))
+        } else if is_word(word, b"ell") {
+            Some(Kind::Solid(SolidForm::Ellipsoid))
+        } else if is_word(word, b"half") {
+            Some(Kind::Solid(SolidForm::Half))
+        } else if is_word(word, b"arb8") {
+            Some(Kind::Solid(SolidForm::Arb8))
+        } else if is_word(word, b"comb") {
+            Some(Kind::Comb)
+        } else {
+            None
         }
     }
 }

@@ -16,15 +16,12 @@ use crate::solid::read_solid;
 use name_core::Name;
 use object_set::Object;
 use std::alloc::Global;
-use tcl_words::{Token, Word, atom_text};
+use tcl_words::{Token, Word, atom_text, is_word};
 
 fn is_put_word(word: &[u8]) -> bool
     ensures { result ≡ puts.is_put (Some word.now) }
 {
-    match word {
-        b"put" => true,
-        _ => false,
-    }
+    is_word(word, b"put")
 }
 
 fn is_put(word: Option<&[u8]>) -> bool

@@ -1,7 +1,7 @@
 //! Numbers and solids, put at the end of a line.
-ghost use Rattle.std.specs.Prelude.{◌≡◌, ◌++◌, OnOk, flat_map};
+ghost use Rattle.std.specs.Prelude.{◌≡◌, ◌++◌, OnOk, codes, flat_map};
 ghost use Rattle.put_form.specs.Written.{numbers_text, vector_text, vertices_text, solid_text};
-ghost use Rattle.put_form.specs.WritingSteps.{spaced_text, vertex_text};
+ghost use Rattle.put_form.specs.WritingSteps.{keyed_text, spaced_text, vertex_text};
 
 use itoa::{Buffer, Integer};
 use lattice_core::V3;
@@ -16,13 +16,20 @@ pub(crate) fn push_number<I: Integer>(line: &mut Vec<u8>, number: I) -> Result<(
     Ok(())
 }
 
+/// Puts a number, after a blank, at the end of the line.
+fn push_after_blank(line: &mut Vec<u8>, number: i64) -> Result<(), Memory>
+    ensures { OnOk result (line.new.items ≡ line.old.items ++ spaced_text number) }
+{
+    line.push(b' ')?;
+    push_number(line, number)
+}
+
 /// Puts numbers, each after a blank, at the end of the line.
 fn push_spaced(line: &mut Vec<u8>, numbers: &[i64]) -> Result<(), Memory>
     ensures { OnOk result (line.new.items ≡ line.old.items ++ flat_map spaced_text numbers.now) }
 {
     for number in numbers {
-        line.push(b' ')?;
-        push_number(line, *number)?;
+        push_after_blank(line, *number)?;
     }
     Ok(())
 }
@@ -67,25 +74,37 @@ fn push_vertices(line: &mut Vec<u8>, vertices: &[V3]) -> Result<(), Memory>
     Ok(())
 }
 
+/// Puts a vector and a number, each with its key before it, at the end of the line.
+fn push_keyed(
+    line: &mut Vec<u8>,
+    before: &[u8],
+    vector: V3,
+    between: &[u8],
+    number: i64,
+) -> Result<(), Memory>
+    ensures { OnOk result (line.new.items ≡ line.old.items ++ keyed_text before.now vector between.now number) }
+{
+    line.extend_from_slice(before)?;
+    push_vector(line, vector)?;
+    line.extend_from_slice(between)?;
+    push_number(line, number)
+}
+
+fn push_arb8(line: &mut Vec<u8>, vertices: &[V3]) -> Result<(), Memory>
+    ensures { OnOk result (line.new.items ≡ line.old.items ++ (codes "arb8" ++ vertices_text 1 vertices.now)) }
+{
+    line.extend_from_slice(b"arb8")?;
+    push_vertices(line, vertices)
+}
+
 pub(crate) fn push_solid(line: &mut Vec<u8>, solid: &Solid) -> Result<(), Memory>
     ensures { OnOk result (line.new.items ≡ line.old.items ++ solid_text solid.now) }
 {
     match solid {
         Solid::Sphere(sphere) => {
-            line.extend_from_slice(b"sph V ")?;
-            push_vector(line, sphere.centre())?;
-            line.extend_from_slice(b" r ")?;
-            push_number(line, sphere.radius())
+            push_keyed(line, b"sph V ", sphere.centre(), b" r ", sphere.radius())
         }
-        Solid::Half(half) => {
-            line.extend_from_slice(b"half N ")?;
-            push_vector(line, half.normal())?;
-            line.extend_from_slice(b" d ")?;
-            push_number(line, half.distance())
-        }
-        Solid::Arb8(arb8) => {
-            line.extend_from_slice(b"arb8")?;
-            push_vertices(line, &arb8.vertices())
-        }
+        Solid::Half(half) => push_keyed(line, b"half N ", half.normal(), b" d ", half.distance()),
+        Solid::Arb8(arb8) => push_arb8(line, &arb8.vertices()),
     }
 }

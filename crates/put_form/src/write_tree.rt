@@ -3,7 +3,7 @@
 //! and no tree is too deep for it.
 ghost use Rattle.std.specs.Prelude.{◌≡◌, ◌≤◌, ◌++◌, ◌∷◌, [], OnOk, codes, take, drop, reverse, vec_len};
 ghost use Rattle.put_form.specs.Written as written;
-ghost use Rattle.put_form.specs.WritingSteps.{leaf_text, before_text, owed, after, step_text, step_stack, walked};
+ghost use Rattle.put_form.specs.WritingSteps.{group_text, leaf_text, before_text, owed, after, step_text, step_stack, walked};
 
 use crate::write_solid::push_numbers;
 use comb_tree::{CombNode, CombTree, Op};
@@ -21,6 +21,16 @@ enum Before {
     LeftSide,
 }
 
+/// Puts a group of numbers, after a blank, at the end of the line.
+fn push_group(line: &mut Vec<u8>, numbers: &[i64]) -> Result<(), Memory>
+    ensures { OnOk result (line.new.items ≡ line.old.items ++ group_text numbers.now) }
+{
+    line.extend_from_slice(b" {")?;
+    push_numbers(line, numbers)?;
+    line.push(b'}')?;
+    Ok(())
+}
+
 /// Puts the matrix of a placement at the end of the line, and nothing where it moves nothing.
 fn push_matrix(line: &mut Vec<u8>, placement: &Placement) -> Result<(), Memory>
     ensures { OnOk result (line.new.items ≡ line.old.items ++ written.matrix_text placement.now) }
@@ -28,10 +38,7 @@ fn push_matrix(line: &mut Vec<u8>, placement: &Placement) -> Result<(), Memory>
     if *placement == Placement::identity() {
         return Ok(());
     }
-    line.extend_from_slice(b" {")?;
-    push_numbers(line, &placement.matrix())?;
-    line.push(b'}')?;
-    Ok(())
+    push_group(line, &placement.matrix())
 }
 
 fn push_leaf(line: &mut Vec<u8>, name: &Name, placement: &Placement) -> Result<(), Memory>

@@ -51,18 +51,37 @@ pub enum AttrFault {
 fn with_value(key: Key, value: &[u8], attr: Attr) -> Option<Attr>
     ensures { result ≡ attrs.with_value key value.now attr }
 {
-    match key {
-        Key::Region => truth(value).map(|region| Attr { region, ..attr }),
-        Key::Id => number_to(MOST_NUMBER, value).map(|id| Attr { id, ..attr }),
-        Key::Air => number_to(MOST_NUMBER, value).map(|air| Attr { air, ..attr }),
-        Key::Los => number_to(MOST_LOS, value).map(|los| Attr { los, ..attr }),
-        Key::Mater => number_to(MOST_NUMBER, value).map(|mater| Attr { mater, ..attr }),
-        Key::Rgb => colour(value).map(|rgb| Attr {
-            rgb: Some(rgb),
+    let changed = match key {
+        Key::Region => Attr {
+            region: truth(value)?,
             ..attr
-        }),
-        Key::Inherit => truth(value).map(|inherit| Attr { inherit, ..attr }),
-    }
+        },
+        Key::Id => Attr {
+            id: number_to(MOST_NUMBER, value)?,
+            ..attr
+        },
+        Key::Air => Attr {
+            air: number_to(MOST_NUMBER, value)?,
+            ..attr
+        },
+        Key::Los => Attr {
+            los: number_to(MOST_LOS, value)?,
+            ..attr
+        },
+        Key::Mater => Attr {
+            mater: number_to(MOST_NUMBER, value)?,
+            ..attr
+        },
+        Key::Rgb => Attr {
+            rgb: Some(colour(value)?),
+            ..attr
+        },
+        Key::Inherit => Attr {
+            inherit: truth(value)?,
+            ..attr
+        },
+    };
+    Some(changed)
 }
 
 fn changed(key: &[u8], value: &[u8], attr: Attr) -> Result<Attr, AttrFault>

@@ -1,6 +1,8 @@
 ghost use Rattle.std.specs.Prelude.{◌≡◌};
 ghost use Rattle.region_attr.specs.Keys.{key_of};
 
+use tcl_words::is_word;
+
 /// Which attribute a key names.
 #[derive(Clone, Copy, Debug, PartialEq, Eq)]
 pub enum Key {
@@ -17,14 +19,21 @@ pub enum Key {
 pub(crate) fn read_key(key: &[u8]) -> Option<Key>
     ensures { result ≡ key_of key.now }
 {
-    match key {
-        b"region" => Some(Key::Region),
-        b"id" => Some(Key::Id),
-        b"air" => Some(Key::Air),
-        b"los" => Some(Key::Los),
-        b"mater" => Some(Key::Mater),
-        b"rgb" => Some(Key::Rgb),
-        b"inherit" => Some(Key::Inherit),
-        _ => None,
+    if is_word(key, b"region") {
+        Some(Key::Region)
+    } else if is_word(key, b"id") {
+        Some(Key::Id)
+    } else if is_word(key, b"air") {
+        Some(Key::Air)
+    } else if is_word(key, b"los") {
+        Some(Key::Los)
+    } else if is_word(key, b"mater") {
+        Some(Key::Mater)
+    } else if is_word(key, b"rgb") {
+        Some(Key::Rgb)
+    } else if is_word(key, b"inherit") {
+        Some(Key::Inherit)
+    } else {
+        None
     }
 }

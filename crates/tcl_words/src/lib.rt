@@ -13,7 +13,7 @@ mod step;
 mod token;
 mod write;
 
-pub use bytes::is_blank;
+pub use bytes::{is_blank, is_word};
 pub use fault::WordFault;
 pub use group_text::is_group_text;
 pub use groups::{atom_text, inside, raw_text, top_words};

@@ -1,10 +1,10 @@
 -- The nodes of a tree as they are given, and the tree that they are.
-use Rattle.std.proofs.Common.{◌≡◌, ◌∙◌, ◌≤◌, ◌<◌, ◌==◌, ◌&&◌, ℕ, Bool, true, false, not, cond, List, [], ◌∷◌, ◌++◌, length, map, Option, Some, None, Result, Ok, Err, is_some, is_ok, unwrap_or, refl, ap, sym, subst, arith, nat_lt}
+use Rattle.std.proofs.Common.{◌≡◌, ◌∙◌, ◌≤◌, ◌<◌, ◌+◌, ◌==◌, ◌&&◌, ℕ, Bool, true, false, not, cond, List, [], ◌∷◌, ◌++◌, length, map, Option, Some, None, Result, Ok, Err, is_some, is_ok, unwrap_or, refl, ap, sym, subst, arith, nat_lt, append_assoc, drop, get_or}
 use Rattle.std.specs.List.{filter, list_all}
 use Rattle.std.specs.Option.{option_map}
 use Rattle.std.specs.Result.{result_ok}
 use Rattle.std.proofs.lemmas.Bool.{lt-ltb, le-ltb}
-use Rattle.std.proofs.lemmas.List.{map-append, length-append}
+use Rattle.std.proofs.lemmas.List.{drop_more, map-append, length-append}
 use Rattle.std.proofs.lemmas.List.Elements.{filter-append}
 use Rattle.std.proofs.lemmas.List.Folds.{list_all-append}
 use Rattle.lattice_core.specs.declared.placement.Placement.{Placement}
@@ -223,3 +223,15 @@ no_fault ns comb_fault.Memory h t is few = h
 no_fault ns comb_fault.NotList h t is few = h
 no_fault ns (comb_fault.Absent name) h t is few = h
 no_fault ns (comb_fault.Heads name) h t is few = h
+
+-- one node more that is whole
+whole_step : (found : List CombNode) (made : CombNode) (rest : Option (List CombNode)) → option_map (λ more. (found ++ made ∷ []) ++ more) rest ≡ option_map (λ more. found ++ more) (option_map (λ more. made ∷ more) rest)
+whole_step found made None = refl
+whole_step found made (Some more) = ap (λ (ns : List CombNode). Some ns) (append_assoc found (made ∷ []) more)
+
+pub whole_more : (nodes : List GivenNode) (i : ℕ) (d : GivenNode) (made : CombNode) (found : List CombNode) → i < length nodes → comb_node (get_or nodes i d) ≡ Some made
+    → option_map (λ more. (found ++ made ∷ []) ++ more) (all_there (map comb_node (drop (i + 1) nodes))) ≡ option_map (λ more. found ++ more) (all_there (map comb_node (drop i nodes)))
+whole_more nodes i d made found lt is =
+    whole_step found made (all_there (map comb_node (drop (i + 1) nodes)))
+    ∙ ap (λ (o : Option CombNode). option_map (λ more. found ++ more) (all_there (o ∷ map comb_node (drop (i + 1) nodes)))) (sym is)
+    ∙ sym (ap (λ (ns : List GivenNode). option_map (λ more. found ++ more) (all_there (map comb_node ns))) (drop_more nodes i d lt))

@@ -1,3 +1,4 @@
+pub mod AtomLaws
 pub mod SolidLaws
 pub mod MatrixLaws
 pub mod TokenLaws

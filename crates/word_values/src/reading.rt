@@ -18,7 +18,7 @@ use lattice_core::Placement;
 use memory_core::Memory;
 use name_core::Name;
 use std::alloc::Global;
-use tcl_words::{Kind, Token};
+use tcl_words::{Kind, Token, is_word};
 
 /// A side of an operator.
 #[derive(Clone, Copy)]
@@ -104,18 +104,20 @@ fn placement_read(numbers: &[Option<i64>]) -> Option<Placement>
 fn is_leaf_word(word: &[u8]) -> bool
     ensures { result ≡ trees.is_leaf_word word.now }
 {
-    word == b"l".as_slice()
+    is_word(word, b"l")
 }
 
 fn operator_of(word: &[u8]) -> Option<Op>
     ensures { result ≡ trees.operator_of word.now }
 {
-    match word {
-        b"u" => Some(Op::U),
-        b"n" => Some(Op::N),
-        b"+" => Some(Op::N),
-        b"-" => Some(Op::Minus),
-        _ => None,
+    if is_word(word, b"u") {
+        Some(Op::U)
+    } else if is_word(word, b"n") || is_word(word, b"+") {
+        Some(Op::N)
+    } else if is_word(word, b"-") {
+        Some(Op::Minus)
+    } else {
+        None
     }
 }
 

@@ -10,6 +10,7 @@ use prim_arb8::Arb8;
 use prim_half::Half;
 use prim_sphere::Sphere;
 use solid_set::Solid;
+use tcl_words::is_word;
 
 /// The kinds of solids that `in` makes.
 #[derive(Clone, Copy, Debug, PartialEq, Eq)]
@@ -29,12 +30,16 @@ impl SolidKind {
     pub fn of_word(word: &[u8]) -> Option<SolidKind>
         ensures { result ≡ solids.kind_of word.now }
     {
-        match word {
-            b"half" => Some(SolidKind::Half),
-            b"rpp" => Some(SolidKind::Rpp),
-            b"arb8" => Some(SolidKind::Arb8),
-            b"sph" => Some(SolidKind::Sphere),
-            _ => None,
+        if is_word(word, b"half") {
+            Some(SolidKind::Half)
+        } else if is_word(word, b"rpp") {
+            Some(SolidKind::Rpp)
+        } else if is_word(word, b"arb8") {
+            Some(SolidKind::Arb8)
+        } else if is_word(word, b"sph") {
+            Some(SolidKind::Sphere)
+        } else {
+            None
         }
     }
 

@@ -1,0 +1,4 @@
+pub mod Totals
+pub mod Places
+pub mod Moves
+pub mod Runs

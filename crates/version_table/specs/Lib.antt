@@ -1,0 +1,6 @@
+pub mod Entries
+pub mod History
+pub mod Passes
+pub mod Places
+pub mod Run
+pub mod Steps

@@ -2,6 +2,7 @@ ghost use Rattle.std.specs.Prelude.{◌≡◌, ◌<◌, ◌↔◌, length, repli
 ghost use Rattle.name_core.specs.NameText.{is_first_byte, is_next_byte, first_bad, read_name, IsName};
 
 use crate::limit::MOST_BYTES;
+use std::alloc::AllocError;
 use std::hash::{Hash, Hasher};
 use std::marker::Model;
 use thiserror::Error;
@@ -22,7 +23,7 @@ pub enum NameFault {
 
 /// A name: 1 to 64 bytes, of which the first is an ASCII letter, a digit or `_`, and the others may also
 /// be `.` and `-`. Contracts see it as its bytes, and two names are equal where their bytes are.
-#[derive(Clone, Copy, Debug)]
+#[derive(Copy, Debug)]
 pub struct Name {
     buf: [u8; 64],
     len: u8,
@@ -42,6 +43,19 @@ impl Model for Name {
     ghost inverse = { padded };
 
     ghost inverse_ok = { padded_back };
+}
+
+impl Clone for Name {
+    ghost use Rattle.std.specs.Prelude.{⊤};
+
+    ghost is_clone = { λ name copy. copy ≡ name };
+
+    ghost is_infallible = { λ _. ⊤ };
+
+    /// All at once; a derived body would go over the bytes one by one.
+    fn clone(&self) -> Result<Name, AllocError> {
+        Ok(*self)
+    }
 }
 
 impl PartialEq for Name {

@@ -2,6 +2,7 @@ use Rattle.std.proofs.Common.{◌≡◌, ◌≢◌, inl, inr, ◌<◌, ◌≤◌
 use Rattle.std.specs.Prelude.{slice_get}
 use Rattle.std.specs.List.{AllByRecursion, IsDistinct}
 use Rattle.std.specs.Map.{lookup, keys_of, set_value, remove_entry}
+use Rattle.std.proofs.lemmas.List.{length-append}
 use Rattle.std.proofs.lemmas.Map.Keys.{IsDistinct-head, IsDistinct-tail}
 use Rattle.indexmap.specs.IndexMap.{insert_entry}
 use Rattle.name_core.specs.declared.name.Name.{Name}
@@ -200,12 +201,12 @@ module _ {V : Type 0} where
   drop_pairs (p ∷ pages) zero = refl
   drop_pairs (p ∷ pages) (suc i) = drop_pairs pages i
 
-  at_front : (es fs : List (Name × V)) (i : ℕ) → i < length es → slice_get (es ++ fs) i ≡ slice_get es i
+  pub at_front : (es fs : List (Name × V)) (i : ℕ) → i < length es → slice_get (es ++ fs) i ≡ slice_get es i
   at_front [] fs i lt = absurd (omega (arith, lt))
   at_front (e ∷ es) fs zero lt = refl
   at_front (e ∷ es) fs (suc i) lt = at_front es fs i (omega (arith, lt))
 
-  at_back : (es fs : List (Name × V)) (i k : ℕ) → i ≡ length es + k → slice_get (es ++ fs) i ≡ slice_get fs k
+  pub at_back : (es fs : List (Name × V)) (i k : ℕ) → i ≡ length es + k → slice_get (es ++ fs) i ≡ slice_get fs k
   at_back [] fs i k is = ap (λ m. slice_get fs m) (omega (arith, is))
   at_back (e ∷ es) fs zero k is = absurd (omega (arith, is))
   at_back (e ∷ es) fs (suc i) k is = at_back es fs i k (omega (arith, is))
@@ -216,3 +217,7 @@ module _ {V : Type 0} where
   pub found_later : (pages : Pages V) (i j rest left : ℕ) → j ≡ suc i → rest ≡ length (pairs_at pages i) + left → slice_get (pairs_of (drop i pages)) rest ≡ slice_get (pairs_of (drop j pages)) left
   found_later pages i j rest left next is =
       ap (λ l. slice_get l rest) (drop_pairs pages i) ∙ at_back (pairs_at pages i) (pairs_of (drop (suc i) pages)) rest left is ∙ ap (λ m. slice_get (pairs_of (drop m pages)) left) (sym next)
+
+  pub count_later : (pages : Pages V) (i j : ℕ) → j ≡ suc i → length (pairs_of (drop i pages)) ≡ length (pairs_at pages i) + length (pairs_of (drop j pages))
+  count_later pages i j next =
+      ap (λ (l : List (Name × V)). length l) (drop_pairs pages i) ∙ length-append (pairs_at pages i) (pairs_of (drop (suc i) pages)) ∙ ap (λ m. length (pairs_at pages i) + length (pairs_of (drop m pages))) (sym next)

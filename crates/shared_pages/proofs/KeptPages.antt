@@ -16,7 +16,7 @@ lookup_front test (e ∷ es) fs h = by (test e.0) refl (λ later. lookup_front t
 
 module _ {V : Type 0} where
   -- ---- another page's pairs
-  rise_more : (pages : Pages V) (low high : ℕ) → low ≤ high → RiseFrom high pages → RiseFrom low pages
+  pub rise_more : (pages : Pages V) (low high : ℕ) → low ≤ high → RiseFrom high pages → RiseFrom low pages
   rise_more [] low high le h = tt
   rise_more (p ∷ pages) low high le h = (omega (arith, le, h.0), h.1)
 

@@ -1,4 +1,6 @@
+pub mod BucketLemmas
 pub mod DistinctPages
+pub mod GroupLemmas
 pub mod KeptPages
 pub mod MapLemmas
 pub mod NameLemmas

@@ -3,7 +3,6 @@ use Rattle.std.specs.Prelude.{slice_get, slice_set, slice_index_or}
 use Rattle.std.specs.Option.{unwrap_or}
 use Rattle.std.specs.Map.{lookup, set_value, remove_entry}
 use Rattle.std.proofs.lemmas.Bool.{cases_eq, eq-eqb, ltb-false, ltb-true}
-use Rattle.std.proofs.lemmas.List.{set-set}
 use Rattle.name_core.specs.declared.name.Name.{Name}
 use Rattle.shared_pages.specs.Pages.{Pages, page_of, set_page, put_at, RiseFrom, IsPlace, AreBelow, AreFrom, StandsFrom}
 use Rattle.shared_pages.proofs.PlaceLemmas.{some_there}
@@ -51,7 +50,7 @@ module _ {V : Type 0} where
   from_more pages n m x h there le k p at later = omega (arith, at_most_at pages m k (x, there.0) p h there.1 at later, le)
 
   -- ---- where a number stands
-  none_by : (pages : Pages V) (n : ℕ) → ((k : ℕ) (q : ℕ × List (Name × V)) → slice_get pages k ≡ Some q → n ≢ q.0) → lookup (nat_eq n) pages ≡ None
+  pub none_by : (pages : Pages V) (n : ℕ) → ((k : ℕ) (q : ℕ × List (Name × V)) → slice_get pages k ≡ Some q → n ≢ q.0) → lookup (nat_eq n) pages ≡ None
   none_by [] n h = refl
   none_by (p ∷ pages) n h = rw (ne_eqb n p.0 (h 0 p refl)) (none_by pages n (λ k q at. h (suc k) q at))
 
@@ -108,9 +107,9 @@ module _ {V : Type 0} where
   removed_again (q ∷ pages) zero p = refl
   removed_again (q ∷ pages) (suc i) p = ap (λ (l : Pages V). q ∷ l) (removed_again pages i p)
 
-  pub put_again : (pages : Pages V) (n i : ℕ) (qs : List (Name × V)) (p : ℕ × List (Name × V)) → put_at (slice_set pages i p) i n qs ≡ put_at pages i n qs
-  put_again pages n i [] p = removed_again pages i p
-  put_again pages n i (q ∷ qs) p = set-set pages i p (n, q ∷ qs)
+  pub put_again : (mid pages : Pages V) (n i : ℕ) (qs : List (Name × V)) → ((r : ℕ × List (Name × V)) → slice_set mid i r ≡ slice_set pages i r) → put_at mid i n qs ≡ put_at pages i n qs
+  put_again mid pages n i [] hole = sym (removed_again mid i (0, [])) ∙ ap (λ (l : Pages V). remove l i) (hole (0, [])) ∙ removed_again pages i (0, [])
+  put_again mid pages n i (q ∷ qs) hole = hole (n, q ∷ qs)
 
   pub put_none : (pages : Pages V) (n i : ℕ) (qs : List (Name × V)) → length qs ≡ 0 → remove pages i ≡ put_at pages i n qs
   put_none pages n i [] is = refl

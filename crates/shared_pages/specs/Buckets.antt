@@ -18,7 +18,7 @@ shelf_of a = name_number a % 32
 
 -- its bucket on that shelf
 abbrev pub bucket_of : Name → ℕ
-bucket_of a = name_number a / 32 % 32
+bucket_of a = name_number a / 32 % 64
 
 -- the pairs of a map, bucket by bucket on each shelf
 abbrev pub Shelves : Type 0 → Type 0

@@ -1,4 +1,6 @@
 pub mod Buckets
 pub mod Examples
+pub mod Groups
+pub mod Named
 pub mod Pages
 pub mod Sharing

@@ -1,3 +1,4 @@
+use crate::bucket::Bucket;
 use crate::page::Page;
 use crate::pairs::Pairs;
 use crate::shares::Shares;
@@ -19,16 +20,16 @@ pub trait Blank: Drop {
         ensures { IfOk result (λ v. v ≡ self.now) };
 }
 
-impl<V: Drop> Blank for Pairs<V> {
+impl<V: Drop> Blank for Bucket<V> {
     ghost use Rattle.std.specs.Prelude.{[]};
 
     ghost empty = { [] };
 
-    fn blank(alloc: Global) -> Pairs<V> {
-        Pairs::new(alloc)
+    fn blank(alloc: Global) -> Bucket<V> {
+        Bucket::new(alloc)
     }
 
-    fn again(&self) -> Result<Pairs<V>, Memory> {
+    fn again(&self) -> Result<Bucket<V>, Memory> {
         self.copy()
     }
 }

@@ -2,6 +2,8 @@
 #![tactic(auto)]
 
 mod blank;
+mod bucket;
+mod edit;
 mod hash;
 mod limit;
 mod map;
@@ -11,6 +13,8 @@ mod pairs;
 mod put;
 mod search;
 mod shares;
+mod spot;
+mod walk;
 
 pub use limit::{MOST_PAIRS, limit_laws};
 pub use map::SharedMap;

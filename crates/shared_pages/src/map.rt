@@ -3,8 +3,8 @@ ghost use Rattle.std.specs.Option.{option_copied, unwrap_or};
 ghost use Rattle.name_core.specs.declared.name.Name.{Name as Bytes};
 ghost use Rattle.shared_pages.specs.Buckets.{value_of, bucket_at, shelf_of, bucket_of, Gives};
 
+use crate::bucket::Bucket;
 use crate::hash::number_of;
-use crate::pairs::Pairs;
 use crate::shares::Shares;
 use memory_core::Memory;
 use name_core::Name;
@@ -24,12 +24,12 @@ pub(crate) fn slot_of(name: &Name) -> Slot
     ensures shelf { result.shelf ≡ shelf_of name.now }
     ensures bucket { result.bucket ≡ bucket_of name.now }
     ensures small_shelf { result.shelf < 32 }
-    ensures small_bucket { result.bucket < 32 }
+    ensures small_bucket { result.bucket < 64 }
 {
     let number = number_of(name) as usize;
     Slot {
         shelf: number % 32,
-        bucket: number / 32 % 32,
+        bucket: number / 32 % 64,
     }
 }
 
@@ -38,15 +38,17 @@ pub(crate) fn slot_of(name: &Name) -> Slot
 /// value of each name.
 #[derive(Drop)]
 pub struct SharedMap<V> {
-    shelves: Shares<Shares<Pairs<V>>>,
+    /// None where no name has a value yet.
+    root: Option<Arc<Shares<Shares<Bucket<V>>>>>,
 }
 
 impl<V> Model for SharedMap<V> {
     ghost use Rattle.shared_pages.specs.Buckets.{Shelves};
+    ghost use Rattle.shared_pages.specs.Sharing.{shared_or_none};
 
     ghost Value = { Shelves V };
 
-    ghost view = { λ s. s.shelves };
+    ghost view = { λ s. shared_or_none s.root };
 }
 
 impl<V: Drop> SharedMap<V> {
@@ -54,9 +56,8 @@ impl<V: Drop> SharedMap<V> {
     pub fn new(alloc: Global) -> SharedMap<V>
         ensures { (a : Bytes) → value_of result a ≡ None }
     {
-        SharedMap {
-            shelves: Shares::new(alloc),
-        }
+        let _ = alloc;
+        SharedMap { root: None }
     }
 
     /// Lends the value of the name, or `None` exactly where it has none.
@@ -71,10 +72,13 @@ impl<V: Drop> SharedMap<V> {
     }
 
     /// The bucket at the slot, where there is one.
-    fn bucket(&self, slot: &Slot) -> Option<&Pairs<V>>
+    fn bucket(&self, slot: &Slot) -> Option<&Bucket<V>>
         ensures { unwrap_or (option_copied result) [] ≡ bucket_at self.now slot.now.shelf slot.now.bucket }
     {
-        match self.shelves.get(slot.shelf) {
+        let Some(root) = &self.root else {
+            return None;
+        };
+        match root.get(slot.shelf) {
             Some(shelf) => shelf.get(slot.bucket),
             None => None,
         }
@@ -84,17 +88,34 @@ impl<V: Drop> SharedMap<V> {
     pub fn copy(&self) -> Result<SharedMap<V>, Memory>
         ensures { IfOk result (λ m. m ≡ self.now) }
     {
-        let shelves = self.shelves.copy()?;
-        Ok(SharedMap { shelves })
+        let Some(root) = &self.root else {
+            return Ok(SharedMap { root: None });
+        };
+        let share = Arc::try_clone(root)?;
+        Ok(SharedMap { root: Some(share) })
+    }
+
+    /// The shelves of this map. Where a copy shares them, they are copied.
+    fn owned(self, alloc: Global) -> Result<Shares<Shares<Bucket<V>>>, Memory>
+        ensures { IfOk result (λ s. s ≡ self) }
+    {
+        let SharedMap { root } = self;
+        let Some(share) = root else {
+            return Ok(Shares::new(alloc));
+        };
+        match Arc::try_unwrap(share) {
+            Ok(shelves) => Ok(shelves),
+            Err(share) => share.copy(),
+        }
     }
 
     /// The map in which the bucket stands on the shelf again, and the shelf among the others.
     fn put_back(
         alloc: Global,
-        mut shelves: Shares<Shares<Pairs<V>>>,
-        mut shelf: Shares<Pairs<V>>,
+        mut shelves: Shares<Shares<Bucket<V>>>,
+        mut shelf: Shares<Bucket<V>>,
         slot: &Slot,
-        bucket: Pairs<V>,
+        bucket: Bucket<V>,
     ) -> Result<SharedMap<V>, Memory>
         requires shelf { slot.now.shelf < length shelves }
         requires bucket { slot.now.bucket < length shelf }
@@ -102,7 +123,8 @@ impl<V: Drop> SharedMap<V> {
     {
         shelf.set(alloc, slot.bucket, bucket)?;
         shelves.set(alloc, slot.shelf, shelf)?;
-        Ok(SharedMap { shelves })
+        let root = Arc::new(alloc, shelves)?;
+        Ok(SharedMap { root: Some(root) })
     }
 
     /// The map in which the name has this value. It takes this map over, and what copies of this map share stays as it is
@@ -110,8 +132,8 @@ impl<V: Drop> SharedMap<V> {
     pub fn put(self, alloc: Global, name: &Name, value: V) -> Result<SharedMap<V>, Memory>
         ensures { IfOk result (Gives self name.now (Some value)) }
     {
-        let SharedMap { mut shelves } = self;
         let slot = slot_of(name);
+        let mut shelves = self.owned(alloc)?;
         let mut shelf = shelves.take(alloc, slot.shelf)?;
         let mut bucket = shelf.take(alloc, slot.bucket)?;
         let share = Arc::new(alloc, value)?;
@@ -124,11 +146,10 @@ impl<V: Drop> SharedMap<V> {
     pub fn remove(self, alloc: Global, name: &Name) -> Result<SharedMap<V>, Memory>
         ensures { IfOk result (Gives self name.now None) }
     {
-        let SharedMap { mut shelves } = self;
         let slot = slot_of(name);
+        let mut shelves = self.owned(alloc)?;
         let mut shelf = shelves.take(alloc, slot.shelf)?;
         let mut bucket = shelf.take(alloc, slot.bucket)?;
-        let _count = bucket.len();
         bucket.remove(name);
         SharedMap::put_back(alloc, shelves, shelf, &slot, bucket)
     }

@@ -8,35 +8,39 @@ ghost use Rattle.name_core.specs.declared.name.Name.{Name as Bytes};
 ghost use Rattle.name_core.specs.Same.{same_name};
 ghost use Rattle.shared_pages.specs.Pages.{most_pairs, pairs_of, page_of, set_page, pushed, last_number, ArePages};
 
+use crate::edit::{drop_name, push_in, set_name, set_pairs};
 use crate::page::Page;
 use crate::pairs::Pairs;
-use crate::put::{push_pair, put_page};
-use crate::search::{find, place_of};
 use crate::shares::Shares;
+use crate::spot::{page_on, spot_of};
+use crate::walk::{find_in, locate};
 use memory_core::Memory;
 use name_core::Name;
 use std::alloc::Global;
 use std::marker::Model;
 use std::sync::Arc;
 
-/// Pairs on pages, in order, of which a copy shares all pages. A page has 1 to 128 pairs and keeps its number as long as it
-/// has one, and the numbers rise from page to page. A change touches one page: one that a copy shares is copied first, and
-/// one that none shares is changed where it stands. Contracts see the pages with their numbers and pairs.
+/// Pairs on pages, in order, of which a copy shares all pages. A page has 1 to 32 pairs and keeps its number as long as it
+/// has one, and the numbers rise from page to page. Pages stand in groups, of which a copy shares all too. A change touches
+/// one page and its group: what a copy shares is copied first, and what none shares is changed where it stands. Contracts
+/// see the pages with their numbers and pairs.
 #[derive(Drop)]
 pub struct PageList<V> {
-    pages: Shares<Page<V>>,
+    /// No group is empty.
+    groups: Shares<Shares<Page<V>>>,
     /// The number of all pairs.
     count: usize,
 }
 
 impl<V> Model for PageList<V> {
-    ghost use Rattle.shared_pages.specs.Pages.{Pages, ArePages};
+    ghost use Rattle.shared_pages.specs.Pages.{Pages};
+    ghost use Rattle.shared_pages.specs.Groups.{AreGroups, pages_in};
 
     ghost Value = { Pages V };
 
-    ghost view = { λ s. s.pages };
+    ghost view = { λ s. pages_in s.groups };
 
-    ghost invariant = { λ s. ArePages s.pages s.count };
+    ghost invariant = { λ s. AreGroups s.groups s.count };
 }
 
 impl<V: Drop> PageList<V> {
@@ -45,7 +49,7 @@ impl<V: Drop> PageList<V> {
         ensures { result ≡ [] }
     {
         PageList {
-            pages: Shares::new(alloc),
+            groups: Shares::new(alloc),
             count: 0,
         }
     }
@@ -54,7 +58,7 @@ impl<V: Drop> PageList<V> {
     pub fn len(&self) -> usize
         ensures value { result ≡ length (pairs_of self.now) }
 
-        // The numbers of the pages rise, and each has 1 to 128 pairs.
+        // The numbers of the pages rise, and each has 1 to 32 pairs.
         ensures pages { ArePages self.now result }
     {
         self.count
@@ -64,16 +68,16 @@ impl<V: Drop> PageList<V> {
     pub fn page_at(&self, place: usize) -> Option<&Page<V>>
         ensures { option_copied result ≡ slice_get self.now place }
     {
-        self.pages.get(place)
+        page_on(&self.groups, &locate(&self.groups, place))
     }
 
     /// The same pages again. They are all shared. An `Err` is want of memory, and this list is as before.
     pub fn copy(&self) -> Result<PageList<V>, Memory>
         ensures { IfOk result (λ l. l ≡ self.now) }
     {
-        let pages = self.pages.copy()?;
+        let groups = self.groups.copy()?;
         Ok(PageList {
-            pages,
+            groups,
             count: self.count,
         })
     }
@@ -82,8 +86,8 @@ impl<V: Drop> PageList<V> {
     pub fn page(&self, number: u64) -> Option<&Pairs<V>>
         ensures { option_copied result ≡ lookup (nat_eq number) self.now }
     {
-        match place_of(&self.pages, number) {
-            Some(place) => match self.pages.get(place) {
+        match spot_of(&self.groups, number) {
+            Some(spot) => match page_on(&self.groups, &spot) {
                 Some(page) => Some(page.pairs()),
                 None => unreachable!(),
             },
@@ -119,12 +123,9 @@ impl<V: Drop> PageList<V> {
         let Some(count) = rest.checked_add(pairs.len()) else {
             return Err(Memory);
         };
-        let PageList { mut pages, .. } = self;
-        match place_of(&pages, number) {
-            Some(place) => put_page(alloc, &mut pages, place, number, pairs)?,
-            None => unreachable!(),
-        }
-        Ok(PageList { pages, count })
+        let PageList { mut groups, .. } = self;
+        set_pairs(alloc, &mut groups, number, pairs)?;
+        Ok(PageList { groups, count })
     }
 
     /// The list with a pair more at the end, and the number of the page on which it stands. It takes this list over. A last
@@ -143,12 +144,12 @@ impl<V: Drop> PageList<V> {
         ensures pages { IfOk result (λ r. (n : ℕ) → page_of r.0 n ≡ cond (nat_eq r.1 n) (page_of self n ++ (name.now, arc_value value) ∷ []) (page_of self n)) }
         ensures pairs { IfOk result (λ r. pairs_of r.0 ≡ pairs_of self ++ (name.now, arc_value value) ∷ []) }
     {
-        let PageList { mut pages, count } = self;
+        let PageList { mut groups, count } = self;
         let Some(count) = count.checked_add(1) else {
             return Err(Memory);
         };
-        let number = push_pair(alloc, &mut pages, name, value)?;
-        Ok((PageList { pages, count }, number))
+        let number = push_in(alloc, &mut groups, name, value)?;
+        Ok((PageList { groups, count }, number))
     }
 
     /// The list in which a name on the page of the number has this value, in its place. It takes this list over; its other
@@ -169,15 +170,9 @@ impl<V: Drop> PageList<V> {
         ensures pairs { IfOk result (λ l. IsDistinct same_name (keys_of (pairs_of self)) → pairs_of l ≡ set_value (same_name name.now) (pairs_of self) (arc_value value)) }
     {
         let _count = self.len();
-        let PageList { mut pages, count } = self;
-        match place_of(&pages, number) {
-            Some(place) => {
-                let page = pages.take_at(alloc, place)?.with(name, value)?;
-                pages.set(alloc, place, page)?;
-                Ok(PageList { pages, count })
-            }
-            None => unreachable!(),
-        }
+        let PageList { mut groups, count } = self;
+        set_name(alloc, &mut groups, number, name, value)?;
+        Ok(PageList { groups, count })
     }
 
     /// The list without a name on the page of the number, and without the page where that was its last one. It takes this
@@ -190,18 +185,10 @@ impl<V: Drop> PageList<V> {
         ensures pairs { IfOk result (λ l. IsDistinct same_name (keys_of (pairs_of self)) → pairs_of l ≡ remove_entry (same_name name.now) (pairs_of self)) }
     {
         let _count = self.len();
-        let PageList { mut pages, count } = self;
-        match place_of(&pages, number) {
-            Some(place) => {
-                let pairs = pages.take_at(alloc, place)?.without(name);
-                put_page(alloc, &mut pages, place, number, pairs)?;
-                Ok(PageList {
-                    pages,
-                    count: count - 1,
-                })
-            }
-            None => unreachable!(),
-        }
+        let PageList { mut groups, count } = self;
+        drop_name(alloc, &mut groups, number, name)?;
+        let count = count - 1;
+        Ok(PageList { groups, count })
     }
 
     /// Lends the name and the value at the place among all pairs, counted from 0, or `None` exactly past the end. It walks
@@ -209,8 +196,8 @@ impl<V: Drop> PageList<V> {
     pub fn at(&self, place: usize) -> Option<(&Name, &V)>
         ensures { option_map deref_pair result ≡ slice_get (pairs_of self.now) place }
     {
-        let (page, rest) = find(&self.pages, place);
-        match self.pages.get(page) {
+        let (spot, rest) = find_in(&self.groups, place);
+        match page_on(&self.groups, &spot) {
             Some(page) => page.pairs().at(rest),
             None => None,
         }

@@ -1,11 +1,11 @@
-ghost use Rattle.std.specs.Prelude.{◌≡◌, ◌<◌, Some, length, slice_get};
+ghost use Rattle.std.specs.Prelude.{◌≡◌, ◌<◌, ◌≤◌, ◌+◌, Some, length, slice_get};
 ghost use Rattle.shared_pages.specs.Pages.{RiseFrom, IsPlace, StandsFrom, pairs_at, pairs_of};
 
 use crate::page::Page;
 use crate::shares::Shares;
 
 /// The number of the page at the place.
-fn number_at<V: Drop>(pages: &Shares<Page<V>>, place: usize) -> u64
+pub(crate) fn number_at<V: Drop>(pages: &Shares<Page<V>>, place: usize) -> u64
     requires { place < length pages.now }
     ensures { IsPlace pages.now result (Some place) }
 {
@@ -62,9 +62,12 @@ fn len_at<V: Drop>(pages: &Shares<Page<V>>, place: usize) -> usize
     }
 }
 
-/// On which page the pair at a place among all pairs stands, and at which place there.
+/// On which page the pair at a place among all pairs stands, and at which place there. Past the last pair it is no page, and
+/// what is left of the place.
 pub(crate) fn find<V: Drop>(pages: &Shares<Page<V>>, place: usize) -> (usize, usize)
-    ensures { slice_get (pairs_of pages.now) place ≡ slice_get (pairs_at pages.now result.0) result.1 }
+    ensures here { result.0 < length pages.now → place < length (pairs_of pages.now) }
+    ensures past { length pages.now ≤ result.0 → place ≡ length (pairs_of pages.now) + result.1 }
+    ensures found { slice_get (pairs_of pages.now) place ≡ slice_get (pairs_at pages.now result.0) result.1 }
 {
     let mut rest = place;
     for page in 0..pages.len() {

@@ -65,16 +65,28 @@ impl<T: Drop> Shares<T> {
         ensures err { OnErr result (self.new ≡ self.old) }
     {
         let item = Arc::new(alloc, value)?;
+        self.push_share(item)
+    }
+
+    /// Puts a share of a value at the end.
+    pub(crate) fn push_share(&mut self, item: Arc<T>) -> Result<(), Memory>
+        ensures ok { OnOk result (self.new ≡ self.old ++ arc_value item ∷ []) }
+        ensures err { OnErr result (self.new ≡ self.old) }
+    {
         self.items.push(item)?;
         Ok(())
     }
 
-    /// Puts a value in the place of another one, which other lists keep.
+    /// Puts a value in the place of another one, which the lists that share it keep. One that none shares is overwritten.
     pub fn set(&mut self, alloc: Global, place: usize, value: T) -> Result<(), Memory>
         requires { place < length self.old }
         ensures ok { OnOk result (self.new ≡ slice_set self.old place value) }
         ensures err { OnErr result (self.new ≡ self.old) }
     {
+        if let Some(old) = Arc::get_mut(&mut self.items[place]) {
+            *old = value;
+            return Ok(());
+        }
         let item = Arc::new(alloc, value)?;
         self.items[place] = item;
         Ok(())
@@ -98,7 +110,7 @@ impl<T: Drop> Shares<T> {
 }
 
 impl<T: Blank> Shares<T> {
-    ghost use Rattle.std.specs.Prelude.{◌≡◌, ◌≢◌, ◌<◌, ℕ, length, slice_index_or, slice_set, IfOk, OnOk};
+    ghost use Rattle.std.specs.Prelude.{◌≡◌, ◌≢◌, ◌<◌, ◌++◌, ◌∷◌, ◌⊎◌, [], ℕ, length, slice_index_or, slice_set, IfOk, OnOk};
 
     /// Makes places, as far as they are not there, up to this one. The new ones are empty.
     fn pad(&mut self, alloc: Global, place: usize) -> Result<(), Memory>
@@ -111,21 +123,21 @@ impl<T: Blank> Shares<T> {
         Ok(())
     }
 
-    /// Takes the value at a place that is there, and leaves an empty one. Where another list shares it, it is a copy.
+    /// Takes the value at a place that is there. What it leaves there is to be overwritten: a value that is shared is copied and
+    /// stays, and in the place of one that is not stands an empty one. Neither takes memory of its own.
     pub(crate) fn take_at(&mut self, alloc: Global, place: usize) -> Result<T, Memory>
         requires { place < length self.old }
         ensures value { IfOk result (λ v. v ≡ slice_index_or self.old place T.empty) }
-        ensures hole { OnOk result (self.new ≡ slice_set self.old place T.empty) }
+        ensures hole { OnOk result ((v : T) → slice_set self.new place v ≡ slice_set self.old place v) }
+        ensures same_length { OnOk result (length self.new ≡ length self.old) }
     {
-        let hole = Arc::new(alloc, T::blank(alloc))?;
-        let share = mem::replace(&mut self.items[place], hole);
-        match Arc::try_unwrap(share) {
-            Ok(value) => Ok(value),
-            Err(share) => share.again(),
+        if let Some(value) = Arc::get_mut(&mut self.items[place]) {
+            return Ok(mem::replace(value, T::blank(alloc)));
         }
+        self.items[place].again()
     }
 
-    /// Takes the value at the place, and leaves an empty one there. Where another list shares it, it is a copy.
+    /// Takes the value at the place, which is to be overwritten.
     pub(crate) fn take(&mut self, alloc: Global, place: usize) -> Result<T, Memory>
         ensures value { IfOk result (λ v. v ≡ slice_index_or self.old place T.empty) }
         ensures others { OnOk result ((i : ℕ) → i ≢ place → slice_index_or self.new i T.empty ≡ slice_index_or self.old i T.empty) }
@@ -133,5 +145,17 @@ impl<T: Blank> Shares<T> {
     {
         self.pad(alloc, place)?;
         self.take_at(alloc, place)
+    }
+    /// Takes the last value out of this list, and an empty one where there is none. Where another list shares it, it is a copy.
+    pub(crate) fn last_taken(&mut self, alloc: Global) -> Result<T, Memory>
+        ensures { IfOk result (λ v. (self.old ≡ self.new ++ v ∷ []) ⊎ ((self.old ≡ []) × (self.new ≡ []) × (v ≡ T.empty))) }
+    {
+        let Some(share) = self.items.pop() else {
+            return Ok(T::blank(alloc));
+        };
+        match Arc::try_unwrap(share) {
+            Ok(value) => Ok(value),
+            Err(share) => share.again(),
+        }
     }
 }

@@ -11,11 +11,11 @@ use Rattle.shared_pages.proofs.map.SharedMap.remove.Goals as goal
 pub returns : goal.returns
 returns g c =
     IfOk-weaker c.put_back.result _ _
-    (λ m put. subst (λ l. Gives l c.args.name.now None m) c.self.view_is
-    (gives_at c.self.inside.shelves m c.args.name.now None c.in_ok-bucket.bucket c.remove.new.self c.slot_of-slot.result.shelf c.slot_of-slot.result.bucket
+    (λ m put. subst (λ l. Gives l c.args.name.now None m) c.in_ok-shelves.ensures
+    (gives_at c.in_ok-shelves.shelves m c.args.name.now None c.in_ok-bucket.bucket c.remove.new.self c.slot_of-slot.result.shelf c.slot_of-slot.result.bucket
     c.slot_of-slot.ensures.shelf c.slot_of-slot.ensures.bucket
-    (back_in c.self.inside.shelves c.take.new.self c.in_ok-shelf.shelf c.take-2.new.self c.slot_of-slot.result.shelf c.slot_of-slot.result.bucket c.remove.new.self m
+    (back_in c.in_ok-shelves.shelves c.take.new.self c.in_ok-shelf.shelf c.take-2.new.self c.slot_of-slot.result.shelf c.slot_of-slot.result.bucket c.remove.new.self m
     c.in_ok-shelf.ensures.value c.in_ok-shelf.ensures.others c.in_ok-shelf.ensures.there c.in_ok-bucket.ensures.others c.in_ok-bucket.ensures.there put)
     (c.in_ok-bucket.ensures.value ∙ ap (λ l. slice_index_or l c.slot_of-slot.result.bucket []) c.in_ok-shelf.ensures.value)
-    (λ a. ap (λ l. lookup (same_name a) l) c.remove.ensures ∙ lookup_removed c.in_ok-bucket.bucket c.args.name.now a c.len-count.ensures.distinct)))
+    (λ a. ap (λ l. lookup (same_name a) l) c.remove.ensures.pairs ∙ lookup_removed c.in_ok-bucket.bucket c.args.name.now a c.remove.ensures.distinct)))
     c.put_back.ensures

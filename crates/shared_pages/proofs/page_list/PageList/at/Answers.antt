@@ -1,15 +1,17 @@
 use Rattle.std.proofs.Common.{◌∙◌, ap, sym}
 use Rattle.std.specs.Prelude.{slice_get}
 use Rattle.shared_pages.specs.Pages.{pairs_of}
+use Rattle.shared_pages.specs.Groups.{group_at}
 use Rattle.shared_pages.proofs.DistinctPages.{pairs_there, pairs_past}
 use Rattle.shared_pages.proofs.page_list.PageList.at.Goals as goal
 
 pub returns-in-Some : goal.returns-in-Some
 returns-in-Some g c =
-    c.at.ensures ∙ ap (λ l. slice_get l c.find-page.result.1) (c.pairs.ensures ∙ pairs_there c.self.inside.pages c.find-page.result.0 c.in-Some.page.now c.in-Some.ensures)
-    ∙ sym c.find-page.ensures ∙ ap (λ l. slice_get (pairs_of l) c.args.place) c.self.view_is
+    c.at.ensures
+    ∙ ap (λ l. slice_get l c.find_in-rest.result.1) (c.pairs.ensures ∙ pairs_there (group_at c.self.inside.groups c.find_in-rest.result.0.group) c.find_in-rest.result.0.page c.in-Some.page.now c.in-Some.ensures)
+    ∙ sym c.find_in-rest.ensures ∙ ap (λ l. slice_get (pairs_of l) c.args.place) c.self.view_is
 
 pub returns-in-None : goal.returns-in-None
 returns-in-None g c =
-    ap (λ l. slice_get l c.find-page.result.1) (pairs_past c.self.inside.pages c.find-page.result.0 c.in-None.ensures)
-    ∙ sym c.find-page.ensures ∙ ap (λ l. slice_get (pairs_of l) c.args.place) c.self.view_is
+    ap (λ l. slice_get l c.find_in-rest.result.1) (pairs_past (group_at c.self.inside.groups c.find_in-rest.result.0.group) c.find_in-rest.result.0.page c.in-None.ensures)
+    ∙ sym c.find_in-rest.ensures ∙ ap (λ l. slice_get (pairs_of l) c.args.place) c.self.view_is

@@ -1,0 +1,12 @@
+use Rattle.std.proofs.Common.{◌≢◌, ◌∙◌, arith, length}
+use Rattle.std.proofs.lemmas.Result.{on_ok_weaker}
+use Rattle.shared_pages.proofs.GroupLemmas.{put_none, put_some}
+use Rattle.shared_pages.proofs.edit.put_group.Goals as goal
+
+pub returns-then-len-eq0 : goal.returns-then-len-eq0
+returns-then-len-eq0 g c = c.remove.ensures ∙ put_none c.args.groups.now c.args.place c.args.pages (omega (arith, c.len.ensures, c.if-len-eq0.true))
+
+pub returns : goal.returns
+returns g c =
+    let some : length c.args.pages ≢ 0 = λ e. omega (arith, c.len.ensures, c.if-len-eq0.false, e) in
+    on_ok_weaker c.set.result (λ is. is ∙ put_some c.args.groups.now c.args.place c.args.pages some) c.set.ensures.ok

@@ -33,9 +33,12 @@ use Rattle.directory.proofs.TellLemmas.{nothing_sound, judged_sound}
 -- Contents: a sound list with its depths, and edits of it.
 
 -- ---- no objects
+pub nothing_is_sound : (es : Entries) → es ≡ [] → IsSound es
+nothing_is_sound es e = nothing_sound es e (subst (λ (l : Entries). IsDistinct same_name (keys_of l)) (sym e) nothing_distinct)
+
 pub nothing_kept : (es : Entries) (levels : Shelves ℕ) → es ≡ [] → ((a : Name) → value_of levels a ≡ None) → IsKept es levels
 nothing_kept es levels e none = record {
-  sound = nothing_sound es e (subst (λ (l : Entries). IsDistinct same_name (keys_of l)) (sym e) nothing_distinct);
+  sound = nothing_is_sound es e;
   known = λ a. ap (λ (d : Option ℕ). unwrap_or d 0) (none a) ∙ sym (ap (λ (l : Entries). depth_within unbounded l a) e);
 }
 

@@ -1,4 +1,4 @@
-use Rattle.std.proofs.Common.{◌≡◌, ◌∙◌, ℕ, min, cond, List, [], ◌∷◌, ap, sym, subst, inl, inr, Option, None, Some, IsSome}
+use Rattle.std.proofs.Common.{◌≡◌, ◌∙◌, ℕ, min, cond, List, [], ◌∷◌, ap, sym, subst, inl, inr, Option, None, Some}
 use Rattle.std.specs.Prelude.{◌||◌}
 use Rattle.name_core.specs.declared.name.Name.{Name}
 use Rattle.name_core.specs.Same.{same_name}

@@ -157,15 +157,6 @@ impl Contents {
         self.list.references(name)
     }
 
-    /// The same contents again. They share all.
-    pub(crate) fn copy(&self) -> Result<Contents, Memory>
-        ensures { IfOk result (λ c. c ≡ self.now) }
-    {
-        let list = self.list.copy()?;
-        let depths = self.depths.copy()?;
-        Ok(Contents { list, depths })
-    }
-
     /// A pair more at the end.
     fn append(&self, alloc: Global, name: &Name, object: Object) -> Result<Edit, Memory>
         requires absent { object_of self.now name.now ≡ None }

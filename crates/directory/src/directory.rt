@@ -5,6 +5,7 @@ use name_core::Name;
 use object_set::Object;
 use std::alloc::Global;
 use std::marker::Model;
+use std::sync::Arc;
 
 /// A title and a list of named objects, in order. No name stands twice, no combination is its own member, directly or
 /// through others, at most 16 combinations lie one in the other, and there are at most 65,535 objects. Names that are
@@ -13,12 +14,16 @@ use std::marker::Model;
 #[derive(Drop)]
 pub struct Directory {
     title: Vec<u8>,
-    contents: Contents,
+    /// What copies share whole until one of them is edited. An empty directory may have none.
+    contents: Option<Arc<Contents>>,
     /// Where edits take their memory.
     alloc: Global,
 }
 
 impl Model for Directory {
+    ghost use Rattle.std.specs.Prelude.{[], unwrap_or};
+    ghost use Rattle.std.specs.Arc.{arc_value};
+    ghost use Rattle.std.specs.Option.{option_map};
     ghost use Rattle.std.specs.Coded.{codes};
     ghost use Rattle.object_set.specs.contracts.object.Object as parts;
     ghost use Rattle.object_set.specs.TextValues.{IsTextValue};
@@ -28,13 +33,14 @@ impl Model for Directory {
 
     ghost coded = { Prim.hlevel (codes, parts.the_row.coded) };
 
-    ghost view = { λ s. record { title = s.title.items; objects = s.contents } };
+    ghost view = { λ s. record { title = s.title.items; objects = unwrap_or (option_map arc_value s.contents) [] } };
 
     ghost invariant = { λ s. IsTextValue s.title.items };
 }
 
 impl Directory {
     ghost use Rattle.std.specs.Prelude.{◌≡◌, [], length, slice_get, IfOk, OnOk, OnErr};
+    ghost use Rattle.std.specs.Arc.{arc_value};
     ghost use Rattle.std.specs.Option.{option_copied, option_map};
     ghost use Rattle.std.specs.Map.Iter.{deref_pair};
     ghost use Rattle.object_set.specs.TextValues.{IsTextValue};
@@ -48,22 +54,48 @@ impl Directory {
     {
         Directory {
             title: Vec::new(alloc),
-            contents: Contents::new(alloc),
+            contents: None,
             alloc,
         }
     }
 
     /// The directory of these parts.
-    pub(crate) fn of_parts(alloc: Global, title: Vec<u8>, contents: Contents) -> Directory
+    pub(crate) fn of_parts(
+        alloc: Global,
+        title: Vec<u8>,
+        contents: Contents,
+    ) -> Result<Directory, Memory>
         requires { IsTextValue title.items }
-        ensures title { result.title ≡ title.items }
-        ensures objects { result.objects ≡ contents }
+        ensures title { IfOk result (λ d. d.title ≡ title.items) }
+        ensures objects { IfOk result (λ d. d.objects ≡ contents) }
     {
-        Directory {
+        let contents = Arc::new(alloc, contents)?;
+        Ok(Directory {
             title,
-            contents,
+            contents: Some(contents),
             alloc,
+        })
+    }
+
+    /// A share of the contents.
+    fn contents(&self) -> Result<Arc<Contents>, Memory>
+        ensures { IfOk result (λ c. arc_value c ≡ self.now.objects) }
+    {
+        match &self.contents {
+            Some(contents) => Ok(contents.clone()?),
+            None => Ok(Arc::new(self.alloc, Contents::new(self.alloc))?),
         }
+    }
+
+    /// Puts other contents in place.
+    fn set_contents(&mut self, contents: Contents) -> Result<(), Memory>
+        ensures ok { OnOk result (self.new.objects ≡ contents) }
+        ensures err { OnErr result (self.new.objects ≡ self.old.objects) }
+        ensures title { self.new.title ≡ self.old.title }
+    {
+        let contents = Arc::new(self.alloc, contents)?;
+        self.contents = Some(contents);
+        Ok(())
     }
 
     /// Lends the title.
@@ -79,21 +111,30 @@ impl Directory {
         ensures value { result ≡ length self.now.objects }
         ensures sound { IsSound self.now.objects }
     {
-        self.contents.len() as u32
+        match &self.contents {
+            Some(contents) => contents.len() as u32,
+            None => 0,
+        }
     }
 
     /// The name and the object at the place, counted from 0, or `None` exactly past the end.
     pub fn at(&self, place: u32) -> Option<(&Name, &Object)>
         ensures { option_map deref_pair result ≡ slice_get self.now.objects place }
     {
-        self.contents.at(place as usize)
+        match &self.contents {
+            Some(contents) => contents.at(place as usize),
+            None => None,
+        }
     }
 
     /// The object of this name, or `None` exactly where it is not there.
     pub fn get(&self, name: &Name) -> Option<&Object>
         ensures { option_copied result ≡ object_of self.now.objects name.now }
     {
-        self.contents.get(name)
+        match &self.contents {
+            Some(contents) => contents.get(name),
+            None => None,
+        }
     }
 
     /// Adds an object under a new name, at the end. `Exists`, `Full`, then `Cycle` and `Deep` of the list with it.
@@ -104,9 +145,9 @@ impl Directory {
         ensures means { Tells (appended self.old.objects name.now object) name.now result }
         ensures title { self.new.title ≡ self.old.title }
     {
-        let _count = self.contents.len();
-        let contents = self.contents.put(self.alloc, name, object)?;
-        self.contents = contents;
+        let _count = self.len();
+        let contents = self.contents()?.put(self.alloc, name, object)?;
+        self.set_contents(contents)?;
         Ok(())
     }
 
@@ -116,9 +157,9 @@ impl Directory {
         ensures means { Tells (replaced self.old.objects name.now object) name.now result }
         ensures title { self.new.title ≡ self.old.title }
     {
-        let _count = self.contents.len();
-        let contents = self.contents.replace(self.alloc, name, object)?;
-        self.contents = contents;
+        let _count = self.len();
+        let contents = self.contents()?.replace(self.alloc, name, object)?;
+        self.set_contents(contents)?;
         Ok(())
     }
 
@@ -128,9 +169,9 @@ impl Directory {
         ensures means { Tells (removed self.old.objects name.now) name.now result }
         ensures title { self.new.title ≡ self.old.title }
     {
-        let _count = self.contents.len();
-        let contents = self.contents.remove(self.alloc, name)?;
-        self.contents = contents;
+        let _count = self.len();
+        let contents = self.contents()?.remove(self.alloc, name)?;
+        self.set_contents(contents)?;
         Ok(())
     }
 
@@ -141,9 +182,9 @@ impl Directory {
         ensures means { Tells (renamed_all self.old.objects old.now new.now) new.now result }
         ensures title { self.new.title ≡ self.old.title }
     {
-        let _count = self.contents.len();
-        let contents = self.contents.rename(alloc, old, new)?;
-        self.contents = contents;
+        let _count = self.len();
+        let contents = self.contents()?.rename(alloc, old, new)?;
+        self.set_contents(contents)?;
         Ok(())
     }
 
@@ -166,9 +207,8 @@ impl Directory {
         ensures err { OnErr result (self.new.objects ≡ self.old.objects) }
         ensures title { self.new.title ≡ self.old.title }
     {
-        let contents = self.contents.remove_all(alloc, names)?;
-        self.contents = contents;
-        Ok(())
+        let contents = self.contents()?.remove_all(alloc, names)?;
+        self.set_contents(contents)
     }
 
     /// The same directory again.
@@ -176,7 +216,10 @@ impl Directory {
         ensures { IfOk result (λ d. d ≡ self.now) }
     {
         let title = Vec::from_slice(alloc, &self.title)?;
-        let contents = self.contents.copy()?;
+        let contents = match &self.contents {
+            Some(contents) => Some(contents.clone()?),
+            None => None,
+        };
         Ok(Directory {
             title,
             contents,
@@ -188,6 +231,9 @@ impl Directory {
     pub fn references(&self, name: &Name) -> u64
         ensures { result ≡ references_of self.now.objects name.now }
     {
-        self.contents.references(name)
+        match &self.contents {
+            Some(contents) => contents.references(name),
+            None => 0,
+        }
     }
 }

@@ -120,6 +120,6 @@ impl Draft {
     {
         let Draft { title, objects } = self;
         let contents = settle_pairs(alloc, objects)?;
-        Ok(Directory::of_parts(alloc, title, contents))
+        Ok(Directory::of_parts(alloc, title, contents)?)
     }
 }

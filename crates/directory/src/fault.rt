@@ -1,3 +1,4 @@
+use memory_core::Memory;
 use name_core::Name;
 use thiserror::Error;
 
@@ -23,4 +24,15 @@ pub enum DirFault {
     /// There was no memory.
     #[error("out of memory")]
     Memory,
+}
+
+impl From<Memory> for DirFault {
+    ghost use Rattle.std.specs.Prelude.{◌≡◌};
+    ghost use Rattle.directory.specs.declared.fault.DirFault.TheVariants as faults;
+
+    ghost from_gives = { λ _ e. e ≡ faults.Memory };
+
+    fn from(_error: Memory) -> DirFault {
+        DirFault::Memory
+    }
 }

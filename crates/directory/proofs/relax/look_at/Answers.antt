@@ -22,8 +22,8 @@ returns-clause-round c turns rest few known h =
     c.args.round.high c.if-depth-gt-DEPTH.high h few (c.due-depth.ensures known) c.in_ok-depths.ensures c.in_ok-put_users.ensures.users c.in_ok-put_users.ensures.kept in
     elim c.if-depth-gt-DEPTH.branch [
       | then-depth-gt-DEPTH+in_ok-insert w ↦
-          set (λ x inside. ap (λ (l : List Name). is_among l x) w.high-is ∙ insert_keeps c.args.round.high w.insert.new.self c.args.name.now w.in_ok-insert.ensures.ok x inside)
-          (inl (ap (λ (l : List Name). is_among l c.args.name.now) w.high-is ∙ insert_puts c.args.round.high w.insert.new.self c.args.name.now w.in_ok-insert.ensures.ok))
+          set (λ x inside. ap (λ (l : List Name). is_among l x) w.high-is ∙ insert_keeps c.args.round.high w.insert.new.self c.args.name.now w.in_ok-insert.ensures.members x inside)
+          (inl (ap (λ (l : List Name). is_among l c.args.name.now) w.high-is ∙ insert_puts c.args.round.high w.insert.new.self c.args.name.now w.in_ok-insert.ensures.members))
       | else-depth-gt-DEPTH w ↦
           set (λ x inside. ap (λ (l : List Name). is_among l x) w.high-is ∙ inside) (inr w.if-depth-gt-DEPTH.false)
     ]

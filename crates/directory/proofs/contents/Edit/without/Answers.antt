@@ -12,4 +12,4 @@ returns-then-is_none-clause-list c =
 
 pub returns-clause-begins : goal.returns-clause-begins
 returns-clause-begins c =
-    without_step c.args.self.list c.in_ok-list.list c.args.name.now (depth_kept c.args.self.depths) c.args.self.touched c.insert.new.self c.requires c.in_ok-list.ensures c.in_ok-insert.ensures.ok
+    without_step c.args.self.list c.in_ok-list.list c.args.name.now (depth_kept c.args.self.depths) c.args.self.touched c.insert.new.self c.requires c.in_ok-list.ensures c.in_ok-insert.ensures.members

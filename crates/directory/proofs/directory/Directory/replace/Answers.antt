@@ -1,13 +1,12 @@
-use Rattle.std.proofs.Common.{subst, rules}
+use Rattle.std.proofs.Common.{rules}
 use Rattle.directory.specs.Walks.{Entries, IsSound}
-use Rattle.directory.specs.Listing.{Listing}
 use Rattle.directory.specs.Edits.{replaced, replace_fault, Follows}
 use Rattle.directory.proofs.TellLemmas.{replace_tells}
 use Rattle.directory.proofs.directory.Directory.replace.Goals as goal
 
-pub returns-in_err-contents-clause-means : goal.returns-in_err-contents-clause-means
-returns-in_err-contents-clause-means c =
+pub returns-in_err-contents-2-clause-means : goal.returns-in_err-contents-2-clause-means
+returns-in_err-contents-2-clause-means c =
     let es : Entries = c.args.self.now.objects in
-    let sound : IsSound es = subst (λ (d : Listing). IsSound d.objects) c.self.view_is c.len-count.ensures.sound in
-    let h : Follows es (replace_fault es c.args.name.now c.args.object) (replaced es c.args.name.now c.args.object) c.from_residual.result es = search rules in
-    replace_tells es c.args.name.now c.args.object c.from_residual.result es sound sound.distinct h
+    let sound : IsSound es = c.len-count.ensures.sound in
+    let h : Follows es (replace_fault es c.args.name.now c.args.object) (replaced es c.args.name.now c.args.object) c.from_residual-in_err-contents-2.result es = search rules in
+    replace_tells es c.args.name.now c.args.object c.from_residual-in_err-contents-2.result es sound sound.distinct h

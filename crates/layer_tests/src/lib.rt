@@ -1,5 +1,5 @@
 //! Tests of the lower layers that need fakes or types of this language: counters of steps, adapters over readers and
-//! writers, and gates. The other cases of these layers are rows of tables.
+//! writers, gates, and a version table that threads share. The other cases of these layers are rows of tables.
 #![tactic(auto)]
 
 #[cfg(test)]
@@ -8,3 +8,5 @@ mod adapters;
 mod counting;
 #[cfg(test)]
 mod gates;
+#[cfg(test)]
+mod versions;

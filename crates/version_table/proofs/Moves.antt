@@ -12,7 +12,7 @@ use Rattle.version_table.specs.declared.rule.View.{View}
 use Rattle.version_table.specs.declared.rule.Noted.{Noted}
 use Rattle.version_table.specs.Run.{Told, BookView}
 use Rattle.version_table.specs.History.{IsKept, IsSound, state_of, book_of, home_of, holding, calls_left, claim_count, claims_of, AllBegin}
-use Rattle.version_table.specs.Places.{total, times, hit, IsRising, places_from}
+use Rattle.version_table.specs.Places.{total, times, IsRising, places_from}
 use Rattle.version_table.specs.Steps.{view_of, Takes, Counts, Gives, Learns, kept_part, given_part, joined, spent}
 use Rattle.version_table.proofs.Totals.{total_set, total_one, total_two, prefix_refl, prefix_more, prefix_length, prefix_whole, total_append, longer_prefix, longer_length, longer_begins, total_none, total_sum}
 use Rattle.version_table.proofs.Places.{choice, times_more, same_place, times_none, rising_more, times_merged, length_merged, rising_merged, all_places}
@@ -281,7 +281,7 @@ module _ {S C : Type 0} where
         keeps,
         tt,
         record { turn = turn; history = h; views = set views id w; is = refl; sound = learned told.calls id turn me.0 h views idle here sound },
-        (sound.met id me.0 here, refl),
+        (sound.met id me.0 here, sound.rising id me.0 here, refl),
       )
 
   pub learn_allows : (told : Told S) (id : ℕ) (me : Me (std.Option (BookView S C)) (View C)) → me.0.holds ≡ false → Allows (IsKept told) 1 id me 0 (λ n. n) (Learns (step 1 0 0 0 none) me)

@@ -1,8 +1,8 @@
 -- Places in order.
-use Rattle.std.proofs.Common.{◌≡◌, ◌≢◌, ◌⊎◌, ◌≤◌, ◌<◌, ◌+◌, ◌==◌, ℕ, zero, suc, Bool, true, false, cond, List, [], ◌∷◌, ◌++◌, length, ◌∙◌, refl, ap, sym, subst, arith, nat_lt, inl, inr, length-append}
+use Rattle.std.proofs.Common.{◌≡◌, ◌≢◌, ◌⊎◌, ◌≤◌, ◌<◌, ◌+◌, ℕ, zero, suc, true, false, cond, List, [], ◌∷◌, ◌++◌, length, ◌∙◌, refl, ap, sym, subst, arith, nat_lt, inl, inr}
 use Rattle.std.proofs.lemmas.Bool.{cases_lt, cases_eq}
 use Rattle.std.proofs.lemmas.Bool.Decides.{nat_tests}
-use Rattle.version_table.specs.Places.{total, hit, times, AllAbove, IsRising, placed, merged, places_from}
+use Rattle.version_table.specs.Places.{hit, times, AllAbove, IsRising, placed, merged, places_from}
 use Rattle.version_table.proofs.Totals.{total_append}
 
 -- an implication as a choice, which `omega` takes apart

@@ -1,5 +1,5 @@
 -- The run over one entry more.
-use Rattle.std.proofs.Common.{◌≡◌, ◌≤◌, ◌+◌, ℕ, suc, Bool, true, false, cond, List, [], ◌∷◌, ◌++◌, length, ◌∙◌, refl, ap, sym, subst, arith, map}
+use Rattle.std.proofs.Common.{◌≡◌, ◌≤◌, ◌+◌, ℕ, suc, Bool, true, false, cond, List, [], ◌∷◌, ◌++◌, length, ◌∙◌, refl, ap, sym, arith}
 use Rattle.std.specs.Arc.{arc_value}
 use Rattle.version_table.specs.declared.book.Entry.{Entry}
 use Rattle.version_table.specs.declared.rule.Noted.{Noted}

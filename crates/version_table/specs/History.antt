@@ -15,7 +15,7 @@ module _ {C : Type 0} where
   abbrev pub Each : (View C → Type 0) → List (View C) → Type 0
   Each P views = (j : ℕ) (v : View C) → get_elem? views j ≡ some v → P v
 
-  -- each of the histories begins the other
+  -- each of the histories begins h
   abbrev pub AllBegin : List (List (Noted C)) → List (Noted C) → Type 0
   AllBegin [] h = Unit {0}
   AllBegin (x ∷ xs) h = IsPrefix x h × AllBegin xs h
@@ -40,6 +40,7 @@ module _ {C : Type 0} where
     pub seen : Each (λ v. IsPrefix v.seen history) views
     pub met : Each (λ v. AllBegin v.met v.seen) views
     -- 2. Each entry is claimed by one pass, once. A pass claims entries that it has seen, in the order of the history. So there are as many claims as entries.
+    -- A claim is a place; its session is that of the entry there. That a pass's entries have its session, `Adds` says.
     pub once : (k : ℕ) → k < length history → total (claims_of k) views ≡ 1
     pub own : Each (λ v. (k : ℕ) → 0 < claims_of k v → k < length v.seen) views
     pub rising : Each (λ v. IsRising v.claims) views
@@ -57,7 +58,9 @@ module _ {S C : Type 0} where
   abbrev pub book_of : Told S → List (Noted C) → BookView S C
   book_of told history = record { told = told; entries = history }
 
-  -- 4. Where the turn is free, the book of the history is in the slot. Where a pass has the turn, the slot is that pass's.
+  -- 4. Where the turn is free, the slot is at home and the book of the history is in it. Where a pass has the turn, the slot is out.
+  -- The steps say with whom: `TookTurn` hands it to the pass that took the turn, `give` requires it of that pass, and a pass that is idle (`IsIdle`) has none.
+  -- outer option: whether the slot is at home; inner: what it holds
   abbrev pub home_of : ℕ → Told S → List (Noted C) → Option (std.Option (BookView S C))
   home_of zero told history = some (Some (book_of told history))
   home_of (suc n) told history = none
@@ -66,6 +69,7 @@ module _ {S C : Type 0} where
   abbrev pub state_of : ℕ → Told S → List (Noted C) → List (View C) → State (std.Option (BookView S C)) (View C)
   state_of turn told history views = record { words = length history ∷ turn ∷ []; homes = home_of turn told history ∷ []; views = views }
 
+  -- What the table keeps: its words, its slot and its views are those of a turn, a history and views by which the rule holds.
   pub record IsKept (told : Told S) (s : State (std.Option (BookView S C)) (View C)) : Type 0 where
     pub turn : ℕ
     pub history : List (Noted C)

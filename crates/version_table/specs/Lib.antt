@@ -1,4 +1,5 @@
 pub mod Entries
+pub mod Examples
 pub mod History
 pub mod Passes
 pub mod Places

@@ -1,5 +1,5 @@
 -- What a caller sees of a table and of a pass, and what each call does to a pass.
-use Rattle.std.specs.Prelude.{◌≡◌, ◌+◌, ◌-◌, ◌<◌, ◌≤◌, ℕ, Bool, List, [], ◌∷◌, ◌++◌, length, IfOk, Result, is_err}
+use Rattle.std.specs.Prelude.{◌≡◌, ◌+◌, ◌-◌, ℕ, Bool, List, [], ◌∷◌, ◌++◌, length, IfOk, Result, is_err}
 use mathlib.Core.List.{IsPrefix}
 use Rattle.atomic_table.specs.Seated.{TableId}
 use Rattle.version_table.specs.declared.rule.Noted.{Noted}
@@ -47,7 +47,8 @@ module _ {C : Type 0} where
   together p q = pass_of p.table p.session (longer p.seen q.seen) (merged p.own q.own) (p.left + q.left)
 
 module _ {S C R E : Type 0} (next : S → C → S) (commits : S → C → Bool) (reply : S → C → R) where
-  -- One entry more, marked exactly where the answer is for want of memory. Reply and version are those of the machine's run.
+  -- One entry more, marked exactly where the answer is for want of memory. The reply is the machine's at the state
+  -- after the entries before; the version is that after the entry.
   pub record IsEdit (opening : S) (command : C) (old new : PassView C) (version : ℕ) (answer : Result R E) : Type 0 where
     pub before : List (Noted C)
     pub adds : Adds before (note_of old.session command (is_err answer)) old new

@@ -6,10 +6,11 @@ abbrev pub total : {X : Type 0} → (X → ℕ) → List X → ℕ
 total f [] = 0
 total f (x ∷ xs) = f x + total f xs
 
--- how often a place is claimed
+-- 1 where x is k
 abbrev pub hit : ℕ → ℕ → ℕ
 hit k x = cond (x == k) 1 0
 
+-- how often a place is claimed
 abbrev pub times : ℕ → List ℕ → ℕ
 times k xs = total (hit k) xs
 
@@ -18,6 +19,7 @@ abbrev pub AllAbove : ℕ → List ℕ → Type 0
 AllAbove x [] = Unit {0}
 AllAbove x (y ∷ ys) = (x < y) × AllAbove x ys
 
+-- each is below all that come after it
 abbrev pub IsRising : List ℕ → Type 0
 IsRising [] = Unit {0}
 IsRising (x ∷ xs) = AllAbove x xs × IsRising xs

@@ -1,6 +1,6 @@
 -- The run of a machine over the entries of a history.
 use Rattle.version_table.specs.declared.rule.Noted.{Noted}
-use Rattle.std.specs.Prelude.{◌≡◌, ◌≤◌, ℕ, ◌+◌, Bool, true, false, cond, List, [], ◌∷◌}
+use Rattle.std.specs.Prelude.{◌≡◌, ℕ, ◌+◌, Bool, cond, List, [], ◌∷◌}
 
 -- an entry: its session, its command, and whether it is marked as answered for want of memory
 abbrev pub note_of : {C : Type 0} → ℕ → C → Bool → Noted C

@@ -8,7 +8,7 @@ use Rattle.atomic_table.specs.declared.shared.Seat.{Seat}
 use Rattle.version_table.specs.declared.rule.View.{View}
 use Rattle.version_table.specs.declared.rule.Noted.{Noted}
 use Rattle.version_table.specs.History.{AllBegin, book_of}
-use Rattle.version_table.specs.Places.{merged}
+use Rattle.version_table.specs.Places.{merged, IsRising}
 use Rattle.version_table.specs.Run.{Told, BookView}
 
 module _ {C : Type 0} where
@@ -54,9 +54,9 @@ module _ {S C : Type 0} where
   abbrev pub Gives : Step (std.Option (BookView S C)) → Me (std.Option (BookView S C)) (View C) → ℕ → Me (std.Option (BookView S C)) (View C) → Type 0
   Gives s old n new = new ≡ (view_of old.0.seen false old.0.left old.0.claims, rest old.1)
 
-  -- after a join, each of the two histories begins what is seen
+  -- after a join, each of the two histories begins what is seen, and the claims stand each once, in order
   abbrev pub Learns : Step (std.Option (BookView S C)) → Me (std.Option (BookView S C)) (View C) → ℕ → Me (std.Option (BookView S C)) (View C) → Type 0
-  Learns s old n new = AllBegin old.0.met old.0.seen × (new ≡ (view_of old.0.seen old.0.holds old.0.left old.0.claims, old.1))
+  Learns s old n new = AllBegin old.0.met old.0.seen × IsRising old.0.claims × (new ≡ (view_of old.0.seen old.0.holds old.0.left old.0.claims, old.1))
 
   abbrev pub IsTokenOf : TableId → Seat (std.Option (BookView S C)) (View C) → Type 0
   IsTokenOf table token = (token.table_id ≡ table) × (table.words ≡ 2) × (table.slots ≡ 1)

@@ -3,7 +3,7 @@ ghost use Rattle.std.specs.Arc.{arc_value};
 ghost use mathlib.Core.List.{IsPrefix};
 ghost use Rattle.version_table.specs.Entries.{noted};
 ghost use Rattle.version_table.specs.History.{AllBegin};
-ghost use Rattle.version_table.specs.Places.{places_from};
+ghost use Rattle.version_table.specs.Places.{places_from, IsRising};
 ghost use Rattle.version_table.specs.Steps.{IsIdle, IsTokenOf, view_of, kept_part, given_part, joined};
 ghost use Rattle.version_table.specs.Passes.{Adds, IsEdit, pass_of, handed_over, taken_over, together};
 ghost use Rattle.version_table.specs.Run.{told_of, note_of, state_after, commits_in};
@@ -160,11 +160,12 @@ impl<M: Machine> VersionTable<M> {
         Snapshot { version, state }
     }
 
-    /// Takes another pass in.
+    /// Makes two passes one, of the first one's session.
     pub fn join(&self, pass: &mut Pass<M>, other: Pass<M>)
         requires table { (pass.old.table ≡ self.now.id) × (other.table ≡ self.now.id) }
         ensures both { pass.new ≡ together pass.old other }
         ensures begins { IsPrefix pass.old.seen pass.new.seen × IsPrefix other.seen pass.new.seen }
+        ensures once { IsRising pass.new.own }
     {
         let Pass { session: _, token } = other;
         let shared = &self.table.shared;
@@ -218,13 +219,14 @@ fn split_token<M: Machine>(table: &Shared<M>, token: &mut Token<M>, calls: u32) 
     split_by::<M, Brand>(table, token, calls)
 }
 
-// After a join, which of the histories begin which.
+// The second load of a join. It changes nothing but `met`, and tells what holds of the two passes as one.
 fn learn<M: Machine>(table: &Shared<M>, token: &mut Token<M>)
     requires own { IsTokenOf table.now.table_id token.old }
     requires idle { IsIdle token.old.me }
     ensures own { IsTokenOf table.now.table_id token.new }
     ensures same { token.new.me ≡ (view_of token.old.me.0.seen false token.old.me.0.left token.old.me.0.claims, []) }
     ensures begins { AllBegin token.old.me.0.met token.old.me.0.seen }
+    ensures rising { IsRising token.old.me.0.claims }
 {
     let _ = table.load::<Learn>(token, 0);
 }

@@ -1,6 +1,4 @@
 use Rattle.std.proofs.Common.{◌∙◌, arith, sym, ap, cond, ℕ}
-use Rattle.std.specs.Arc.{arc_value}
-use Rattle.version_table.specs.Run.{state_after}
 use Rattle.version_table.specs.Entries.{noted}
 use Rattle.version_table.proofs.Runs.{run_more, commits_below}
 use Rattle.version_table.proofs.book.Book.add.Goals as goal

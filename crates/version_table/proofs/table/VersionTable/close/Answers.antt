@@ -1,4 +1,4 @@
-use Rattle.std.proofs.Common.{◌≡◌, ◌+◌, ◌∙◌, length, ap, sym, subst, Some, arith}
+use Rattle.std.proofs.Common.{◌≡◌, ◌+◌, ◌∙◌, length, ap, sym, subst}
 use Rattle.version_table.specs.History.{book_of}
 use Rattle.version_table.specs.Passes.{PassView, TableView}
 use Rattle.version_table.specs.Run.{BookView, state_after, commits_in}

@@ -1,3 +1,4 @@
 pub mod ListLaws
 pub mod TreeSteps
 pub mod Answered
+pub mod ModelLaws

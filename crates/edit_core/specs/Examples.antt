@@ -1,5 +1,5 @@
 -- What the definitions come to at small directories, proved by computation. A name is one byte.
-use Rattle.std.specs.Prelude.{◌≡◌, ℕ, List, [], ◌∷◌, Some, None, Ok, Err, true, refl}
+use Rattle.std.specs.Prelude.{◌≡◌, ℕ, List, [], ◌∷◌, Some, None, Ok, Err, true, false, refl}
 use Rattle.tree_forms.specs.declared.Op.{Op}
 use Rattle.tree_forms.specs.declared.Op.TheVariants.{U, N, Minus}
 use Rattle.tree_forms.specs.Trees.{Tree, Leaf, Join}
@@ -14,10 +14,13 @@ use Rattle.object_set.specs.declared.kept.KeptAttr.{KeptAttr}
 use Rattle.object_set.specs.declared.object.Body.TheVariants.{Solid, Comb}
 use Rattle.object_set.specs.Objects.{Parts}
 use Rattle.command_set.specs.declared.command.Edit.TheVariants.{Make, Region, Group, Remove, Kill, RenameAll, Place, Title, Keep}
-use Rattle.command_set.specs.declared.refusal.Refusal.TheVariants.{Exists, Missing, NotComb, NotList, Absent, Heads, Cycle}
+use Rattle.command_set.specs.declared.command.Command.TheVariants.{Bad, Edit as IsEdit, Query as IsQuery}
+use Rattle.command_set.specs.declared.command.Query.TheVariants.{Names}
+use Rattle.command_set.specs.declared.refusal.Refusal.TheVariants.{Syntax, Exists, Missing, NotComb, NotList, Absent, Heads, Cycle}
 use Rattle.directory.specs.Listing.{Listing}
 use Rattle.directory.specs.Walks.{Entries}
 use Rattle.edit_core.specs.Refused.{edited}
+use Rattle.edit_core.specs.Modelling.{next, commits, reply, is_look}
 
 abbrev named : ℕ → Name
 named n = n ∷ []
@@ -132,3 +135,28 @@ pair key value = record { name = named key; value = value ∷ [] }
 
 attributes_are_kept : (s : AnySolid) → edited (holding ((named 1, lone s) ∷ [])) (Keep (named 1) (pair 5 6 ∷ pair 5 7 ∷ [])) ≡ Ok (holding ((named 1, record { body = Solid s; kept = pair 5 7 ∷ [] }) ∷ []))
 attributes_are_kept s = refl
+
+-- ---- commands of a machine
+an_accepted_edit_commits : (s : AnySolid) → commits (holding []) (IsEdit (Make (named 1) (lone s))) ≡ true
+an_accepted_edit_commits s = refl
+
+it_makes_the_directory : (s : AnySolid) → next (holding []) (IsEdit (Make (named 1) (lone s))) ≡ holding ((named 1, lone s) ∷ [])
+it_makes_the_directory s = refl
+
+a_refused_edit_does_not_commit : (s : AnySolid) → commits (with_comb s []) (IsEdit (Make (named 1) (lone s))) ≡ false
+a_refused_edit_does_not_commit s = refl
+
+it_leaves_the_directory : (s : AnySolid) → next (with_comb s []) (IsEdit (Make (named 1) (lone s))) ≡ with_comb s []
+it_leaves_the_directory s = refl
+
+it_is_told_why : (s : AnySolid) → reply (with_comb s []) (IsEdit (Make (named 1) (lone s))) ≡ Err (Exists (named 1))
+it_is_told_why s = refl
+
+a_query_looks : is_look (IsQuery Names) ≡ true
+a_query_looks = refl
+
+a_bad_line_looks : is_look (Bad Syntax) ≡ true
+a_bad_line_looks = refl
+
+an_edit_does_not_look : (s : AnySolid) → is_look (IsEdit (Make (named 1) (lone s))) ≡ false
+an_edit_does_not_look s = refl

@@ -3,4 +3,5 @@ pub mod Edits
 pub mod Refused
 pub mod Outcomes
 pub mod Steps
+pub mod Modelling
 pub mod Examples

@@ -1,0 +1,5 @@
+pub mod AnsweredLaws
+pub mod RunLaws
+pub mod OutcomeLaws
+pub mod CountLaws
+pub mod JoinedLaws

@@ -1,0 +1,6 @@
+pub mod Answered
+pub mod Readable
+pub mod Noted
+pub mod Joined
+pub mod Laws
+pub mod Examples

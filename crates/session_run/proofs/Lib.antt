@@ -10,3 +10,6 @@ pub mod StartLaws
 pub mod PlaceLaws
 pub mod UsedLaws
 pub mod KeepLaws
+pub mod TellLaws
+pub mod MoreLaws
+pub mod SessionLaws

@@ -2,4 +2,6 @@ pub mod Replies
 pub mod Answers
 pub mod Laws
 pub mod Kept
+pub mod Sessions
 pub mod Examples
+pub mod SessionExamples

@@ -1,6 +1,5 @@
 -- What a command is answered, the directory after it, and the bytes that its session has used.
 use Rattle.std.specs.Prelude.{ℕ, ◌+◌, ◌++◌, ◌∷◌, nat_le, cond, find, is_none, List, [], Option, Some, None, Result, Ok, Err, length, codes, decimal}
-use Rattle.std.specs.Result.{result_ok}
 use Rattle.name_core.specs.declared.name.Name.{Name}
 use Rattle.lattice_core.specs.declared.ray.Ray.{Ray}
 use Rattle.lattice_core.specs.declared.view.View.{View}
@@ -21,6 +20,7 @@ use Rattle.asc_form.specs.Written.{written}
 use Rattle.directory.specs.Listing.{Listing}
 use Rattle.directory.specs.Walks.{Entries, object_of}
 use Rattle.edit_core.specs.Refused.{edited}
+pub use Rattle.edit_core.specs.Modelling.{directory_made}
 use Rattle.report_text.specs.Listings.{listings, written_lines}
 use Rattle.report_text.specs.Names.{names_lines}
 use Rattle.report_text.specs.Shots.{shot_lines}
@@ -134,19 +134,18 @@ abbrev pub edit_outcome : Result Listing Refusal → Outcome
 edit_outcome (Ok made) = Ok (lines_alone [])
 edit_outcome (Err refusal) = Err refusal
 
+-- what an edit is answered, by what a table replied to it: want of memory there is a refusal here
+abbrev pub table_outcome : {E : Type 0} → Result (Result (Unit {0}) Refusal) E → Outcome
+table_outcome (Ok (Ok done)) = Ok (lines_alone [])
+table_outcome (Ok (Err refusal)) = Err refusal
+table_outcome (Err memory) = Err Memory
+
 -- what a command is answered, where its session has used so many bytes; the body of an edit is empty
 abbrev pub outcome_of : Listing → ℕ → Command → Outcome
 outcome_of d used (Bad refusal) = Err refusal
 outcome_of d used (IsEdit edit) = edit_outcome (edited d edit)
 outcome_of d used (IsQuery query) = within_quota used (found d query)
 outcome_of d used (IsShoot shoot) = within_quota used (viewed d shoot)
-
--- the new directory, exactly where the command is an edit that is accepted
-abbrev pub directory_made : Listing → Command → Option Listing
-directory_made d (Bad refusal) = None
-directory_made d (IsEdit edit) = result_ok (edited d edit)
-directory_made d (IsQuery query) = None
-directory_made d (IsShoot shoot) = None
 
 -- the bytes used after an answer: an accepted one adds those of its body and of its file
 abbrev pub used_after : ℕ → Outcome → ℕ

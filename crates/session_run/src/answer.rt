@@ -1,5 +1,5 @@
 //! What one command of one session is answered, on one thread.
-ghost use Rattle.std.specs.Prelude.{◌≡◌, ◌≤◌, ◌<◌, ◌+◌, ◌-◌, ◌^◌, ◌++◌, ◌∷◌, [], ℕ, List, Ok, Err, IfOk, OnOk, OnErr, All, length, codes};
+ghost use Rattle.std.specs.Prelude.{◌≡◌, ◌≤◌, ◌<◌, ◌+◌, ◌-◌, ◌^◌, ◌++◌, ◌∷◌, [], ℕ, List, Ok, Err, IfOk, OnOk, OnErr, All, MatchResult, true, length, codes};
 ghost use Rattle.std.specs.Result.{result_ok};
 ghost use Rattle.transcript.specs.Run.{answer_of, book_after, committed, own_after};
 ghost use Rattle.lattice_core.specs.declared.limit.TheConstants.{WORLD};
@@ -12,7 +12,11 @@ ghost use Rattle.edit_core.specs.Refused.{edited};
 ghost use Rattle.report_text.specs.Listings.{listings, written_lines};
 ghost use Rattle.report_text.specs.Names.{names_lines};
 ghost use Rattle.report_text.specs.Texts.{IsText};
+ghost use Rattle.edit_core.specs.Modelling.{is_look};
+ghost use Rattle.command_set.specs.declared.refusal.Refusal.TheVariants.{Memory as NoMemory};
+ghost use Rattle.session_merge.specs.Answered.{shown_as};
 ghost use Rattle.session_run.specs.Answers.{core_book, core_answer, unmarked};
+ghost use Rattle.session_run.specs.Sessions.{book_at};
 ghost use Rattle.session_run.specs.Kept.{IsCurrent, Moves};
 ghost use Rattle.session_run.specs.declared.keep.Keep.{Keep};
 ghost use Rattle.session_run.specs.declared.answer.Found.{Found};
@@ -66,7 +70,7 @@ pub struct Book {
     pub version: u32,
 }
 
-fn lines_alone(body: Body) -> Found
+pub(crate) fn lines_alone(body: Body) -> Found
     ensures { result ≡ lines_alone body }
 {
     Found { body, file: None }
@@ -238,18 +242,19 @@ fn refused(fault: PrepFault) -> Result<Result<Found, Refusal>, Memory>
 /// The partitions of a ray and the regions of names.
 fn look_along(
     alloc: Global,
-    book: &Book,
+    version: u32,
+    directory: &Directory,
     keep: &mut Keep,
     used: u64,
     ray: &WorldRay,
     names: &[Name],
 ) -> Result<Result<Found, Refusal>, Memory>
     requires quota { used ≤ most_used }
-    requires current { IsCurrent keep.old book.now.version book.now.directory.objects }
-    ensures outcome { IfOk result (λ outcome. outcome ≡ within_quota used (shot_of book.now.directory.objects ray.now names.now)) }
-    ensures current { IsCurrent keep.new book.now.version book.now.directory.objects }
+    requires current { IsCurrent keep.old version directory.now.objects }
+    ensures outcome { IfOk result (λ outcome. outcome ≡ within_quota used (shot_of directory.now.objects ray.now names.now)) }
+    ensures current { IsCurrent keep.new version directory.now.objects }
 {
-    match keep.scene(alloc, book.version, &book.directory, names) {
+    match keep.scene(alloc, version, directory, names) {
         Ok(kept) => {
             let outcome = shoot_scene(alloc, &kept.scene, used, ray);
             keep.put(kept);
@@ -262,7 +267,8 @@ fn look_along(
 /// The picture of the regions of names.
 fn look_at_picture(
     alloc: Global,
-    book: &Book,
+    version: u32,
+    directory: &Directory,
     keep: &mut Keep,
     used: u64,
     file: &Name,
@@ -270,11 +276,11 @@ fn look_at_picture(
     names: &[Name],
 ) -> Result<Result<Found, Refusal>, Memory>
     requires quota { used ≤ most_used }
-    requires current { IsCurrent keep.old book.now.version book.now.directory.objects }
-    ensures outcome { IfOk result (λ outcome. outcome ≡ within_quota used (picture_of book.now.directory.objects file.now view.now names.now)) }
-    ensures current { IsCurrent keep.new book.now.version book.now.directory.objects }
+    requires current { IsCurrent keep.old version directory.now.objects }
+    ensures outcome { IfOk result (λ outcome. outcome ≡ within_quota used (picture_of directory.now.objects file.now view.now names.now)) }
+    ensures current { IsCurrent keep.new version directory.now.objects }
 {
-    match keep.scene(alloc, book.version, &book.directory, names) {
+    match keep.scene(alloc, version, directory, names) {
         Ok(kept) => {
             let outcome = shoot_picture(alloc, &kept.scene, used, file, view);
             keep.put(kept);
@@ -287,18 +293,19 @@ fn look_at_picture(
 /// The overlaps of the regions of names.
 fn look_for_overlaps(
     alloc: Global,
-    book: &Book,
+    version: u32,
+    directory: &Directory,
     keep: &mut Keep,
     used: u64,
     view: &CheckedView,
     names: &[Name],
 ) -> Result<Result<Found, Refusal>, Memory>
     requires quota { used ≤ most_used }
-    requires current { IsCurrent keep.old book.now.version book.now.directory.objects }
-    ensures outcome { IfOk result (λ outcome. outcome ≡ within_quota used (check_of book.now.directory.objects view.now names.now)) }
-    ensures current { IsCurrent keep.new book.now.version book.now.directory.objects }
+    requires current { IsCurrent keep.old version directory.now.objects }
+    ensures outcome { IfOk result (λ outcome. outcome ≡ within_quota used (check_of directory.now.objects view.now names.now)) }
+    ensures current { IsCurrent keep.new version directory.now.objects }
 {
-    match keep.scene(alloc, book.version, &book.directory, names) {
+    match keep.scene(alloc, version, directory, names) {
         Ok(kept) => {
             let outcome = check_scene(alloc, &kept.scene, used, view);
             keep.put(kept);
@@ -311,22 +318,32 @@ fn look_for_overlaps(
 /// What a command that shoots each ray of a view is answered.
 fn look_from(
     alloc: Global,
-    book: &Book,
+    version: u32,
+    directory: &Directory,
     keep: &mut Keep,
     used: u64,
     shoot: &Shoot,
 ) -> Result<Result<Found, Refusal>, Memory>
     requires quota { used ≤ most_used }
-    requires current { IsCurrent keep.old book.now.version book.now.directory.objects }
-    ensures outcome { IfOk result (λ outcome. outcome ≡ within_quota used (viewed book.now.directory shoot.now)) }
-    ensures current { IsCurrent keep.new book.now.version book.now.directory.objects }
+    requires current { IsCurrent keep.old version directory.now.objects }
+    ensures outcome { IfOk result (λ outcome. outcome ≡ within_quota used (viewed directory.now shoot.now)) }
+    ensures current { IsCurrent keep.new version directory.now.objects }
 {
     match shoot {
         Shoot::Picture { file, view, names } => {
-            look_at_picture(alloc, book, keep, used, file, view, names.items())
+            look_at_picture(
+                alloc,
+                version,
+                directory,
+                keep,
+                used,
+                file,
+                view,
+                names.items(),
+            )
         }
         Shoot::Check { view, names } => {
-            look_for_overlaps(alloc, book, keep, used, view, names.items())
+            look_for_overlaps(alloc, version, directory, keep, used, view, names.items())
         }
     }
 }
@@ -334,23 +351,31 @@ fn look_from(
 /// What a query is answered.
 fn look(
     alloc: Global,
-    book: &Book,
+    version: u32,
+    directory: &Directory,
     keep: &mut Keep,
     used: u64,
     query: &Query,
 ) -> Result<Result<Found, Refusal>, Memory>
     requires quota { used ≤ most_used }
-    requires current { IsCurrent keep.old book.now.version book.now.directory.objects }
-    ensures outcome { IfOk result (λ outcome. outcome ≡ within_quota used (found book.now.directory query.now)) }
-    ensures current { IsCurrent keep.new book.now.version book.now.directory.objects }
+    requires current { IsCurrent keep.old version directory.now.objects }
+    ensures outcome { IfOk result (λ outcome. outcome ≡ within_quota used (found directory.now query.now)) }
+    ensures current { IsCurrent keep.new version directory.now.objects }
 {
-    let directory = &book.directory;
     match query {
         Query::List { names } => look_at_objects(alloc, directory, used, names.items()),
         Query::Names => look_at_names(alloc, directory, used),
         Query::Tree { names } => look_at_trees(alloc, directory, used, names.items()),
         Query::Save { file } => save(alloc, directory, used, file),
-        Query::Shot { ray, names } => look_along(alloc, book, keep, used, ray, names.items()),
+        Query::Shot { ray, names } => look_along(
+            alloc,
+            version,
+            directory,
+            keep,
+            used,
+            ray,
+            names.items(),
+        ),
     }
 }
 
@@ -394,8 +419,8 @@ fn obey(
     match command {
         Command::Bad(refusal) => Ok(Err(*refusal)),
         Command::Edit(edit) => edit_book(alloc, book, edit),
-        Command::Query(query) => look(alloc, book, keep, used, query),
-        Command::Shoot(shoot) => look_from(alloc, book, keep, used, shoot),
+        Command::Query(query) => look(alloc, book.version, &book.directory, keep, used, query),
+        Command::Shoot(shoot) => look_from(alloc, book.version, &book.directory, keep, used, shoot),
     }
 }
 
@@ -420,6 +445,62 @@ fn used_with(used: u64, outcome: &Result<Found, Refusal>) -> u64
         Ok(found) => used + size(found),
         Err(_) => used,
     }
+}
+
+/// What a command that is no edit finds.
+fn look_by(
+    alloc: Global,
+    version: u32,
+    directory: &Directory,
+    keep: &mut Keep,
+    used: u64,
+    command: &Command,
+) -> Result<Result<Found, Refusal>, Memory>
+    requires looks { is_look command.now ≡ true }
+    requires quota { used ≤ most_used }
+    requires current { IsCurrent keep.old version directory.now.objects }
+    ensures outcome { IfOk result (λ outcome. outcome ≡ outcome_of directory.now used command.now) }
+    ensures current { IsCurrent keep.new version directory.now.objects }
+{
+    match command {
+        Command::Bad(refusal) => Ok(Err(*refusal)),
+        Command::Edit(_) => unreachable!(),
+        Command::Query(query) => look(alloc, version, directory, keep, used, query),
+        Command::Shoot(shoot) => look_from(alloc, version, directory, keep, used, shoot),
+    }
+}
+
+/// The outcome, which is a refusal where there was no memory.
+fn or_refused(found: Result<Result<Found, Refusal>, Memory>) -> Result<Found, Refusal>
+    ensures { MatchResult found (λ outcome. result ≡ outcome) (λ _. result ≡ Err NoMemory) }
+{
+    match found {
+        Ok(outcome) => outcome,
+        Err(_) => Err(Refusal::Memory),
+    }
+}
+
+/// What a command that is no edit is answered with the directory of a version, where want of memory is an answer too.
+pub fn answer_look(
+    alloc: Global,
+    version: u32,
+    directory: &Directory,
+    own: &mut Own,
+    keep: &mut Keep,
+    command: &Command,
+) -> Answer
+    requires looks { is_look command.now ≡ true }
+    requires quota { own.old.used ≤ most_used }
+    requires current { IsCurrent keep.old version directory.now.objects }
+    ensures answer { core_answer result ≡ answer_of core_rules (book_at directory.now version) own.old (shown_as command.now (core_answer result)) }
+    ensures own { own.new ≡ own_after core_rules (book_at directory.now version) own.old (shown_as command.now (core_answer result)) }
+    ensures quota { own.new.used ≤ most_used }
+    ensures current { IsCurrent keep.new version directory.now.objects }
+{
+    let found = look_by(alloc, version, directory, keep, own.used, command);
+    let outcome = or_refused(found);
+    own.used = used_with(own.used, &outcome);
+    Answer { version, outcome }
 }
 
 /// The core step on one thread: what a command of a session is answered, with the book and what the session has of its own

@@ -1,4 +1,4 @@
-//! One session: what its commands are answered, on one thread.
+//! One session: what its commands are answered, and its run over a table that other sessions share.
 #![tactic(auto)]
 
 mod answer;
@@ -7,8 +7,10 @@ mod keep;
 mod laws;
 mod limit;
 mod picture;
+mod session;
 
-pub use answer::{Answer, Book, Found, Own, answer_command};
+pub use answer::{Answer, Book, Found, Own, answer_command, answer_look};
 pub use keep::Keep;
 pub use laws::run_laws;
 pub use limit::{MOST_USED, limit_laws};
+pub use session::Session;

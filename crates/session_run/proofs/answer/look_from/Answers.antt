@@ -6,6 +6,6 @@ use Rattle.session_run.proofs.answer.look_from.Goals as goal
 
 pub returns-in-Check-clause-outcome : goal.returns-in-Check-clause-outcome
 returns-in-Check-clause-outcome c =
-    subst (λ (s : Shoot). IfOk c.look_for_overlaps.result (λ outcome. outcome ≡ within_quota c.args.used (viewed c.args.book.now.directory s))) (sym c.in-Check.is)
-    (subst (λ (ns : List Name). IfOk c.look_for_overlaps.result (λ outcome. outcome ≡ within_quota c.args.used (check_of c.args.book.now.directory.objects c.in-Check.view ns)))
+    subst (λ (s : Shoot). IfOk c.look_for_overlaps.result (λ outcome. outcome ≡ within_quota c.args.used (viewed c.args.directory.now s))) (sym c.in-Check.is)
+    (subst (λ (ns : List Name). IfOk c.look_for_overlaps.result (λ outcome. outcome ≡ within_quota c.args.used (check_of c.args.directory.now.objects c.in-Check.view ns)))
     c.items-in-Check.ensures.value c.look_for_overlaps.ensures.outcome)

@@ -1,0 +1,6 @@
+use Rattle.session_run.proofs.SessionLaws.{current_next}
+use Rattle.session_run.proofs.session.Course.next.Goals as goal
+
+pub returns-clause-current : goal.returns-clause-current
+returns-clause-current g c =
+    current_next c.args.self.now.keep c.args.table.now.told.state c.edit.ensures.before _ c.args.pass.now c.edit.new.pass c.edit.ensures.adds c.requires.current

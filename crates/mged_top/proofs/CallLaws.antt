@@ -16,7 +16,7 @@ use Rattle.mged_top.specs.Calls.{is_of_file, IsRefused, IsSourceFault, IsLoading
 use Rattle.mged_top.specs.Courses.{Course, Stops, Runs, course_of, course_asked, course_with, course_from, has_own_script, loaded, own_script, script_run}
 use Rattle.mged_top.specs.Outcomes.{AreInputs, AreTold, IsSourceRead, Ran, IsWritten}
 use Rattle.mged_top.specs.Outside.{Outside, outside, IsQuiet, IsFaultless, IsUnwritten}
-use Rattle.mged_top.specs.Stages.{CanLoad, CanRead, IsLoad, IsReadBy, load_status, script_status, IsRun, IsWhole, IsTextShort, AreFilesShort, Writes, files_among}
+use Rattle.mged_top.specs.Stages.{CanLoad, CanRead, IsLoad, IsReadBy, load_status, script_status, IsLineRun, IsWhole, IsTextShort, AreFilesShort, Writes, files_among}
 use Rattle.mged_top.specs.declared.load.LoadStop.{LoadStop}
 use Rattle.mged_top.specs.declared.load.LoadStop.TheVariants as load
 use Rattle.mged_top.specs.declared.load.Start.{Start}
@@ -182,13 +182,13 @@ inputs words before after model (Some text) start commands asked own can read = 
 
 -- a run, and the inputs that it had
 pub ran : (words : List (List ℕ)) (before after : Outside) (model : Model) (own : Option (List ℕ)) (start : Listing) (commands : List ScriptCommand) (bytes order : List ℕ) (lists : List (List Answer)) (some_refused : Bool)
-    → asked_of words ≡ Some (record { model = model }) → own_script model ≡ own → CanLoad before.files model (Ok start) → IsReadBy (Ok commands) own before.left after.left → IsRun start (map command_entry commands) bytes order lists some_refused
+    → asked_of words ≡ Some (record { model = model }) → own_script model ≡ own → CanLoad before.files model (Ok start) → IsReadBy (Ok commands) own before.left after.left → IsLineRun start (map command_entry commands) bytes order lists some_refused
     → Ran words before after bytes (files_among order lists) some_refused
 ran words before after model own start commands bytes order lists some_refused asked is can read run = record {
   start = start;
   commands = map command_entry commands;
   inputs = inputs words before after model own start commands asked is can read;
-  outcome = run.outcome;
+  outcome = run.run.outcome;
   in_line_order = run.in_line_order;
 }
 

@@ -12,6 +12,7 @@ use Rattle.transcript.specs.Run.{file_in, files_of}
 use Rattle.session_run.specs.Answers.{core_answer}
 use Rattle.session_run.specs.Replies.{shown}
 use Rattle.session_run.specs.declared.answer.Answer.{Answer}
+use Rattle.script_run.proofs.RunLaws.{same_past}
 use Rattle.mged_top.specs.Answers.{core_answers}
 use Rattle.mged_top.specs.Outside.{HasGrown, AreCutShort}
 use Rattle.mged_top.specs.Stages.{ArePut, ArePutBy, files_left, left_at, files_among}
@@ -107,11 +108,6 @@ put_none files puts taken lists i session rest items same is none = record {
 }
 
 -- at first nothing is taken
-pub same_past : {X : Type 0} (n : ℕ) (x : X) (k : ℕ) → get_or (replicate n x) k x ≡ x
-same_past zero x k = refl
-same_past (suc n) x zero = refl
-same_past (suc n) x (suc k) = same_past n x k
-
 all_left : (lists : List (List Answer)) (k : ℕ) → lanes_left (replicate 8 0) lists k ≡ core_answers lists k
 all_left lists zero = refl
 all_left lists (suc n) = ap (λ m. map core_answer (drop m (get_or lists n []))) (same_past 8 0 n)

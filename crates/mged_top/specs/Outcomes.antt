@@ -1,15 +1,13 @@
 -- What a call read, and what its run wrote.
 use Rattle.std.specs.Prelude.{◌≡◌, ℕ, Bool, true, false, List, Option, map, IfSome}
-use Rattle.std.specs.List.{list_any}
 use Rattle.std.specs.Io.KnownBytes.{Appends, Consumes, IsAtEnd, Keeps}
 use Rattle.outside_core.specs.declared.traits.File.{File}
 use Rattle.transcript.specs.Merge.{Entry, lane}
 use Rattle.transcript.specs.Outcome.{IsOutcome}
-use Rattle.transcript.specs.Reading.{order_in, marks_in}
 use Rattle.command_set.specs.declared.command.Command.{Command}
 use Rattle.directory.specs.Listing.{Listing}
-use Rattle.mged_words.specs.Entries.{session_of}
 use Rattle.session_run.specs.Replies.{core_rules, start_from}
+pub use Rattle.script_run.specs.Runs.{IsInLineOrder}
 use Rattle.mged_top.specs.Courses.{Runs, course_of, has_own_script}
 use Rattle.mged_top.specs.Outside.{Outside, IsQuiet, HasGrown}
 
@@ -30,11 +28,6 @@ pub record AreInputs (words : List (List ℕ)) (before after : Outside) (start :
   pub told : AreTold before files script
   pub course : course_of words files script ≡ Runs start commands
   pub source : IsSourceRead (has_own_script words) before.left after.left script
-
--- the order that the bytes print is that of the lines, and no command is answered `memory`
-pub record IsInLineOrder (commands : List (Entry Command)) (bytes : List ℕ) : Type 0 where
-  pub order : order_in bytes ≡ map session_of commands
-  pub unmarked : (session : ℕ) → list_any (λ m. m) (marks_in bytes session) ≡ false
 
 -- The bytes and files are those of the plain evaluator on the inputs, merged by the order that the first line prints.
 -- Until sessions run at once, this is the order of the lines.

@@ -8,22 +8,17 @@ use Rattle.outside_core.specs.Transfers.{IsCutShort}
 use Rattle.outside_core.specs.declared.traits.File.{File}
 use Rattle.outside_core.specs.declared.traits.ShelfFault.{ShelfFault}
 use Rattle.transcript.specs.Merge.{Entry, lane, merged}
-use Rattle.transcript.specs.Outcome.{IsOutcome}
 use Rattle.transcript.specs.Run.{files_of}
 use Rattle.command_set.specs.declared.command.Command.{Command}
 use Rattle.directory.specs.Listing.{Listing}
 use Rattle.mged_words.specs.Scripts.{script_of}
 use Rattle.mged_words.specs.Entries.{command_entry}
 use Rattle.mged_words.specs.declared.command.ScriptCommand.{ScriptCommand}
-use Rattle.session_run.specs.Replies.{core_rules, start_from}
 use Rattle.session_run.specs.Answers.{core_answer}
-use Rattle.session_run.specs.Kept.{IsCurrent}
 use Rattle.session_run.specs.declared.answer.Answer.{Answer}
-use Rattle.session_run.specs.declared.answer.Book.{Book}
-use Rattle.session_run.specs.declared.keep.Keep.{Keep}
 use Rattle.mged_top.specs.Answers.{core_answers}
+pub use Rattle.script_run.specs.Runs.{IsLineRun, files_among}
 use Rattle.mged_top.specs.Courses.{loaded, model_in, own_script}
-use Rattle.mged_top.specs.Outcomes.{IsInLineOrder}
 use Rattle.mged_top.specs.Outside.{Outside, HasGrown, AreCutShort}
 use Rattle.mged_top.specs.Calls.{is_of_file}
 use Rattle.mged_top.specs.declared.load.LoadStop.{LoadStop}
@@ -107,10 +102,6 @@ abbrev pub IsReadBy : Result (List ScriptCommand) ScriptStop → Option (List �
 IsReadBy result None left left' = IsRead result left left'
 IsReadBy result (Some own) left left' = IsTextRead result own × Keeps left left'
 
--- the files of sessions' answers, in an order of sessions
-abbrev pub files_among : List ℕ → List (List Answer) → List File
-files_among order lists = files_of (merged order (core_answers lists))
-
 -- the answers that are left, where so many of each session's are taken
 abbrev pub left_at : List ℕ → List (List Answer) → ℕ → List Answer
 left_at taken lists zero = []
@@ -130,12 +121,6 @@ pub record ArePut (files files' puts puts' : Option (List File)) (all rest : Lis
 abbrev pub ArePutBy : Result (Unit {0}) ShelfFault → Option (List File) → Option (List File) → Option (List File) → Option (List File) → List File → List File → Type 0
 ArePutBy (Ok done) files files' puts puts' all rest = ArePut files files' puts puts' all rest
 ArePutBy (Err fault) files files' puts puts' all rest = Stays files files' × Stays puts puts' × (0 < length all)
-
--- a run of these commands from this directory: its bytes, its files in an order of the sessions, and whether one is refused
-pub record IsRun (start : Listing) (commands : List (Entry Command)) (bytes order : List ℕ) (lists : List (List Answer)) (some_refused : Bool) : Type 0 where
-  pub outcome : IsOutcome core_rules (start_from start) (lane commands) bytes (files_among order lists) some_refused
-  pub in_line_order : IsInLineOrder commands bytes
-  pub sessions : All (λ d. (1 ≤ d) × (d ≤ 8)) order
 
 -- the bytes are written, and the files are put
 pub record IsWhole (bytes : List ℕ) (files : List File) (before after : Outside) : Type 0 where
@@ -168,7 +153,3 @@ Writes (ScriptRefused flaw) bytes files some_refused before after = ⊥
 Writes ReadFault bytes files some_refused before after = ⊥
 Writes WriteFault bytes files some_refused before after = IsTextShort bytes before after ⊎ (AreFilesShort bytes files before after × Rose before.calls after.calls)
 Writes Memory bytes files some_refused before after = AreFilesShort bytes files before after × (after.calls ≡ before.calls)
-
--- what each session keeps can be used with the book's directory
-abbrev pub AreCurrent : List Keep → Book → Type 0
-AreCurrent keeps book = All (λ keep. IsCurrent keep book.version book.directory.objects) keeps

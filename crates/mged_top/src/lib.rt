@@ -5,7 +5,6 @@ mod load;
 mod main_call;
 mod put;
 mod read;
-mod run;
 mod status;
 
 pub use load::{LOAD_SIZE, limit_laws};

@@ -8,10 +8,10 @@ ghost use Rattle.mged_top.specs.Stages.{Writes, run_status, files_among};
 use crate::load::load;
 use crate::put::put_files;
 use crate::read::commands_of;
-use crate::run::{Run, run_script};
 use crate::status::Status;
 use option_words::{OptionsFault, read_options};
 use outside_core::{Gate, Shelf, ShelfFault, Sink, Source, write_all};
+use script_run::{Run, run_script};
 use std::alloc::Global;
 
 /// The status of a run that is written whole.

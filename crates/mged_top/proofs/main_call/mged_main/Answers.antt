@@ -5,7 +5,7 @@ use Rattle.mged_words.specs.Entries.{command_entry}
 use Rattle.mged_words.specs.declared.command.ScriptCommand.{ScriptCommand}
 use Rattle.mged_top.specs.Calls.{Explains}
 use Rattle.mged_top.specs.Outside.{outside}
-use Rattle.mged_top.specs.Stages.{IsRun, files_among}
+use Rattle.mged_top.specs.Stages.{IsLineRun, files_among}
 use Rattle.mged_top.specs.declared.status.Status.{Status}
 use Rattle.mged_top.proofs.CallLaws.{no_options, load_stopped, script_stopped, no_memory, ran, writes_from, explained}
 use Rattle.mged_top.proofs.main_call.mged_main.Goals as goal
@@ -102,7 +102,7 @@ returns-clause-explained g c =
     let put = files_among run.order.items run.answers.items in
     let start = c.in-Ok-load.start.directory in
     let commands = c.in-Ok-commands_of.commands in
-    let is_run = subst (λ (cs : List ScriptCommand). IsRun start (map command_entry cs) bytes run.order.items run.answers.items run.some_refused) c.items.ensures c.in-Ok-run_script.ensures.run in
+    let is_run = subst (λ (cs : List ScriptCommand). IsLineRun start (map command_entry cs) bytes run.order.items run.answers.items run.some_refused) c.items.ensures c.in-Ok-run_script.ensures.run in
     explained texts left left' held held' files files'' puts puts'' reads reads' writes writes' calls calls'' bytes put c.write_run.result run.some_refused
     (ran texts (outside left held files puts reads writes calls) (outside left' held' files'' puts'' reads' writes' calls'') c.in-Ok.options.model c.in-Ok-load.start.script start commands bytes run.order.items run.answers.items run.some_refused
     c.in-Ok.ensures.options (sym c.in-Ok-load.ensures.load.1) c.in-Ok-load.ensures.load.0 c.in-Ok-commands_of.ensures.read is_run)

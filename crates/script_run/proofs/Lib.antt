@@ -1,0 +1,5 @@
+pub mod AtOnceLaws
+pub mod JoinLaws
+pub mod RunLaws
+pub mod TaskLaws
+pub mod WriteLaws

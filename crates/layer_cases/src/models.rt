@@ -6,7 +6,7 @@ use asc_form::{AscFault, AscKind, read_asc, write_asc};
 use case_text::{CaseFault, Shown, words_of};
 pub use demos::answer_demo;
 use directory::Directory;
-use option_words::{Model, OptionsFault, read_options};
+use option_words::{Model, Options, OptionsFault, read_options};
 use std::alloc::Global;
 
 /// The most bytes of a text in a row, and of one that is written of it.
@@ -111,11 +111,20 @@ fn put_model(model: Model, out: &mut Shown) {
     }
 }
 
-/// `options WORD .. => load NAME`, `demo N`, `nothing`, or `usage`
+/// Puts in what the words ask for: the model, and behind it ` replay NAME` where the order of a run is asked for.
+fn put_options(options: &Options, out: &mut Shown) {
+    put_model(options.model, out);
+    if let Some(name) = options.replay {
+        out.put(b" replay ");
+        out.put(name.bytes());
+    }
+}
+
+/// `options WORD .. => load NAME`, `demo N`, or `nothing`, with ` replay NAME` where it is asked for; or `usage`
 pub fn answer_options(alloc: Global, given: &[u8], out: &mut Shown) -> Result<(), CaseFault> {
     let words = strings_of(alloc, given)?;
     match read_options(alloc, &words) {
-        Ok(options) => put_model(options.model, out),
+        Ok(options) => put_options(&options, out),
         Err(OptionsFault::Usage) => out.put(b"usage"),
         Err(OptionsFault::Memory) => return Err(CaseFault::Memory),
     }

@@ -8,9 +8,9 @@ use Rattle.name_core.specs.declared.name.NameFault.{NameFault}
 use Rattle.name_core.specs.declared.name.NameFault.TheVariants.{Empty, Long}
 use Rattle.std.specs.Option.{option_map}
 use Rattle.option_words.specs.Numbers.{value}
-use Rattle.option_words.specs.Grammar.{Given, are_distinct, asked_by, asked_with, begins_with_dash, demo_asked, file_asked, for_model, is_among, is_same, value_of}
+use Rattle.option_words.specs.Grammar.{Given, are_distinct, asked_by, asked_with, begins_with_dash, demo_asked, file_asked, is_among, is_same, name_asked, options_for, replay_asked, value_of}
 use Rattle.option_words.specs.declared.options.Key.{Key}
-use Rattle.option_words.specs.declared.options.Key.TheVariants.{Load, Demo}
+use Rattle.option_words.specs.declared.options.Key.TheVariants.{Load, Demo, Replay}
 use Rattle.option_words.specs.declared.options.Model.{Model}
 use Rattle.option_words.specs.declared.options.Model.TheVariants.{OfDemo, OfFile}
 use Rattle.option_words.proofs.Rows.{same_itself, same_key}
@@ -19,17 +19,23 @@ use Rattle.option_words.proofs.Rows.{same_itself, same_key}
 abbrev pub has_dash : List Given → Bool
 has_dash gs = list_any (λ (g : Given). begins_with_dash g.value) gs
 
-no_name : (value : List ℕ) → begins_with_dash value ≡ true → file_asked value ≡ None
+no_name : (value : List ℕ) → begins_with_dash value ≡ true → name_asked value ≡ None
 no_name [] e = cc
-no_name (x ∷ xs) e = let same : x ≡ 45 = grind (arith, nat_tests) in ap (λ (b : ℕ). file_asked (b ∷ xs)) same ∙ tried (length (45 ∷ xs) == 0) (nat_lt 64 (length (45 ∷ xs)))
+no_name (x ∷ xs) e = let same : x ≡ 45 = grind (arith, nat_tests) in ap (λ (b : ℕ). name_asked (b ∷ xs)) same ∙ tried (length (45 ∷ xs) == 0) (nat_lt 64 (length (45 ∷ xs)))
   where
-    named : Result (List ℕ) NameFault → Option Model
-    named name = cond (is_ok name) (Some (OfFile (45 ∷ xs))) None
+    named : Result (List ℕ) NameFault → Option (List ℕ)
+    named name = cond (is_ok name) (Some (45 ∷ xs)) None
 
     tried : (none long : Bool) → named (cond none (Err Empty) (cond long (Err Long) (read_with (Some 0) (45 ∷ xs)))) ≡ None
     tried true long = refl
     tried false true = refl
     tried false false = refl
+
+no_file : (value : List ℕ) → begins_with_dash value ≡ true → file_asked value ≡ None
+no_file value dash = ap (option_map OfFile) (no_name value dash)
+
+no_replay : (value : List ℕ) → begins_with_dash value ≡ true → replay_asked (Some value) ≡ None
+no_replay value dash = ap (option_map (λ (n : List ℕ). Some n)) (no_name value dash)
 
 no_number : (value : List ℕ) → begins_with_dash value ≡ true → demo_asked value ≡ None
 no_number [] e = cc
@@ -75,17 +81,28 @@ dashed (g ∷ gs) distinct some = by (begins_with_dash g.value) refl (is_among g
 pub dash_asks_nothing : (gs : List Given) → are_distinct gs ≡ true → has_dash gs ≡ true → asked_by gs ≡ None
 dash_asks_nothing gs distinct some = by (dashed gs distinct some)
   where
-    with_file : (v : List ℕ) → begins_with_dash v ≡ true → (demo : Option (List ℕ)) → for_model (asked_with (Some v) demo) ≡ None
-    with_file v dash None = ap for_model (no_name v dash)
+    with_file : (v : List ℕ) → begins_with_dash v ≡ true → (demo : Option (List ℕ)) → asked_with (Some v) demo ≡ None
+    with_file v dash None = no_file v dash
     with_file v dash (Some number) = refl
 
-    with_demo : (v : List ℕ) → begins_with_dash v ≡ true → (file : Option (List ℕ)) → for_model (asked_with file (Some v)) ≡ None
-    with_demo v dash None = ap for_model (no_number v dash)
+    with_demo : (v : List ℕ) → begins_with_dash v ≡ true → (file : Option (List ℕ)) → asked_with file (Some v) ≡ None
+    with_demo v dash None = no_number v dash
     with_demo v dash (Some name) = refl
 
+    without_replay : (model : Option Model) → options_for model None ≡ None
+    without_replay None = refl
+    without_replay (Some m) = refl
+
+    model : Option Model
+    model = asked_with (value_of Load gs) (value_of Demo gs)
+
+    replay : Option (Option (List ℕ))
+    replay = replay_asked (value_of Replay gs)
+
     by_key : (k : Key) (v : List ℕ) → value_of k gs ≡ Some v → begins_with_dash v ≡ true → asked_by gs ≡ None
-    by_key Load v is dash = ap (λ (o : Option (List ℕ)). for_model (asked_with o (value_of Demo gs))) is ∙ with_file v dash (value_of Demo gs)
-    by_key Demo v is dash = ap (λ (o : Option (List ℕ)). for_model (asked_with (value_of Load gs) o)) is ∙ with_demo v dash (value_of Load gs)
+    by_key Load v is dash = ap (λ (m : Option Model). options_for m replay) (ap (λ (o : Option (List ℕ)). asked_with o (value_of Demo gs)) is ∙ with_file v dash (value_of Demo gs))
+    by_key Demo v is dash = ap (λ (m : Option Model). options_for m replay) (ap (asked_with (value_of Load gs)) is ∙ with_demo v dash (value_of Load gs))
+    by_key Replay v is dash = ap (options_for model) (ap replay_asked is ∙ no_replay v dash) ∙ without_replay model
 
     by : Dashed gs → asked_by gs ≡ None
     by d = by_key d.key d.value d.is d.dash

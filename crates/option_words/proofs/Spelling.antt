@@ -1,5 +1,5 @@
 -- What a word is, by what clap's lexer makes of it.
-use Rattle.std.proofs.Common.{◌≡◌, ◌∙◌, ap, ap₂, refl, sym, true, false, true≢false, Bool, cond, ℕ, suc, ◌+◌, [], ◌∷◌, ◌++◌, take, drop, Option, Some, None, codes, arith}
+use Rattle.std.proofs.Common.{◌≡◌, ◌∙◌, ap, ap₂, refl, sym, true, false, true≢false, Bool, cond, ℕ, suc, ◌+◌, [], ◌∷◌, ◌++◌, append_assoc, length, take, drop, Option, Some, None, codes, arith}
 use Rattle.std.specs.Prelude.{bytes_eq, slice_get, ◌||◌, ◌==◌, option_and_then, not}
 use Rattle.std.specs.List.{before_first, after_first, position_or_len}
 use Rattle.std.specs.Str.{chars}
@@ -10,7 +10,7 @@ use Rattle.clap.specs.Words.{Text}
 use Rattle.clap.specs.Lexer.{has_byte, long_of, long_of_rest, name_and_value, short_of, short_of_rest, strip_byte}
 use Rattle.option_words.specs.Grammar.{as_option, begins_with, begins_with_dash, either_of, name_of, option_of}
 use Rattle.option_words.specs.declared.options.Key.{Key}
-use Rattle.option_words.specs.declared.options.Key.TheVariants.{Load, Demo}
+use Rattle.option_words.specs.declared.options.Key.TheVariants.{Load, Demo, Replay}
 use Rattle.option_words.proofs.ClapSteps.{id_of, attached}
 use Rattle.option_words.proofs.WordKinds.{IsLoose, IsUnknown, unknown_long, unknown_short, loose_flags, loose_plain}
 
@@ -71,29 +71,34 @@ short_dash word flags e = one (strip_byte 45 word) refl e
     one None is e = cc
     one (Some rest) is e = ap begins_with_dash (strip_is 45 word rest is)
 
+long_of_name : (k : Key) → long_of (name_of k) ≡ Some (id_of k, None)
+long_of_name Load = refl
+long_of_name Demo = refl
+long_of_name Replay = refl
+
+long_of_attached : (k : Key) (value : Text) → long_of (attached k value) ≡ Some (id_of k, Some value)
+long_of_attached Load value = refl
+long_of_attached Demo value = refl
+long_of_attached Replay value = refl
+
 -- what is no long flag with an option's name is no option
 no_long : (word : Text) (k : Key) → ((value : Option Text) → long_of word ≡ Some (id_of k, value) → ⊥) → as_option k word ≡ None
-no_long word Load other = by (bytes_eq word (name_of Load)) refl (begins_with (name_of Load ++ codes "=") word) refl
+no_long word k other = by (bytes_eq word (name_of k)) refl (begins_with (name_of k ++ codes "=") word) refl
   where
-    by : (a : Bool) → bytes_eq word (name_of Load) ≡ a → (b : Bool) → begins_with (name_of Load ++ codes "=") word ≡ b → cond {A = Option (Key × Option Text)} a (Some (Load, None)) (cond {A = Option (Key × Option Text)} b (Some (Load, Some (drop 7 word))) None) ≡ None
-    by true is b _ = absurd (other None (ap long_of ((bytes_eq-Decides word (name_of Load)).0 is)))
+    front : ℕ
+    front = length (name_of k ++ codes "=")
+
+    by : (a : Bool) → bytes_eq word (name_of k) ≡ a → (b : Bool) → begins_with (name_of k ++ codes "=") word ≡ b
+        → cond {A = Option (Key × Option Text)} a (Some (k, None)) (cond {A = Option (Key × Option Text)} b (Some (k, Some (drop (length (name_of k) + 1) word))) None) ≡ None
+    by true is b _ = absurd (other None (ap long_of ((bytes_eq-Decides word (name_of k)).0 is) ∙ long_of_name k))
     by false _ true is =
-        let front : take 7 word ≡ codes "--load=" = (bytes_eq-Decides (take 7 word) (codes "--load=")).0 is in
-        let whole : word ≡ attached Load (drop 7 word) = sym (take-append-drop 7 word) ∙ ap (λ l. l ++ drop 7 word) front in
-        absurd (other (Some (drop 7 word)) (ap long_of whole))
-    by false _ false _ = refl
-no_long word Demo other = by (bytes_eq word (name_of Demo)) refl (begins_with (name_of Demo ++ codes "=") word) refl
-  where
-    by : (a : Bool) → bytes_eq word (name_of Demo) ≡ a → (b : Bool) → begins_with (name_of Demo ++ codes "=") word ≡ b → cond {A = Option (Key × Option Text)} a (Some (Demo, None)) (cond {A = Option (Key × Option Text)} b (Some (Demo, Some (drop 7 word))) None) ≡ None
-    by true is b _ = absurd (other None (ap long_of ((bytes_eq-Decides word (name_of Demo)).0 is)))
-    by false _ true is =
-        let front : take 7 word ≡ codes "--demo=" = (bytes_eq-Decides (take 7 word) (codes "--demo=")).0 is in
-        let whole : word ≡ attached Demo (drop 7 word) = sym (take-append-drop 7 word) ∙ ap (λ l. l ++ drop 7 word) front in
-        absurd (other (Some (drop 7 word)) (ap long_of whole))
+        let begins : take front word ≡ name_of k ++ codes "=" = (bytes_eq-Decides (take front word) (name_of k ++ codes "=")).0 is in
+        let whole : word ≡ attached k (drop front word) = sym (take-append-drop front word) ∙ ap (λ l. l ++ drop front word) begins ∙ append_assoc (name_of k) (codes "=") (drop front word) in
+        absurd (other (Some (drop front word)) (ap long_of whole ∙ long_of_attached k (drop front word)))
     by false _ false _ = refl
 
 none_of : (word : Text) → ((k : Key) (value : Option Text) → long_of word ≡ Some (id_of k, value) → ⊥) → option_of word ≡ None
-none_of word other = ap₂ either_of (no_long word Load (other Load)) (no_long word Demo (other Demo))
+none_of word other = ap₂ either_of (no_long word Load (other Load)) (ap₂ either_of (no_long word Demo (other Demo)) (no_long word Replay (other Replay)))
 
 -- a word is an option's name, its name and a value, a word that clap refuses, or one that it takes for a value
 pub data IsWord (word : Text) : Type 0 where
@@ -105,6 +110,7 @@ pub data IsWord (word : Text) : Type 0 where
 long_name : (k : Key) → 45 ∷ 45 ∷ id_of k ≡ name_of k
 long_name Load = refl
 long_name Demo = refl
+long_name Replay = refl
 
 pub classify : (word : Text) → bytes_eq word (codes "--") ≡ false → IsWord word
 classify word other = on_long (long_of word) refl
@@ -122,10 +128,12 @@ classify word other = on_long (long_of word) refl
     on_key k name None is same = is_named k (long_spelled word name None is ∙ ap (λ (n : Text). 45 ∷ 45 ∷ n) (sym ((bytes_eq-Decides (id_of k) name).0 same)) ∙ long_name k)
     on_key k name (Some value) is same = is_attached k value (long_spelled word name (Some value) is ∙ spelled_out k name same (61 ∷ value))
 
-    on_name : (name : Text) (value : Option Text) → long_of word ≡ Some (name, value) → (a : Bool) → bytes_eq (id_of Load) name ≡ a → (b : Bool) → bytes_eq (id_of Demo) name ≡ b → IsWord word
-    on_name name value is true same b _ = on_key Load name value is same
-    on_name name value is false _ true same = on_key Demo name value is same
-    on_name name value is false no_load false no_demo =
+    on_name : (name : Text) (value : Option Text) → long_of word ≡ Some (name, value) → (a : Bool) → bytes_eq (id_of Load) name ≡ a → (b : Bool) → bytes_eq (id_of Demo) name ≡ b
+        → (c : Bool) → bytes_eq (id_of Replay) name ≡ c → IsWord word
+    on_name name value is true same b _ c _ = on_key Load name value is same
+    on_name name value is false _ true same c _ = on_key Demo name value is same
+    on_name name value is false _ false _ true same = on_key Replay name value is same
+    on_name name value is false no_load false no_demo false no_replay =
         is_unknown (unknown_long word name value other is differ)
         (none_of word (λ k v at. not_key k name value is (differ k) v at))
         (long_dash word name value is)
@@ -133,6 +141,7 @@ classify word other = on_long (long_of word) refl
         differ : (k : Key) → bytes_eq (id_of k) name ≡ false
         differ Load = no_load
         differ Demo = no_demo
+        differ Replay = no_replay
 
     no_option : long_of word ≡ None → option_of word ≡ None
     no_option none = none_of word (λ k v at. cc)
@@ -147,4 +156,4 @@ classify word other = on_long (long_of word) refl
 
     on_long : (p : Option (Text × Option Text)) → long_of word ≡ p → IsWord word
     on_long None is = on_short is (short_of word) refl
-    on_long (Some (name, value)) is = on_name name value is (bytes_eq (id_of Load) name) refl (bytes_eq (id_of Demo) name) refl
+    on_long (Some (name, value)) is = on_name name value is (bytes_eq (id_of Load) name) refl (bytes_eq (id_of Demo) name) refl (bytes_eq (id_of Replay) name) refl

@@ -3,13 +3,13 @@ use Rattle.std.specs.Prelude.{◌≡◌, refl, [], ◌∷◌, None, Some, codes}
 use Rattle.option_words.specs.Grammar.{asked_of}
 use Rattle.option_words.specs.declared.options.Model.TheVariants.{Empty, OfFile, OfDemo}
 
-no_words : asked_of [] ≡ Some (record { model = Empty })
+no_words : asked_of [] ≡ Some (record { model = Empty; replay = None })
 no_words = refl
 
-value_in_the_next_word : asked_of (codes "--load" ∷ codes "cup.asc" ∷ []) ≡ Some (record { model = OfFile (codes "cup.asc") })
+value_in_the_next_word : asked_of (codes "--load" ∷ codes "cup.asc" ∷ []) ≡ Some (record { model = OfFile (codes "cup.asc"); replay = None })
 value_in_the_next_word = refl
 
-value_behind_equals : asked_of (codes "--load=cup.asc" ∷ []) ≡ Some (record { model = OfFile (codes "cup.asc") })
+value_behind_equals : asked_of (codes "--load=cup.asc" ∷ []) ≡ Some (record { model = OfFile (codes "cup.asc"); replay = None })
 value_behind_equals = refl
 
 no_value : asked_of (codes "--load" ∷ []) ≡ None
@@ -45,16 +45,16 @@ no_name = refl
 equals_in_the_value : asked_of (codes "--load=a=b" ∷ []) ≡ None
 equals_in_the_value = refl
 
-a_number : asked_of (codes "--demo" ∷ codes "7" ∷ []) ≡ Some (record { model = OfDemo 7 })
+a_number : asked_of (codes "--demo" ∷ codes "7" ∷ []) ≡ Some (record { model = OfDemo 7; replay = None })
 a_number = refl
 
-number_behind_equals : asked_of (codes "--demo=0" ∷ []) ≡ Some (record { model = OfDemo 0 })
+number_behind_equals : asked_of (codes "--demo=0" ∷ []) ≡ Some (record { model = OfDemo 0; replay = None })
 number_behind_equals = refl
 
-leading_zeros : asked_of (codes "--demo=007" ∷ []) ≡ Some (record { model = OfDemo 7 })
+leading_zeros : asked_of (codes "--demo=007" ∷ []) ≡ Some (record { model = OfDemo 7; replay = None })
 leading_zeros = refl
 
-nine_digits : asked_of (codes "--demo=999999999" ∷ []) ≡ Some (record { model = OfDemo 999999999 })
+nine_digits : asked_of (codes "--demo=999999999" ∷ []) ≡ Some (record { model = OfDemo 999999999; replay = None })
 nine_digits = refl
 
 ten_digits : asked_of (codes "--demo=0000000000" ∷ []) ≡ None
@@ -77,3 +77,48 @@ demo_and_file = refl
 
 demo_twice : asked_of (codes "--demo=7" ∷ codes "--demo=7" ∷ []) ≡ None
 demo_twice = refl
+
+replay_alone : asked_of (codes "--replay" ∷ codes "run.txt" ∷ []) ≡ Some (record { model = Empty; replay = Some (codes "run.txt") })
+replay_alone = refl
+
+replay_behind_equals : asked_of (codes "--replay=run.txt" ∷ []) ≡ Some (record { model = Empty; replay = Some (codes "run.txt") })
+replay_behind_equals = refl
+
+file_and_replay : asked_of (codes "--load" ∷ codes "cup.asc" ∷ codes "--replay" ∷ codes "run.txt" ∷ []) ≡ Some (record { model = OfFile (codes "cup.asc"); replay = Some (codes "run.txt") })
+file_and_replay = refl
+
+replay_and_file : asked_of (codes "--replay=a" ∷ codes "--load=a" ∷ []) ≡ Some (record { model = OfFile (codes "a"); replay = Some (codes "a") })
+replay_and_file = refl
+
+demo_and_replay : asked_of (codes "--demo=7" ∷ codes "--replay" ∷ codes "run.txt" ∷ []) ≡ Some (record { model = OfDemo 7; replay = Some (codes "run.txt") })
+demo_and_replay = refl
+
+file_and_demo_and_replay : asked_of (codes "--load=a" ∷ codes "--replay=b" ∷ codes "--demo=7" ∷ []) ≡ None
+file_and_demo_and_replay = refl
+
+replay_twice : asked_of (codes "--replay=a" ∷ codes "--replay" ∷ codes "a" ∷ []) ≡ None
+replay_twice = refl
+
+replay_without_a_value : asked_of (codes "--replay" ∷ []) ≡ None
+replay_without_a_value = refl
+
+replay_of_no_name : asked_of (codes "--replay=a/b" ∷ []) ≡ None
+replay_of_no_name = refl
+
+replay_of_an_empty_value : asked_of (codes "--replay=" ∷ []) ≡ None
+replay_of_an_empty_value = refl
+
+replay_of_an_empty_word : asked_of (codes "--replay" ∷ [] ∷ []) ≡ None
+replay_of_an_empty_word = refl
+
+replay_with_a_dash : asked_of (codes "--replay" ∷ codes "-a" ∷ []) ≡ None
+replay_with_a_dash = refl
+
+option_as_the_value_of_replay : asked_of (codes "--replay" ∷ codes "--load=a" ∷ []) ≡ None
+option_as_the_value_of_replay = refl
+
+replay_shortened : asked_of (codes "--rep=a" ∷ []) ≡ None
+replay_shortened = refl
+
+replay_with_a_bad_number : asked_of (codes "--replay=a" ∷ codes "--demo=" ∷ []) ≡ None
+replay_with_a_bad_number = refl

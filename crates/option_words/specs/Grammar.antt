@@ -1,12 +1,12 @@
 -- The words after the program's name: options with a value each, in any order, each at most once. A file and a demo
--- exclude each other.
+-- exclude each other; the order of a run goes with either of them and with none.
 use Rattle.std.specs.Prelude.{ℕ, Bool, true, false, not, ◌&&◌, ◌==◌, ◌+◌, List, [], ◌∷◌, ◌++◌, length, take, drop, Option, None, Some, is_ok, codes, bytes_eq, slice_index_or, if◌then◌else◌}
 use Rattle.std.specs.List.{list_any}
 use Rattle.std.specs.Option.{option_map}
 use Rattle.name_core.specs.NameText.{read_name}
 use Rattle.option_words.specs.Numbers.{number_of}
 use Rattle.option_words.specs.declared.options.Key.{Key}
-use Rattle.option_words.specs.declared.options.Key.TheVariants.{Load, Demo}
+use Rattle.option_words.specs.declared.options.Key.TheVariants.{Load, Demo, Replay}
 use Rattle.option_words.specs.declared.options.Model.{Model}
 use Rattle.option_words.specs.declared.options.Model.TheVariants.{Empty, OfFile, OfDemo}
 use Rattle.option_words.specs.declared.options.Options.{Options}
@@ -25,6 +25,7 @@ begins_with start word = bytes_eq (take (length start) word) start
 abbrev pub name_of : Key → List ℕ
 name_of Load = codes "--load"
 name_of Demo = codes "--demo"
+name_of Replay = codes "--replay"
 
 -- whether a word is this option: its name alone, so that the next word is its value, or its name, `=` and its value
 abbrev pub as_option : Key → List ℕ → Option (Key × Option (List ℕ))
@@ -39,7 +40,7 @@ either_of (Some found) other = Some found
 
 -- which option a word is
 abbrev pub option_of : List ℕ → Option (Key × Option (List ℕ))
-option_of word = either_of (as_option Load word) (as_option Demo word)
+option_of word = either_of (as_option Load word) (either_of (as_option Demo word) (as_option Replay word))
 
 -- a value in a word of its own does not begin with `-`
 abbrev pub begins_with_dash : List ℕ → Bool
@@ -66,6 +67,7 @@ given_from (word ∷ rest) waiting = next_given (given_from rest) word waiting
 abbrev pub is_same : Key → Key → Bool
 is_same Load Load = true
 is_same Demo Demo = true
+is_same Replay Replay = true
 is_same _ _ = false
 
 -- whether an option is among those that are given
@@ -81,9 +83,13 @@ abbrev pub value_of : Key → List Given → Option (List ℕ)
 value_of key [] = None
 value_of key (g ∷ rest) = if is_same key g.key then Some g.value else value_of key rest
 
+-- a text as a name, none where it is not one
+abbrev pub name_asked : List ℕ → Option (List ℕ)
+name_asked name = if is_ok (read_name name) then Some name else None
+
 -- the model of the file of this name
 abbrev pub file_asked : List ℕ → Option Model
-file_asked name = if is_ok (read_name name) then Some (OfFile name) else None
+file_asked name = option_map OfFile (name_asked name)
 
 -- the model that this number makes
 abbrev pub demo_asked : List ℕ → Option Model
@@ -96,11 +102,20 @@ asked_with (Some name) None = file_asked name
 asked_with None (Some number) = demo_asked number
 asked_with (Some name) (Some number) = None
 
-abbrev pub for_model : Option Model → Option Options
-for_model model = option_map (λ m. record { model = m }) model
+-- the file that names the order of the run by the value of `--replay`, where one is given; none where this is no name
+abbrev pub replay_asked : Option (List ℕ) → Option (Option (List ℕ))
+replay_asked None = Some None
+replay_asked (Some name) = option_map (λ n. Some n) (name_asked name)
 
+-- a model and the file that names the order of the run, none where one of them cannot be asked for
+abbrev pub options_for : Option Model → Option (Option (List ℕ)) → Option Options
+options_for None replay = None
+options_for (Some model) None = None
+options_for (Some model) (Some replay) = Some (record { model = model; replay = replay })
+
+-- what the given options ask for
 abbrev pub asked_by : List Given → Option Options
-asked_by options = for_model (asked_with (value_of Load options) (value_of Demo options))
+asked_by options = options_for (asked_with (value_of Load options) (value_of Demo options)) (replay_asked (value_of Replay options))
 
 abbrev pub if_distinct : Option (List Given) → Option Options
 if_distinct None = None

@@ -1,7 +1,7 @@
 //! The command by which the words are read.
 ghost use Rattle.std.specs.Prelude.{◌≡◌, IfOk, false, map, string_bytes};
 ghost use Rattle.clap.specs.Words.{app_of, rule_of};
-ghost use Rattle.option_words.specs.Command.{bare_app, demo_rule, load_rule, options_app};
+ghost use Rattle.option_words.specs.Command.{bare_app, demo_rule, load_rule, options_app, replay_rule};
 ghost use Rattle.option_words.specs.Reading.{AreTexts, NoneEnds};
 
 use crate::fault::OptionsFault;
@@ -15,6 +15,7 @@ use std::alloc::Global;
 pub(crate) struct Texts<'a> {
     pub(crate) load: Option<&'a str>,
     pub(crate) demo: Option<&'a str>,
+    pub(crate) replay: Option<&'a str>,
 }
 
 /// The option `--load NAME`. Its value is text, which is read as a name afterwards.
@@ -33,6 +34,16 @@ fn demo_option<'a>(alloc: Global) -> Arg<'a>
     Arg::new(alloc, "demo").long("demo").action(ArgAction::Set)
 }
 
+/// The option `--replay NAME`. Its value is text, which is read as a name afterwards.
+fn replay_option<'a>(alloc: Global) -> Arg<'a>
+    ensures rule { rule_of result ≡ replay_rule }
+    ensures local { result.global ≡ false }
+{
+    Arg::new(alloc, "replay")
+        .long("replay")
+        .action(ArgAction::Set)
+}
+
 /// A command with no option, not even for help, whose words begin behind the program's name.
 fn bare_command<'a>(alloc: Global) -> Command<'a>
     ensures { app_of result ≡ bare_app }
@@ -49,6 +60,7 @@ fn options_command<'a>(alloc: Global) -> Result<Command<'a>, Memory>
 {
     let command = bare_command(alloc).arg(load_option(alloc))?;
     let command = command.arg(demo_option(alloc))?;
+    let command = command.arg(replay_option(alloc))?;
     Ok(command)
 }
 
@@ -64,6 +76,7 @@ pub(crate) fn option_texts<'a>(
         Ok(matches) => Ok(Texts {
             load: matches.get_str("load"),
             demo: matches.get_str("demo"),
+            replay: matches.get_str("replay"),
         }),
         Err(error) if error.kind() == ErrorKind::OutOfMemory => Err(OptionsFault::Memory),
         Err(_) => Err(OptionsFault::Usage),

@@ -8,6 +8,8 @@ pub enum Key {
     Load,
     /// `--demo N`: the number that makes a model and a script for it.
     Demo,
+    /// `--replay NAME`: the file that names the order of the run.
+    Replay,
 }
 
 /// The model that there is at the start.
@@ -26,4 +28,6 @@ pub enum Model {
 pub struct Options {
     /// The model that there is at the start.
     pub model: Model,
+    /// The file that names the order of the run, where one is asked for.
+    pub replay: Option<Name>,
 }

@@ -1,8 +1,8 @@
 //! Words are read as options.
-ghost use Rattle.std.specs.Prelude.{◌≡◌, IfOk, IfSome, bytes_eq, codes, map, option_map, string_bytes};
+ghost use Rattle.std.specs.Prelude.{◌≡◌, IfOk, IfSome, bytes_eq, codes, map, string_bytes};
 ghost use Rattle.std.specs.List.{list_any};
-ghost use Rattle.option_words.specs.Grammar.{asked_with, demo_asked, file_asked, for_model};
-ghost use Rattle.option_words.specs.Reading.{HasNumber, IsAnswer, IsOptions};
+ghost use Rattle.option_words.specs.Grammar.{asked_with, demo_asked, file_asked, name_asked, options_for, replay_asked};
+ghost use Rattle.option_words.specs.Reading.{HasNumber, IsAnswer, IsOptions, behind};
 
 use crate::command::{Texts, option_texts};
 use crate::fault::OptionsFault;
@@ -18,15 +18,22 @@ fn has_end(words: &[String]) -> bool
     words.iter().any(|word| word.as_str() == "--")
 }
 
+/// The name that a text is.
+fn name_in(text: &str) -> Option<Name>
+    ensures { result ≡ name_asked text.now }
+{
+    match Name::read(text.as_bytes()) {
+        Ok(name) => Some(name),
+        Err(_) => None,
+    }
+}
+
 /// The model of a file of this name.
 fn file_model(text: &str) -> Option<Model>
     ensures model { result ≡ file_asked text.now }
     ensures number { IfSome result HasNumber }
 {
-    match Name::read(text.as_bytes()) {
-        Ok(name) => Some(Model::OfFile(name)),
-        Err(_) => None,
-    }
+    Some(Model::OfFile(name_in(text)?))
 }
 
 /// The model of a demo.
@@ -42,7 +49,7 @@ fn demo_model(text: &str) -> Option<Model>
 
 /// The model of a command line with these texts behind its options. A file and a demo exclude each other.
 fn model_with(texts: Texts) -> Option<Model>
-    ensures model { result ≡ asked_with (option_map (λ text. text.now) texts.entry.load) (option_map (λ text. text.now) texts.entry.demo) }
+    ensures model { result ≡ asked_with (behind texts.entry.load) (behind texts.entry.demo) }
     ensures number { IfSome result HasNumber }
 {
     match (texts.load, texts.demo) {
@@ -53,19 +60,31 @@ fn model_with(texts: Texts) -> Option<Model>
     }
 }
 
-/// The options of a command line with these texts.
-fn options_with(texts: Texts) -> Result<Options, OptionsFault>
-    ensures options { IsAnswer result (for_model (asked_with (option_map (λ text. text.now) texts.entry.load) (option_map (λ text. text.now) texts.entry.demo))) }
-    ensures number { IfOk result (λ options. HasNumber options.model) }
+/// The file that names the order of a run with these texts behind its options, where one is asked for; none where what is
+/// asked for is no name.
+fn replay_with(texts: Texts) -> Option<Option<Name>>
+    ensures { result ≡ replay_asked (behind texts.entry.replay) }
 {
-    match model_with(texts) {
-        Some(model) => Ok(Options { model }),
-        None => Err(OptionsFault::Usage),
+    match texts.replay {
+        Some(text) => Some(Some(name_in(text)?)),
+        None => Some(None),
     }
 }
 
-/// Reads the words after the program's name: `--load NAME` or `--demo N`, or these with `=` in place of the blank, and no
-/// other word. A value in a word of its own does not begin with `-`. `N` is one to nine digits.
+/// The options of a command line with these texts.
+fn options_with(texts: Texts) -> Result<Options, OptionsFault>
+    ensures options { IsAnswer result (options_for (asked_with (behind texts.entry.load) (behind texts.entry.demo)) (replay_asked (behind texts.entry.replay))) }
+    ensures number { IfOk result (λ options. HasNumber options.model) }
+{
+    match (model_with(texts), replay_with(texts)) {
+        (Some(model), Some(replay)) => Ok(Options { model, replay }),
+        _ => Err(OptionsFault::Usage),
+    }
+}
+
+/// Reads the words after the program's name: `--load NAME` or `--demo N`, and `--replay NAME`, or these with `=` in place of
+/// the blank, each at most once and in any order, and no other word. A value in a word of its own does not begin with `-`.
+/// `N` is one to nine digits.
 pub fn read_options(alloc: Global, words: &Vec<String>) -> Result<Options, OptionsFault>
     ensures options { IsOptions result (map string_bytes words.now.items) }
     ensures number { IfOk result (λ options. HasNumber options.model) }

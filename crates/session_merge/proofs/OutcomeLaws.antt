@@ -36,7 +36,7 @@ abbrev IsOfEight : {X : Type 0} → Entry X → Type 0
 IsOfEight e = (1 ≤ e.session) × (e.session ≤ 8)
 
 module _ {C F : Type 0} where
-  remarked_order : (history : List (Entry (Marked C))) (answers : ℕ → List (Answer F)) → order_of (remarked history answers) ≡ order_of history
+  pub remarked_order : (history : List (Entry (Marked C))) (answers : ℕ → List (Answer F)) → order_of (remarked history answers) ≡ order_of history
   remarked_order [] answers = refl
   remarked_order (e ∷ rest) answers = ap (λ ns. e.session ∷ ns) (remarked_order rest (once_taken e.session answers))
 

@@ -1,5 +1,5 @@
 -- Versions along a run, and the state at the place of a command.
-use Rattle.std.proofs.Common.{◌≡◌, ◌≤◌, ◌+◌, ◌==◌, ℕ, Bool, true, false, cond, List, [], ◌∷◌, Option, Some, None, is_some, refl, ap, arith}
+use Rattle.std.proofs.Common.{◌≡◌, ◌≤◌, ◌+◌, ◌==◌, ◌&&◌, not, ℕ, Bool, true, false, cond, List, [], ◌∷◌, Option, Some, None, is_some, refl, ap, arith}
 use Rattle.outside_core.specs.declared.traits.File.{File}
 use Rattle.transcript.specs.Merge.{Entry, lane}
 use Rattle.transcript.specs.Run.{Answer, Book, Marked, State, answered, book_after, committed, run_of, stepped}
@@ -39,8 +39,12 @@ by_made : (book : Book Listing) (made : Option Listing) → (committed book made
 by_made book None = omega arith
 by_made book (Some directory) = refl
 
+by_mark : (memory : Bool) (book : Book Listing) (made : Option Listing) → (cond memory book (committed book made)).version ≡ book.version + cond (not memory && is_some made) 1 0
+by_mark true book made = omega arith
+by_mark false book made = by_made book made
+
 pub rises_with_edits : RisesWithEdits
-rises_with_edits book command = by_made book (directory_made book.directory command)
+rises_with_edits book m = by_mark m.memory book (directory_made book.directory m.command)
 
 pub answers_at_places : AnswersAtPlaces
 answers_at_places start [] later e = refl

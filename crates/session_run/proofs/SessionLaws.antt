@@ -3,6 +3,7 @@ use Rattle.std.proofs.Common.{◌≡◌, ◌≤◌, ◌+◌, ℕ, Bool, true, fa
 use Rattle.std.proofs.lemmas.List.{append-nil, map_push}
 use Rattle.std.proofs.lemmas.Option.{IfSome_then}
 use Rattle.std.specs.HashMap.{get}
+use Rattle.std.specs.List.{AllByRecursion}
 use mathlib.Core.List.{IsPrefix}
 use Rattle.outside_core.specs.declared.traits.File.{File}
 use Rattle.transcript.specs.Run as run
@@ -40,6 +41,7 @@ use Rattle.session_run.proofs.TellLaws.{IsOther, MayBeOther, refusal_other}
 pub record Holds (opening : Listing) (first : Own) (commands : List Command) (old new : PassView Command) (answers : List Answer) (own : Own) : Type 0 where
   pub places : List ℕ
   pub grown : new.own ≡ old.own ++ places
+  pub later : AllByRecursion (λ (p : ℕ). length old.seen ≤ p) places
   pub more : HasMore core_rules is_look old.session (start_book opening) new.seen places first commands (map core_answer answers) own
   pub begins : IsPrefix old.seen new.seen
   pub left : new.left + length commands ≡ old.left
@@ -50,12 +52,21 @@ pub holds_first : (opening : Listing) (own : Own) (pass : PassView Command) → 
 holds_first opening own pass = record {
   places = [];
   grown = sym (append-nil pass.own);
+  later = tt;
   more = record { rising = tt; answered = tt; marks = refl; kept_is = refl };
   begins = ([], append-nil pass.seen);
   left = omega arith;
   table = refl;
   session = refl;
 }
+
+-- a place past the others
+all_more : (n : ℕ) (places : List ℕ) (place : ℕ) → AllByRecursion (λ (p : ℕ). n ≤ p) places → n ≤ place → AllByRecursion (λ (p : ℕ). n ≤ p) (places ++ place ∷ [])
+all_more n [] place all le = (le, tt)
+all_more n (p ∷ places) place all le = (all.0, all_more n places place all.1 le)
+
+prefix_length : (xs ys : List (Noted Command)) → IsPrefix xs ys → length xs ≤ length ys
+prefix_length xs ys p = omega (arith, length-append xs p.0, ap (length {A = Noted Command}) p.1)
 
 pub holds_next : (opening : Listing) (first own kept : Own) (commands : List Command) (command : Command) (old mid new : PassView Command) (answers : List Answer) (answer : Answer)
     → Holds opening first commands old mid answers own → IsNext opening command own mid new answer kept → Holds opening first (commands ++ command ∷ []) old new (answers ++ answer ∷ []) kept
@@ -69,6 +80,7 @@ holds_next opening first own kept commands command old mid new answers answer h 
     record {
       places = h.places ++ length n.before ∷ [];
       grown = a.own ∙ ap (λ l. l ++ length n.before ∷ []) h.grown ∙ append_assoc old.own h.places (length n.before ∷ []);
+      later = all_more (length old.seen) h.places (length n.before) h.later (omega (arith, prefix_length old.seen mid.seen h.begins, prefix_length mid.seen n.before a.begins));
       more = subst (λ told. HasMore core_rules is_look old.session (start_book opening) new.seen (h.places ++ length n.before ∷ []) first (commands ++ command ∷ []) told kept) (sym (map_push core_answer answers answer)) whole;
       begins = begins_all old.seen mid.seen new.seen h.begins (grows mid.seen n.before new.seen (note_of mid.session command n.memory) a.begins a.seen);
       left = omega (arith, a.left, h.left, length-append commands (command ∷ []));

@@ -1,8 +1,6 @@
 -- What the code keeps of a session's run, as the plain data of its definition.
-use Rattle.std.specs.Prelude.{false}
 use Rattle.outside_core.specs.declared.traits.File.{File}
 use Rattle.transcript.specs.Run as run
-use Rattle.command_set.specs.declared.command.Command.{Command}
 use Rattle.directory.specs.Listing.{Listing}
 use Rattle.session_run.specs.Replies.{shown}
 use Rattle.session_run.specs.declared.answer.Answer.{Answer}
@@ -15,7 +13,3 @@ core_book book = record { directory = book.directory; version = book.version }
 -- a session's answer as one of the run
 abbrev pub core_answer : Answer → run.Answer File
 core_answer answer = record { version = answer.version; reply = shown answer.outcome }
-
--- a command that was not answered for want of memory
-abbrev pub unmarked : Command → run.Marked Command
-unmarked command = record { command = command; memory = false }

@@ -1,11 +1,10 @@
 -- What a reader may conclude of any run by the rules of the core.
-use Rattle.std.specs.Prelude.{◌≡◌, ◌≤◌, ◌+◌, ℕ, List, [], ◌∷◌, ◌++◌, map, is_some, if◌then◌else◌}
+use Rattle.std.specs.Prelude.{◌≡◌, ◌≤◌, ◌+◌, ◌&&◌, not, ℕ, List, [], ◌∷◌, ◌++◌, map, is_some, if◌then◌else◌}
 use Rattle.outside_core.specs.declared.traits.File.{File}
 use Rattle.transcript.specs.Merge.{Entry, lane}
 use Rattle.transcript.specs.Run.{Answer, Book, Marked, State, answered, book_after, run_of, stepped}
 use Rattle.command_set.specs.declared.command.Command.{Command}
 use Rattle.directory.specs.Listing.{Listing}
-use Rattle.session_run.specs.Answers.{unmarked}
 use Rattle.session_run.specs.Replies.{core_rules, directory_made}
 use Rattle.session_run.specs.declared.answer.Own.{Own}
 
@@ -21,9 +20,9 @@ versions_of answers = map (λ (a : Answer File). a.version) answers
 abbrev pub VersionsNeverFall : Type 0
 VersionsNeverFall = (start : State Listing Own) (entries : List (Entry (Marked Command))) (session : ℕ) → NeverFall start.book.version (versions_of (lane (run_of core_rules start entries) session))
 
--- a command raises the version by one where it is an edit that is accepted, and else leaves it
+-- a command raises the version by one where it is an edit that is accepted and not marked, and else leaves it
 abbrev pub RisesWithEdits : Type 0
-RisesWithEdits = (book : Book Listing) (command : Command) → (book_after core_rules book (unmarked command)).version ≡ book.version + (if is_some (directory_made book.directory command) then 1 else 0)
+RisesWithEdits = (book : Book Listing) (m : Marked Command) → (book_after core_rules book m).version ≡ book.version + (if not m.memory && is_some (directory_made book.directory m.command) then 1 else 0)
 
 -- the state after some commands
 abbrev pub state_after : State Listing Own → List (Entry (Marked Command)) → State Listing Own

@@ -37,6 +37,7 @@ an_edit_and_a_look table = record {
   places = 0 ∷ 2 ∷ [];
   grown = refl;
   rising = ((omega arith, tt), (tt, tt));
+  later = (omega arith, (omega arith, tt));
   answered = (
     record { noted = record { command = edit; memory = false }; there = refl; same = refl; agrees = λ book. refl; answer_is = refl },
     (record { noted = record { command = look; memory = false }; there = refl; same = refl; agrees = λ book. refl; answer_is = refl }, tt),
@@ -54,6 +55,7 @@ a_look_without_memory table = record {
   places = 0 ∷ 2 ∷ [];
   grown = refl;
   rising = ((omega arith, tt), (tt, tt));
+  later = (omega arith, (omega arith, tt));
   answered = (
     record { noted = record { command = edit; memory = false }; there = refl; same = refl; agrees = λ book. refl; answer_is = refl },
     (record { noted = record { command = look; memory = false }; there = refl; same = refl; agrees = λ book. refl; answer_is = refl }, tt),

@@ -1,5 +1,6 @@
 -- Sessions, and what a run of one does over a table that other sessions share.
-use Rattle.std.specs.Prelude.{◌≡◌, ◌+◌, ◌&&◌, ℕ, zero, suc, Bool, false, not, List, [], ◌∷◌, ◌++◌, length, map}
+use Rattle.std.specs.Prelude.{◌≡◌, ◌≤◌, ◌+◌, ◌&&◌, ℕ, zero, suc, Bool, false, not, List, [], ◌∷◌, ◌++◌, length, map}
+use Rattle.std.specs.List.{AllByRecursion}
 use mathlib.Core.List.{IsPrefix}
 use Rattle.transcript.specs.Run as run
 use Rattle.transcript.specs.Run.{answer_of, book_after, own_after}
@@ -51,11 +52,12 @@ module _ {C F : Type 0} (looks : C → Bool) where
   marks_of (c ∷ commands) [] = []
   marks_of (c ∷ commands) (a ∷ answers) = mark_of c a ∷ marks_of commands answers
 
--- The session's own entries have grown by its commands, each once, in sequence. Each was answered at its entry's place, with what its own earlier commands left of what the session came with.
+-- The session's own entries have grown by its commands, each once, in sequence, and past what its pass had seen. Each was answered at its entry's place, with what its own earlier commands left of what the session came with.
 pub record HasRun (opening : Listing) (own : Own) (commands : List Command) (old new : PassView Command) (answers : List Answer) : Type 0 where
   pub places : List ℕ
   pub grown : new.own ≡ old.own ++ places
   pub rising : IsRising places
+  pub later : AllByRecursion (λ (p : ℕ). length old.seen ≤ p) places
   pub answered : AreAnswered core_rules old.session (start_book opening) (entries_of new.seen) places own commands (map core_answer answers)
   pub marks : map (mark_at new.seen) places ≡ marks_of is_look commands (map core_answer answers)
   pub begins : IsPrefix old.seen new.seen

@@ -13,14 +13,16 @@ ghost use Rattle.report_text.specs.Listings.{listings, written_lines};
 ghost use Rattle.report_text.specs.Names.{names_lines};
 ghost use Rattle.report_text.specs.Texts.{IsText};
 ghost use Rattle.edit_core.specs.Modelling.{is_look};
+ghost use Rattle.command_set.specs.declared.command.Command.TheVariants.{Edit as IsEdit};
 ghost use Rattle.command_set.specs.declared.refusal.Refusal.TheVariants.{Memory as NoMemory};
 ghost use Rattle.session_merge.specs.Answered.{shown_as};
-ghost use Rattle.session_run.specs.Answers.{core_book, core_answer, unmarked};
+ghost use Rattle.session_run.specs.Answers.{core_book, core_answer};
 ghost use Rattle.session_run.specs.Sessions.{book_at};
 ghost use Rattle.session_run.specs.Kept.{IsCurrent, Moves};
 ghost use Rattle.session_run.specs.declared.keep.Keep.{Keep};
 ghost use Rattle.session_run.specs.declared.answer.Found.{Found};
-ghost use Rattle.session_run.specs.Replies.{core_rules, most_used, lines_alone, size_of, within_quota, lines_of_scene, shot_of, found_unless, picture_of, check_of, viewed, first_missing, lines_unless_missing, saved, found, edit_outcome, outcome_of, directory_made, used_after};
+ghost use Rattle.session_run.specs.declared.answer.Own.{Own as TheOwn};
+ghost use Rattle.session_run.specs.Replies.{core_rules, most_used, lines_alone, size_of, within_quota, lines_of_scene, shot_of, found_unless, picture_of, check_of, viewed, first_missing, lines_unless_missing, saved, found, edit_outcome, outcome_of, used_after};
 
 use crate::check::check_scene;
 use crate::keep::Keep;
@@ -398,32 +400,6 @@ fn edit_book(alloc: Global, book: &mut Book, edit: &Edit) -> Result<Result<Found
     }
 }
 
-/// Does what a command asks for.
-fn obey(
-    alloc: Global,
-    book: &mut Book,
-    keep: &mut Keep,
-    used: u64,
-    command: &Command,
-) -> Result<Result<Found, Refusal>, Memory>
-    requires version { book.old.version + 1 < 2 ^ 32 }
-    requires quota { used ≤ most_used }
-    requires current { IsCurrent keep.old book.old.version book.old.directory.objects }
-    ensures outcome { IfOk result (λ outcome. outcome ≡ outcome_of book.old.directory used command.now) }
-    ensures book { OnOk result (core_book book.new ≡ committed (core_book book.old) (directory_made book.old.directory command.now)) }
-    ensures stays { OnErr result (book.new ≡ book.old) }
-    ensures moves { Moves book.old book.new }
-    ensures current { IsCurrent keep.new book.new.version book.new.directory.objects }
-    ensures version { book.new.version ≤ book.old.version + 1 }
-{
-    match command {
-        Command::Bad(refusal) => Ok(Err(*refusal)),
-        Command::Edit(edit) => edit_book(alloc, book, edit),
-        Command::Query(query) => look(alloc, book.version, &book.directory, keep, used, query),
-        Command::Shoot(shoot) => look_from(alloc, book.version, &book.directory, keep, used, shoot),
-    }
-}
-
 /// The bytes of a body, with their line feeds, and of a file.
 fn size(found: &Found) -> u64
     requires { size_of found.now < 2 ^ 64 }
@@ -503,33 +479,46 @@ pub fn answer_look(
     Answer { version, outcome }
 }
 
+/// What an edit is answered, with the book after it. Want of memory is an answer too, and leaves the book as it was.
+fn answer_edit(alloc: Global, book: &mut Book, edit: &Edit) -> Answer
+    requires version { book.old.version + 1 < 2 ^ 32 }
+    ensures answer { (own : TheOwn) → core_answer result ≡ answer_of core_rules (core_book book.old) own (shown_as (IsEdit edit.now) (core_answer result)) }
+    ensures book { core_book book.new ≡ book_after core_rules (core_book book.old) (shown_as (IsEdit edit.now) (core_answer result)) }
+    ensures own { (own : TheOwn) → own ≡ own_after core_rules (core_book book.old) own (shown_as (IsEdit edit.now) (core_answer result)) }
+    ensures moves { Moves book.old book.new }
+    ensures version { book.new.version ≤ book.old.version + 1 }
+{
+    let found = edit_book(alloc, book, edit);
+    let outcome = or_refused(found);
+    Answer {
+        version: book.version,
+        outcome,
+    }
+}
+
 /// The core step on one thread: what a command of a session is answered, with the book and what the session has of its own
-/// after it. Want of memory leaves both as they were. What a session keeps stays one that can be used with the book's
-/// directory, whichever session the command is of.
+/// after it. Want of memory is an answer too, and leaves both as they were. What a session keeps stays one that can be used
+/// with the book's directory, whichever session the command is of.
 pub fn answer_command(
     alloc: Global,
     book: &mut Book,
     own: &mut Own,
     keep: &mut Keep,
     command: &Command,
-) -> Result<Answer, Memory>
+) -> Answer
     requires version { book.old.version + 1 < 2 ^ 32 }
     requires quota { own.old.used ≤ most_used }
     requires current { IsCurrent keep.old book.old.version book.old.directory.objects }
-    ensures answer { IfOk result (λ answer. core_answer answer ≡ answer_of core_rules (core_book book.old) own.old (unmarked command.now)) }
-    ensures book { OnOk result (core_book book.new ≡ book_after core_rules (core_book book.old) (unmarked command.now)) }
-    ensures own { OnOk result (own.new ≡ own_after core_rules (core_book book.old) own.old (unmarked command.now)) }
+    ensures answer { core_answer result ≡ answer_of core_rules (core_book book.old) own.old (shown_as command.now (core_answer result)) }
+    ensures book { core_book book.new ≡ book_after core_rules (core_book book.old) (shown_as command.now (core_answer result)) }
+    ensures own { own.new ≡ own_after core_rules (core_book book.old) own.old (shown_as command.now (core_answer result)) }
     ensures quota { own.new.used ≤ most_used }
     ensures current { IsCurrent keep.new book.new.version book.new.directory.objects }
     ensures others { (other : Keep) → IsCurrent other book.old.version book.old.directory.objects → IsCurrent other book.new.version book.new.directory.objects }
     ensures version { book.new.version ≤ book.old.version + 1 }
-    ensures book_stays { OnErr result (book.new ≡ book.old) }
-    ensures own_stays { OnErr result (own.new ≡ own.old) }
 {
-    let outcome = obey(alloc, book, keep, own.used, command)?;
-    own.used = used_with(own.used, &outcome);
-    Ok(Answer {
-        version: book.version,
-        outcome,
-    })
+    match command {
+        Command::Edit(edit) => answer_edit(alloc, book, edit),
+        _ => answer_look(alloc, book.version, &book.directory, own, keep, command),
+    }
 }

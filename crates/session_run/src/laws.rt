@@ -1,9 +1,9 @@
 //! What a reader may conclude of any run.
 ghost use Rattle.session_run.specs.Laws.{AnswersAtPlaces, RisesWithEdits, VersionsNeverFall};
 
-/// Along the commands of a session versions never fall; a version rises by one exactly at an edit that is accepted; and the
-/// answer of a command is that of the directory at its place in the order. The function does nothing: its contract is the
-/// law.
+/// Along the commands of a session versions never fall; a version rises by one exactly at an edit that is accepted, and not
+/// answered for want of memory; and the answer of a command is that of the directory at its place in the order. The function
+/// does nothing: its contract is the law.
 pub fn run_laws()
     ensures versions { VersionsNeverFall }
     ensures edits { RisesWithEdits }

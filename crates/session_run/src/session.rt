@@ -246,7 +246,8 @@ impl Session {
         })
     }
 
-    /// Answers a command that is no edit, with the directory of a version.
+    /// Answers a command that is no edit, with the directory of a version, which may be any: scenes that were kept of others
+    /// are not used.
     pub fn one(
         &mut self,
         alloc: Global,
@@ -255,7 +256,6 @@ impl Session {
         command: &Command,
     ) -> Answer
         requires looks { is_look command.now ≡ true }
-        requires current { IsCurrent self.old.keep version (arc_value directory.now).objects }
         ensures answer { core_answer result ≡ answer_of core_rules (book_at (arc_value directory.now) version) self.old.own (shown_as command.now (core_answer result)) }
         ensures own { self.new.own ≡ own_after core_rules (book_at (arc_value directory.now) version) self.old.own (shown_as command.now (core_answer result)) }
         ensures current { IsCurrent self.new.keep version (arc_value directory.now).objects }
@@ -263,22 +263,26 @@ impl Session {
         ensures commands { self.new.commands ≡ self.old.commands }
     {
         let course = &mut self.course;
+        course.keep = Keep::new(alloc);
         course.one(alloc, version, directory, command)
     }
 
     /// Runs all commands in sequence, each as an entry of the history. It takes no memory for the list of answers.
-    /// After each accepted edit the gate is told.
+    /// After each accepted edit the gate is told. `workers` is how many threads may shoot its tiles; it shoots all tiles
+    /// itself so far.
     pub fn run<R: Wait, G: Gate>(
         self,
         rt: &R,
         alloc: Global,
         table: &VersionTable<Modeller>,
         pass: &mut Pass<Modeller>,
+        _workers: u8,
         gate: &G,
     ) -> Items<Answer>
         requires table { pass.old.table ≡ table.now.id }
         requires session { pass.old.session ≡ self.session }
         requires calls { length self.commands ≤ pass.old.left }
+        requires workers { (1 ≤ _workers) × (_workers ≤ 16) }
         ensures ran { HasRun table.now.told.state self.own self.commands pass.old pass.new result }
     {
         let Session {

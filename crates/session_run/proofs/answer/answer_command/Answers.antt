@@ -1,15 +1,12 @@
-use Rattle.std.proofs.Common.{◌≤◌, subst, sym}
-use Rattle.session_run.specs.Replies.{Outcome, most_used, used_after}
-use Rattle.session_run.proofs.UsedLaws.{used_within}
+use Rattle.std.proofs.Common.{◌≡◌, subst, sym}
+use Rattle.transcript.specs.Run.{answer_of}
+use Rattle.command_set.specs.declared.command.Command.{Command}
+use Rattle.session_merge.specs.Answered.{shown_as}
+use Rattle.session_run.specs.Answers.{core_answer, core_book}
+use Rattle.session_run.specs.Replies.{core_rules}
 use Rattle.session_run.proofs.answer.answer_command.Goals as goal
 
-pub used_with-own-requires : goal.used_with-own-requires
-used_with-own-requires c =
-    subst (λ (o : Outcome). used_after c.args.own.now.used o ≤ most_used) (sym c.in_ok-outcome.ensures.outcome)
-    (used_within c.args.book.now.directory c.args.own.now.used c.args.command.now c.requires.quota)
-
-pub returns-clause-quota : goal.returns-clause-quota
-returns-clause-quota c =
-    subst (λ n. n ≤ most_used) (sym c.used_with-own.ensures)
-    (subst (λ (o : Outcome). used_after c.args.own.now.used o ≤ most_used) (sym c.in_ok-outcome.ensures.outcome)
-    (used_within c.args.book.now.directory c.args.own.now.used c.args.command.now c.requires.quota))
+pub returns-in-Edit-clause-answer : goal.returns-in-Edit-clause-answer
+returns-in-Edit-clause-answer c =
+    subst (λ (command : Command). core_answer c.answer_edit.result ≡ answer_of core_rules (core_book c.args.book.now) c.args.own.now (shown_as command (core_answer c.answer_edit.result)))
+    (sym c.in-Edit.is) (c.answer_edit.ensures.answer c.args.own.now)

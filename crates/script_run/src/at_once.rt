@@ -16,7 +16,7 @@ ghost use Rattle.script_run.specs.Runs.{IsRun};
 ghost use Rattle.script_run.specs.declared.at_once.Finished.{Finished as TheFinished};
 ghost use Rattle.script_run.specs.declared.tasks.Task.{Task as TheTask};
 
-use crate::run::{Run, is_refused_among, no_answers, write_transcript};
+use crate::run::{Run, no_answers};
 use crate::tasks::{Task, tasks_of};
 use command_set::Command;
 use directory::{Directory, recall_entries};
@@ -57,7 +57,7 @@ fn run_task<R: Wait, G: Gate>(
         session,
         mut pass,
     } = task;
-    let answers = session.run(rt, alloc, table, &mut pass, gate);
+    let answers = session.run(rt, alloc, table, &mut pass, 1, gate);
     Finished {
         number,
         pass,
@@ -189,12 +189,5 @@ pub fn run_at_once<R: Threads + Wait + Sync, G: Gate + Sync>(
     let answers = run_sessions(rt, alloc, &table, &mut pass, script, gate)?;
     let closed = table.close(pass);
     let order = history_order(alloc, &closed.entries)?;
-    let text = write_transcript(alloc, &order, &answers)?;
-    let some_refused = is_refused_among(&answers);
-    Ok(Run {
-        text,
-        order,
-        answers,
-        some_refused,
-    })
+    Run::written(alloc, order, answers)
 }

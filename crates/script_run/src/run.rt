@@ -1,25 +1,32 @@
-//! Runs the commands of a script in the order of its lines, and writes the transcript.
-ghost use Rattle.std.specs.Prelude.{◌≡◌, ◌≤◌, ◌<◌, ◌+◌, ◌++◌, ◌∷◌, [], ◌^◌, All, IfOk, OnOk, ℕ, length, vec_len, map, replicate};
+//! Runs the commands of a script in an order of its sessions, and writes the transcript.
+ghost use Rattle.std.specs.Prelude.{◌≡◌, ◌≤◌, ◌<◌, ◌+◌, ◌++◌, ◌∷◌, [], ◌^◌, All, IfOk, OnOk, ℕ, List, length, vec_len, map, replicate};
 ghost use Rattle.std.specs.List.{list_any};
 ghost use Rattle.transcript.specs.Lines.{text_of};
-ghost use Rattle.transcript.specs.Merge.{lane};
-ghost use Rattle.transcript.specs.Run.{run_of, stepped, answered};
-ghost use Rattle.transcript.specs.Transcript.{answer_lines, session_lines, transcript};
-ghost use Rattle.mged_words.specs.Entries.{HasSession, command_entry, session_of};
+ghost use Rattle.transcript.specs.Merge.{IsMerge, lane};
+ghost use Rattle.transcript.specs.Run.{State};
+ghost use Rattle.transcript.specs.Transcript.{answer_lines, session_lines, sessions as eight_sessions, transcript};
+ghost use Rattle.command_set.specs.declared.command.Command.{Command as TheCommand};
+ghost use Rattle.directory.specs.Listing.{Listing};
+ghost use Rattle.mged_words.specs.Entries.{HasSession, command_entry};
 ghost use Rattle.mged_words.specs.Readable.{IsReadable};
-ghost use Rattle.script_run.specs.Answers.{core_answers, core_state, marked_entry, is_refused, all_session_lines};
-ghost use Rattle.script_run.specs.Runs.{IsLineRun, AreCurrent};
+ghost use Rattle.script_run.specs.Answers.{core_answers, core_state, is_refused, all_session_lines, left_at, left_of, lists_of, owns_of};
+ghost use Rattle.script_run.specs.Runs.{IsOfEight, IsOrderedRun};
+ghost use Rattle.script_run.specs.Steps.{HasAnswered, HaveAnswered, IsReady};
+ghost use Rattle.script_run.specs.declared.run.Lane.{Lane as TheLane};
 ghost use Rattle.session_run.specs.declared.answer.Book.{Book as TheBook};
+ghost use Rattle.session_run.specs.declared.answer.Own.{Own as TheOwn};
 ghost use Rattle.session_run.specs.Answers.{core_answer};
-ghost use Rattle.session_run.specs.Replies.{core_rules, most_used};
+ghost use Rattle.session_run.specs.Replies.{nothing_used};
 
-use command_set::RefusalText;
+use crate::tasks::session_commands;
+use command_set::{Command, RefusalText};
 use directory::{Directory, recall_entries};
 use item_list::Items;
 use memory_core::Memory;
 use mged_words::ScriptCommand;
 use session_run::{Answer, Book, Keep, Own, answer_command};
 use std::alloc::Global;
+use std::sync::Arc;
 use std::vec::Vec;
 use transcript::{push_accepted, push_order, push_refused};
 
@@ -33,89 +40,118 @@ pub struct Run {
     pub some_refused: bool,
 }
 
-/// Puts an answer at the end of a session's list.
-fn keep_answer(answers: &mut Vec<Items<Answer>>, session: u8, answer: Answer) -> Result<(), Memory>
-    requires session { (1 ≤ session) × (session ≤ 8) }
-    requires eight { vec_len answers.old ≡ 8 }
-    ensures eight { vec_len answers.new ≡ 8 }
-    ensures kept { OnOk result ((k : ℕ) → core_answers answers.new.items k ≡ core_answers answers.old.items k ++ lane (record { session = session; item = core_answer answer } ∷ []) k) }
-{
-    answers[usize::from(session - 1)].push(answer)?;
-    Ok(())
+/// One session of a run on one thread: its commands, what it has of its own, the scenes that it keeps, and the answers of
+/// its first commands.
+#[derive(Drop)]
+pub struct Lane {
+    pub commands: Vec<Arc<Command>>,
+    pub own: Own,
+    pub keep: Keep,
+    pub answers: Items<Answer>,
 }
 
-/// Answers the next command. `owns` has what each session has of its own, and `keeps` the scene that it keeps.
-fn run_command(
+impl Lane {
+    /// Answers the session's next command.
+    fn next(&mut self, alloc: Global, book: &mut Book) -> Result<(), Memory>
+        requires some { 0 < length (left_of self.old) }
+        requires small { book.old.version + 1 < 2 ^ 32 }
+        requires ready { IsReady book.old self.old }
+        ensures answered { OnOk result (HasAnswered book.old book.new self.old self.new) }
+        ensures ready { IsReady book.new self.new }
+        ensures others { (other : TheLane) → IsReady book.old other → IsReady book.new other }
+        ensures small { book.new.version ≤ book.old.version + 1 }
+    {
+        let next = self.answers.items().len();
+        let command = &self.commands[next];
+        let answer = answer_command(alloc, book, &mut self.own, &mut self.keep, command);
+        self.answers.push(answer)?;
+        Ok(())
+    }
+}
+
+/// Answers the next command of a session.
+fn answer_next(
     alloc: Global,
     book: &mut Book,
-    owns: &mut [Own],
-    keeps: &mut [Keep],
-    answers: &mut Vec<Items<Answer>>,
-    next: &ScriptCommand,
+    lanes: &mut Vec<Lane>,
+    session: u8,
 ) -> Result<(), Memory>
-    requires session { HasSession (command_entry next.now) }
-    requires numbers { length owns.old ≡ 8 }
-    requires quota { All (λ own. own.used ≤ most_used) owns.old }
-    requires eight { vec_len answers.old ≡ 8 }
+    requires session { IsOfEight session }
+    requires eight { vec_len lanes.old ≡ 8 }
+    requires some { 0 < length (left_at lanes.old.items session) }
     requires small { book.old.version + 1 < 2 ^ 32 }
-    requires keeps { length keeps.old ≡ 8 }
-    requires current { AreCurrent keeps.old book.old }
-    ensures numbers { length owns.new ≡ 8 }
-    ensures quota { All (λ own. own.used ≤ most_used) owns.new }
-    ensures keeps { length keeps.new ≡ 8 }
-    ensures current { AreCurrent keeps.new book.new }
-    ensures eight { vec_len answers.new ≡ 8 }
+    requires ready { All (IsReady book.old) lanes.old.items }
+    ensures eight { vec_len lanes.new ≡ 8 }
+    ensures ready { All (IsReady book.new) lanes.new.items }
     ensures small { book.new.version ≤ book.old.version + 1 }
-    ensures state { OnOk result (core_state book.new owns.new ≡ stepped core_rules (core_state book.old owns.old) (marked_entry (command_entry next.now))) }
-    ensures kept { OnOk result ((k : ℕ) → core_answers answers.new.items k ≡ core_answers answers.old.items k ++ lane (answered core_rules (core_state book.old owns.old) (marked_entry (command_entry next.now)) ∷ []) k) }
+    ensures answered { OnOk result ((start : State Listing TheOwn) (script : ℕ → List TheCommand) (order : List ℕ) → HaveAnswered start script order book.old lanes.old.items → HaveAnswered start script (order ++ session ∷ []) book.new lanes.new.items) }
 {
-    let place = usize::from(next.session - 1);
-    let answer = answer_command(
-        alloc,
-        book,
-        &mut owns[place],
-        &mut keeps[place],
-        &next.command,
-    )?;
-    keep_answer(answers, next.session, answer)
+    lanes[usize::from(session - 1)].next(alloc, book)
 }
 
-/// Answers the commands in the order of the lines.
-fn run_commands(
+/// Answers the commands of all sessions, in this order of the sessions.
+fn answer_all(
     alloc: Global,
     book: &mut Book,
-    owns: &mut [Own],
-    keeps: &mut [Keep],
-    answers: &mut Vec<Items<Answer>>,
-    script: &[ScriptCommand],
+    lanes: &mut Vec<Lane>,
+    order: &[u8],
 ) -> Result<(), Memory>
-    requires sessions { All HasSession (map command_entry script.now) }
-    requires few { length script.now + 1 < 2 ^ 32 }
-    requires numbers { length owns.old ≡ 8 }
-    requires quota { All (λ own. own.used ≤ most_used) owns.old }
-    requires eight { vec_len answers.old ≡ 8 }
+    requires sessions { All IsOfEight order.now }
+    requires few { length order.now + 1 < 2 ^ 32 }
+    requires eight { vec_len lanes.old ≡ 8 }
+    requires merge { IsMerge order.now (left_at lanes.old.items) }
     requires fresh { book.old.version ≡ 0 }
-    requires keeps { length keeps.old ≡ 8 }
-    requires current { AreCurrent keeps.old book.old }
-    ensures eight { vec_len answers.new ≡ 8 }
-    ensures answered { OnOk result ((k : ℕ) → core_answers answers.new.items k ≡ core_answers answers.old.items k ++ lane (run_of core_rules (core_state book.old owns.old) (map marked_entry (map command_entry script.now))) k) }
+    requires ready { All (IsReady book.old) lanes.old.items }
+    requires unanswered { (k : ℕ) → core_answers (lists_of lanes.old.items) k ≡ [] }
+    ensures eight { vec_len lanes.new ≡ 8 }
+    ensures answered { OnOk result (HaveAnswered (core_state book.old (owns_of lanes.old.items)) (left_at lanes.old.items) order.now book.new lanes.new.items) }
 {
-    for next in script {
-        run_command(alloc, book, owns, keeps, answers, next)?;
+    for session in order {
+        answer_next(alloc, book, lanes, *session)?;
     }
     Ok(())
 }
 
-/// No session keeps a scene yet.
-fn no_keeps(alloc: Global) -> Result<Vec<Keep>, Memory>
-    ensures eight { IfOk result (λ keeps. vec_len keeps ≡ 8) }
-    ensures current { IfOk result (λ keeps. (book : TheBook) → AreCurrent keeps.items book) }
+/// The session of this number before its first command, with its commands of the script.
+fn lane_of(alloc: Global, script: &[ScriptCommand], number: u8) -> Result<Lane, Memory>
+    ensures left { IfOk result (λ one. left_of one ≡ lane (map command_entry script.now) number) }
+    ensures own { IfOk result (λ one. one.own ≡ nothing_used) }
+    ensures answers { IfOk result (λ one. one.answers ≡ []) }
+    ensures ready { IfOk result (λ one. (book : TheBook) → IsReady book one) }
 {
-    let mut keeps = Vec::new(alloc);
-    for _i in 0..8usize {
-        keeps.push(Keep::new(alloc))?;
+    let commands = session_commands(alloc, script, number)?;
+    Ok(Lane {
+        commands,
+        own: Own { used: 0 },
+        keep: Keep::new(alloc),
+        answers: Items::new(alloc),
+    })
+}
+
+/// The eight sessions before their first commands.
+fn lanes_of(alloc: Global, script: &[ScriptCommand]) -> Result<Vec<Lane>, Memory>
+    ensures eight { IfOk result (λ lanes. vec_len lanes ≡ 8) }
+    ensures left { IfOk result (λ lanes. map left_of lanes.items ≡ map (lane (map command_entry script.now)) eight_sessions) }
+    ensures owns { IfOk result (λ lanes. owns_of lanes.items ≡ replicate 8 nothing_used) }
+    ensures answers { IfOk result (λ lanes. lists_of lanes.items ≡ replicate 8 []) }
+    ensures ready { IfOk result (λ lanes. (book : TheBook) → All (IsReady book) lanes.items) }
+{
+    let mut lanes = Vec::new(alloc);
+    for i in 0..8usize {
+        lanes.push(lane_of(alloc, script, i as u8 + 1)?)?;
     }
-    Ok(keeps)
+    Ok(lanes)
+}
+
+/// The answers of each session.
+fn answers_of(alloc: Global, lanes: Vec<Lane>) -> Result<Vec<Items<Answer>>, Memory>
+    ensures { IfOk result (λ lists. lists.items ≡ lists_of lanes.items) }
+{
+    let mut lists = Vec::new(alloc);
+    for one in lanes {
+        lists.push(one.answers)?;
+    }
+    Ok(lists)
 }
 
 pub fn no_answers(alloc: Global) -> Result<Vec<Items<Answer>>, Memory>
@@ -128,24 +164,13 @@ pub fn no_answers(alloc: Global) -> Result<Vec<Items<Answer>>, Memory>
     Ok(answers)
 }
 
-/// The sessions of the commands, in order.
-fn line_order(alloc: Global, script: &[ScriptCommand]) -> Result<Vec<u8>, Memory>
-    ensures { IfOk result (λ order. order.items ≡ map session_of (map command_entry script.now)) }
-{
-    let mut order = Vec::new(alloc);
-    for next in script {
-        order.push(next.session)?;
-    }
-    Ok(order)
-}
-
 fn is_refused_in(answers: &[Answer]) -> bool
     ensures { result ≡ list_any is_refused answers.now }
 {
     answers.iter().any(|answer| answer.outcome.is_err())
 }
 
-pub fn is_refused_among(lists: &[Items<Answer>]) -> bool
+fn is_refused_among(lists: &[Items<Answer>]) -> bool
     ensures { result ≡ list_any (list_any is_refused) lists.now }
 {
     lists.iter().any(|list| is_refused_in(list.items()))
@@ -193,11 +218,7 @@ fn push_sessions(text: &mut Vec<u8>, lists: &[Items<Answer>]) -> Result<(), Memo
 }
 
 /// The transcript of an order and of each session's answers.
-pub fn write_transcript(
-    alloc: Global,
-    order: &[u8],
-    lists: &[Items<Answer>],
-) -> Result<Vec<u8>, Memory>
+fn write_transcript(alloc: Global, order: &[u8], lists: &[Items<Answer>]) -> Result<Vec<u8>, Memory>
     requires order { All (λ digit. digit ≤ 8) order.now }
     requires eight { length lists.now ≡ 8 }
     requires few { All (λ list. length list + 1 < 2 ^ 32) lists.now }
@@ -209,16 +230,45 @@ pub fn write_transcript(
     Ok(text)
 }
 
-/// Runs a script, in the order of its lines, from a directory.
-pub fn run_script(
+impl Run {
+    /// The run of this order and of each session's answers, with its transcript.
+    pub(crate) fn written(
+        alloc: Global,
+        order: Vec<u8>,
+        answers: Vec<Items<Answer>>,
+    ) -> Result<Run, Memory>
+        requires order { All (λ digit. digit ≤ 8) order.items }
+        requires eight { vec_len answers ≡ 8 }
+        requires few { All (λ list. length list + 1 < 2 ^ 32) answers.items }
+        ensures text { IfOk result (λ r. r.text.items ≡ transcript order.items (core_answers answers.items)) }
+        ensures order { IfOk result (λ r. r.order.items ≡ order.items) }
+        ensures answers { IfOk result (λ r. r.answers.items ≡ answers.items) }
+        ensures eight { IfOk result (λ r. vec_len r.answers ≡ 8) }
+        ensures refused { IfOk result (λ r. r.some_refused ≡ list_any (list_any is_refused) answers.items) }
+    {
+        let text = write_transcript(alloc, &order, &answers)?;
+        let some_refused = is_refused_among(&answers);
+        Ok(Run {
+            text,
+            order,
+            answers,
+            some_refused,
+        })
+    }
+}
+
+/// Runs a script on one thread, in this order of its sessions, from a directory.
+pub fn run_in_order(
     alloc: Global,
     directory: Directory,
     script: &[ScriptCommand],
+    order: Vec<u8>,
 ) -> Result<Run, Memory>
     requires sessions { All HasSession (map command_entry script.now) }
     requires readable { All IsReadable (map command_entry script.now) }
     requires few { length script.now + 1 < 2 ^ 32 }
-    ensures run { IfOk result (λ r. IsLineRun directory (map command_entry script.now) r.text.items r.order.items r.answers.items r.some_refused) }
+    requires merge { IsMerge order.items (lane (map command_entry script.now)) }
+    ensures run { IfOk result (λ r. IsOrderedRun directory (map command_entry script.now) order.items r.text.items r.order.items r.answers.items r.some_refused) }
     ensures eight { IfOk result (λ r. vec_len r.answers ≡ 8) }
 {
     recall_entries(&directory);
@@ -226,24 +276,8 @@ pub fn run_script(
         directory,
         version: 0,
     };
-    let mut owns = [Own { used: 0 }; 8];
-    let mut keeps = no_keeps(alloc)?;
-    let mut answers = no_answers(alloc)?;
-    run_commands(
-        alloc,
-        &mut book,
-        &mut owns,
-        keeps.as_mut_slice(),
-        &mut answers,
-        script,
-    )?;
-    let order = line_order(alloc, script)?;
-    let text = write_transcript(alloc, &order, &answers)?;
-    let some_refused = is_refused_among(&answers);
-    Ok(Run {
-        text,
-        order,
-        answers,
-        some_refused,
-    })
+    let mut lanes = lanes_of(alloc, script)?;
+    answer_all(alloc, &mut book, &mut lanes, &order)?;
+    let answers = answers_of(alloc, lanes)?;
+    Run::written(alloc, order, answers)
 }

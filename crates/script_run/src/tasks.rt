@@ -41,7 +41,7 @@ fn take_command(
 }
 
 /// The commands of a session.
-fn session_commands(
+pub fn session_commands(
     alloc: Global,
     script: &[ScriptCommand],
     number: u8,

@@ -1,9 +1,7 @@
-use Rattle.std.proofs.Common.{◌≡◌, ◌≤◌, ◌∙◌, [], ℕ, List, All, get_or, map, length, ap, ap₂, sym, subst, arith}
+use Rattle.std.proofs.Common.{◌≡◌, ◌≤◌, ◌∙◌, [], ℕ, List, All, map, length, ap, sym, subst, arith}
 use Rattle.std.proofs.lemmas.List.{length-map, get_or_default}
 use Rattle.std.proofs.lemmas.List.Elements.{All-weaker}
-use Rattle.std.specs.List.{list_any}
 use Rattle.transcript.specs.Merge.{Entry, order_of}
-use Rattle.transcript.specs.Transcript.{transcript}
 use Rattle.version_table.specs.Entries.{noted}
 use Rattle.version_table.specs.Passes.{PassView}
 use Rattle.version_table.specs.Places.{places_from}
@@ -15,7 +13,6 @@ use Rattle.directory.specs.Listing.{Listing}
 use Rattle.mged_words.specs.Entries.{command_entry}
 use Rattle.session_run.specs.declared.answer.Answer.{Answer}
 use Rattle.session_run.proofs.StartLaws.{named_plain}
-use Rattle.script_run.specs.Answers.{core_answers, is_refused}
 use Rattle.script_run.specs.AtOnce.{AreAllRun}
 use Rattle.script_run.proofs.AtOnceLaws.{all_calls, at_once, few_at_once, history_sessions}
 use Rattle.script_run.proofs.at_once.run_at_once.Goals as goal
@@ -33,28 +30,27 @@ close-closed-requires-clause-all g c κs =
     (all_calls c.in_ok-table.table.told.state c.in_ok-table.table.id script c.run_sessions.new.pass c.in_ok-answers.answers.items c.requires.sessions all).1
     ∙ length-map c.args.script.now command_entry ∙ sym (ap (λ (t : Told Listing). t.calls) c.in_ok-table.ensures.table)
 
-pub write_transcript-requires-clause-order : goal.write_transcript-requires-clause-order
-write_transcript-requires-clause-order g c =
+pub written-requires-clause-order : goal.written-requires-clause-order
+written-requires-clause-order g c =
     let script : List (Entry Command) = map command_entry c.args.script.now in
     let d : Listing = c.in_ok-table.table.told.state in
     let pass : PassView Command = c.run_sessions.new.pass in
     let lists : List (List Answer) = c.in_ok-answers.answers.items in
     let whole : pass.own ≡ places_from 0 (length pass.seen) = c.close-closed.ensures.own in
     let sessions = history_sessions d c.in_ok-table.table.id script pass lists c.requires.sessions c.in_ok-answers.ensures.run whole in
-    let is : c.deref-2.result.now ≡ order_of (entries_of pass.seen) =
-    c.deref-2.ensures.value ∙ c.in_ok-order.ensures ∙ ap (λ (es : List (Noted Command)). order_of (entries_of es)) (ap noted c.deref.ensures.value ∙ c.close-closed.ensures.entries) in
+    let is : c.in_ok-order.order.items ≡ order_of (entries_of pass.seen) =
+    c.in_ok-order.ensures ∙ ap (λ (es : List (Noted Command)). order_of (entries_of es)) (ap noted c.deref.ensures.value ∙ c.close-closed.ensures.entries) in
     subst (All (λ (n : ℕ). n ≤ 8)) (sym is) (All-weaker (λ (n : ℕ). (1 ≤ n) × (n ≤ 8)) (λ (n : ℕ). n ≤ 8) (λ n h. h.1) (order_of (entries_of pass.seen)) sessions)
 
-pub write_transcript-requires-clause-few : goal.write_transcript-requires-clause-few
-write_transcript-requires-clause-few g c = λ k e lt.
+pub written-requires-clause-few : goal.written-requires-clause-few
+written-requires-clause-few g c = λ k e lt.
     let script : List (Entry Command) = map command_entry c.args.script.now in
     let d : Listing = c.in_ok-table.table.told.state in
     let pass : PassView Command = c.run_sessions.new.pass in
     let lists : List (List Answer) = c.in_ok-answers.answers.items in
     let whole : pass.own ≡ places_from 0 (length pass.seen) = c.close-closed.ensures.own in
     let few = few_at_once d c.in_ok-table.table.id script pass lists c.requires.sessions c.in_ok-answers.ensures.run whole k in
-    let here : length (get_or c.deref-3.result.now k []) ≡ length (get_or lists k []) = ap (λ (ls : List (List Answer)). length (get_or ls k [])) c.deref-3.ensures.value in
-    omega (arith, few, here, ap length (get_or_default c.deref-3.result.now k e [] lt), length-map c.args.script.now command_entry, c.requires.few)
+    omega (arith, few, ap length (get_or_default lists k e [] lt), length-map c.args.script.now command_entry, c.requires.few)
 
 pub returns-clause-run : goal.returns-clause-run
 returns-clause-run g c =
@@ -67,7 +63,6 @@ returns-clause-run g c =
     let all : AreAllRun d c.in_ok-table.table.id script pass lists = subst (λ (o : Listing). AreAllRun o c.in_ok-table.table.id script pass lists) opening c.in_ok-answers.ensures.run in
     let order_is : c.in_ok-order.order.items ≡ order_of (entries_of pass.seen) =
     c.in_ok-order.ensures ∙ ap (λ (es : List (Noted Command)). order_of (entries_of es)) (ap noted c.deref.ensures.value ∙ c.close-closed.ensures.entries) in
-    at_once d c.in_ok-table.table.id script pass lists c.requires.sessions all whole c.in_ok-order.order.items c.in_ok-text.text.items c.is_refused_among-some_refused.result
+    at_once d c.in_ok-table.table.id script pass lists c.requires.sessions all whole c.written.result c.in_ok-order.order.items
     (named_plain d.objects c.recall_entries.ensures) c.requires.readable (omega (arith, c.requires.few, length-map c.args.script.now command_entry)) order_is
-    (c.in_ok-text.ensures ∙ ap₂ (λ (o : List ℕ) (l : List (List Answer)). transcript o (core_answers l)) c.deref-2.ensures.value c.deref-3.ensures.value)
-    (ap length (sym c.deref-4.ensures.value) ∙ c.deref-4.ensures.len ∙ c.in_ok-answers.ensures.eight) (c.is_refused_among-some_refused.ensures ∙ ap (list_any (list_any is_refused)) c.deref-4.ensures.value)
+    (omega (arith, c.in_ok-answers.answers.ok.0, c.in_ok-answers.ensures.eight)) c.written.ensures.text c.written.ensures.order c.written.ensures.answers c.written.ensures.refused

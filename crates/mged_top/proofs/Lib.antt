@@ -1,4 +1,5 @@
 pub mod LoadLaws
+pub mod OrderLaws
 pub mod ReadLaws
 pub mod ShelfLaws
 pub mod PutLaws

@@ -38,7 +38,7 @@ prefix_loaded : (name : Name) (full : Option (List ℕ)) → loaded_from name (o
 prefix_loaded name None = refl
 prefix_loaded name (Some text) = prefix_by (nat_le (length text) 16777216) text refl
 
-one_file : (name text : List ℕ) → bytes_in (record { name = name; bytes = text } ∷ []) name ≡ Some text
+pub one_file : (name text : List ℕ) → bytes_in (record { name = name; bytes = text } ∷ []) name ≡ Some text
 one_file name text = ap (λ (t : Bool). option_map (λ (file : File). file.bytes) (cond t (Some (record { name = name; bytes = text })) None)) (same_name_equiv.refl name)
 
 -- what was found of a file of that name, and what comes of it

@@ -12,7 +12,7 @@ use Rattle.transcript.specs.Run.{file_in, files_of}
 use Rattle.session_run.specs.Answers.{core_answer}
 use Rattle.session_run.specs.Replies.{shown}
 use Rattle.session_run.specs.declared.answer.Answer.{Answer}
-use Rattle.script_run.proofs.RunLaws.{same_past}
+use Rattle.script_run.proofs.LaneLaws.{same_past}
 use Rattle.mged_top.specs.Answers.{core_answers}
 use Rattle.mged_top.specs.Outside.{HasGrown, AreCutShort}
 use Rattle.mged_top.specs.Stages.{ArePut, ArePutBy, files_left, left_at, files_among}

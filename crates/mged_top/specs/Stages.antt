@@ -1,5 +1,5 @@
 -- What each stage of a call gives to the next one, in the words of the code.
-use Rattle.std.specs.Prelude.{◌≡◌, ◌≤◌, ◌<◌, ◌⊎◌, ℕ, Bool, true, false, zero, suc, List, [], ◌++◌, Option, IfSome, Some, None, Result, Ok, Err, All, drop, get_or, length, map}
+use Rattle.std.specs.Prelude.{◌≡◌, ◌<◌, ◌⊎◌, ℕ, Bool, true, false, zero, suc, List, [], ◌++◌, Option, IfSome, Some, None, Result, Ok, Err, drop, get_or, length, map, is_some, take}
 use Rattle.std.specs.Io.KnownBytes.{Appends, Consumes, IsAtEnd, Keeps}
 use Rattle.option_words.specs.declared.options.Model.{Model}
 use Rattle.outside_core.specs.Faults.{Rose}
@@ -7,6 +7,7 @@ use Rattle.outside_core.specs.Told.{Stays}
 use Rattle.outside_core.specs.Transfers.{IsCutShort}
 use Rattle.outside_core.specs.declared.traits.File.{File}
 use Rattle.outside_core.specs.declared.traits.ShelfFault.{ShelfFault}
+use Rattle.name_core.specs.declared.name.Name.{Name}
 use Rattle.transcript.specs.Merge.{Entry, lane, merged}
 use Rattle.transcript.specs.Run.{files_of}
 use Rattle.command_set.specs.declared.command.Command.{Command}
@@ -16,19 +17,24 @@ use Rattle.mged_words.specs.Entries.{command_entry}
 use Rattle.mged_words.specs.declared.command.ScriptCommand.{ScriptCommand}
 use Rattle.session_run.specs.Answers.{core_answer}
 use Rattle.session_run.specs.declared.answer.Answer.{Answer}
-use Rattle.mged_top.specs.Answers.{core_answers}
-pub use Rattle.script_run.specs.Runs.{IsLineRun, files_among}
-use Rattle.mged_top.specs.Courses.{loaded, model_in, own_script}
+use Rattle.script_run.specs.Orders.{order_for}
+pub use Rattle.script_run.specs.Runs.{IsRun, files_among}
+use Rattle.mged_top.specs.Courses.{loaded, model_in, ordered, own_script, script_run}
+use Rattle.mged_top.specs.Outcomes.{IsSourceRead}
 use Rattle.mged_top.specs.Outside.{Outside, HasGrown, AreCutShort}
 use Rattle.mged_top.specs.Calls.{is_of_file}
 use Rattle.mged_top.specs.declared.load.LoadStop.{LoadStop}
 use Rattle.mged_top.specs.declared.load.LoadStop.TheVariants as load
 use Rattle.mged_top.specs.declared.load.Start.{Start}
+use Rattle.mged_top.specs.declared.order.OrderStop.{OrderStop}
+use Rattle.mged_top.specs.declared.order.OrderStop.TheVariants as order
 use Rattle.mged_top.specs.declared.read.ScriptStop.{ScriptStop}
 use Rattle.mged_top.specs.declared.read.ScriptStop.TheVariants as script
 use Rattle.mged_top.specs.declared.status.LoadFault.{LoadFault}
+use Rattle.mged_top.specs.declared.status.ReplayFault.{ReplayFault}
+use Rattle.mged_top.specs.declared.status.ReplayFault.TheVariants as replay
 use Rattle.mged_top.specs.declared.status.Status.{Status}
-use Rattle.mged_top.specs.declared.status.Status.TheVariants.{Done, SomeRefused, Usage, LoadRefused, ScriptRefused, ReadFault, WriteFault, Memory}
+use Rattle.mged_top.specs.declared.status.Status.TheVariants.{Done, SomeRefused, Usage, LoadRefused, ScriptRefused, ReadFault, WriteFault, Memory, ReplayRefused}
 use Rattle.mged_words.specs.declared.script.ScriptFlaw.{ScriptFlaw}
 
 -- the statuses of stages that ended the call
@@ -41,6 +47,11 @@ abbrev pub script_status : ScriptStop → Status
 script_status (script.Refused flaw) = ScriptRefused flaw
 script_status script.Failed = ReadFault
 script_status ScriptStop.Memory = Memory
+
+abbrev pub order_status : OrderStop → Status
+order_status (order.Refused fault) = ReplayRefused fault
+order_status order.Failed = ReadFault
+order_status OrderStop.Memory = Memory
 
 abbrev pub run_status : Bool → Status
 run_status false = Done
@@ -102,6 +113,34 @@ abbrev pub IsReadBy : Result (List ScriptCommand) ScriptStop → Option (List �
 IsReadBy result None left left' = IsRead result left left'
 IsReadBy result (Some own) left left' = IsTextRead result own × Keeps left left'
 
+-- What a call has read before its run: files, those of the shelf where it tells them, from which the directory comes, and a
+-- script that was read to its end, or the model's own, which reads as these commands.
+pub record HasRead (model : Model) (told : Option (List File)) (left left' : Option (List ℕ)) (start : Listing) (commands : List (Entry Command)) : Type 0 where
+  pub files : List File
+  pub files_told : IfSome told (λ known. files ≡ known)
+  pub script : List ℕ
+  pub script_told : IfSome left (λ known. script ≡ known)
+  pub loads : loaded model files ≡ Ok start
+  pub reads : script_of (script_run (own_script model) script) ≡ Ok commands
+  pub source : IsSourceRead (is_some (own_script model)) left left' script
+
+-- files that are those of the shelf, where it tells them, among which the file of that name gives the commands this order
+pub record CanOrder (told : Option (List File)) (name : Name) (commands : List (Entry Command)) (due : Result (Option (List ℕ)) ReplayFault) : Type 0 where
+  pub later : List File
+  pub as_told : IfSome told (λ known. later ≡ known)
+  pub gives : ordered (Some name) later commands ≡ due
+
+abbrev pub IsOrderStop : OrderStop → Option (List File) → Name → List (Entry Command) → Type 0
+IsOrderStop (order.Refused fault) told name commands = CanOrder told name commands (Err fault)
+IsOrderStop order.Failed told name commands = Unit {0}
+IsOrderStop OrderStop.Memory told name commands = Unit {0}
+
+-- why the first bytes of a text give no order
+abbrev pub IsTextStop : OrderStop → List ℕ → List (Entry Command) → Type 0
+IsTextStop (order.Refused fault) text commands = (fault ≡ replay.Order) × ((whole : List ℕ) → text ≡ take 131078 whole → order_for whole (lane commands) ≡ None)
+IsTextStop order.Failed text commands = ⊥
+IsTextStop OrderStop.Memory text commands = Unit {0}
+
 -- the answers that are left, where so many of each session's are taken
 abbrev pub left_at : List ℕ → List (List Answer) → ℕ → List Answer
 left_at taken lists zero = []
@@ -153,3 +192,4 @@ Writes (ScriptRefused flaw) bytes files some_refused before after = ⊥
 Writes ReadFault bytes files some_refused before after = ⊥
 Writes WriteFault bytes files some_refused before after = IsTextShort bytes before after ⊎ (AreFilesShort bytes files before after × Rose before.calls after.calls)
 Writes Memory bytes files some_refused before after = AreFilesShort bytes files before after × (after.calls ≡ before.calls)
+Writes (ReplayRefused fault) bytes files some_refused before after = ⊥

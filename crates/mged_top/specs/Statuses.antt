@@ -6,8 +6,10 @@ use Rattle.asc_form.specs.declared.fault.AscKind.{AscKind}
 use Rattle.asc_form.specs.declared.fault.AscKind.TheVariants as kinds
 use Rattle.mged_top.specs.declared.status.LoadFault.{LoadFault}
 use Rattle.mged_top.specs.declared.status.LoadFault.TheVariants as load
+use Rattle.mged_top.specs.declared.status.ReplayFault.{ReplayFault}
+use Rattle.mged_top.specs.declared.status.ReplayFault.TheVariants as replay
 use Rattle.mged_top.specs.declared.status.Status.{Status}
-use Rattle.mged_top.specs.declared.status.Status.TheVariants.{Done, SomeRefused, Usage, LoadRefused, ScriptRefused, ReadFault, WriteFault, Memory}
+use Rattle.mged_top.specs.declared.status.Status.TheVariants.{Done, SomeRefused, Usage, LoadRefused, ScriptRefused, ReadFault, WriteFault, Memory, ReplayRefused}
 
 -- the number with which the program ends
 abbrev pub exit_number : Status → ℕ
@@ -19,6 +21,7 @@ exit_number (ScriptRefused flaw) = 4
 exit_number ReadFault = 5
 exit_number WriteFault = 6
 exit_number Memory = 7
+exit_number (ReplayRefused fault) = 8
 
 abbrev pub flaw_text : ScriptFlaw → List ℕ
 flaw_text Size = codes "size"
@@ -44,6 +47,10 @@ load_text (load.NoFile name) = codes "missing " ++ name
 load_text load.Size = codes "size"
 load_text (load.At line kind) = codes "line " ++ (decimal line ++ kind_text kind)
 
+abbrev pub replay_text : ReplayFault → List ℕ
+replay_text (replay.NoFile name) = codes "missing " ++ name
+replay_text replay.Order = codes "order"
+
 -- the line of a status on the error stream; where a transcript is written there is none
 abbrev pub status_line : Status → List ℕ
 status_line Done = []
@@ -54,3 +61,4 @@ status_line (ScriptRefused flaw) = codes "mgedrt: script " ++ flaw_text flaw
 status_line ReadFault = codes "mgedrt: read"
 status_line WriteFault = codes "mgedrt: write"
 status_line Memory = codes "mgedrt: memory"
+status_line (ReplayRefused fault) = codes "mgedrt: replay " ++ replay_text fault

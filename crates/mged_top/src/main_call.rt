@@ -1,18 +1,20 @@
-//! The call that is the program.
-ghost use Rattle.std.specs.Prelude.{◌≡◌, ◌≤◌, All, None, true, map, string_bytes, vec_len};
+//! The call that is the program, and the replay of a run in an order that a file names.
+ghost use Rattle.std.specs.Prelude.{◌≡◌, ◌⊎◌, ◌≤◌, All, None, true, false, map, string_bytes, vec_len};
 ghost use Rattle.mged_top.specs.Calls.{Explains, IsComplete, IsBeforeScript, IsBeforeRun};
-ghost use Rattle.mged_top.specs.Courses.{has_own_script};
+ghost use Rattle.mged_top.specs.Courses.{has_own_script, has_replay};
 ghost use Rattle.mged_top.specs.Outside.{outside};
 ghost use Rattle.mged_top.specs.Stages.{Writes, run_status, files_among};
 
-use crate::load::load;
+use crate::inputs::{Inputs, read_inputs};
+use crate::order::order_of;
 use crate::put::put_files;
-use crate::read::commands_of;
 use crate::status::Status;
 use option_words::{OptionsFault, read_options};
 use outside_core::{Gate, Shelf, ShelfFault, Sink, Source, write_all};
-use script_run::{Run, run_script};
+use script_run::{Run, run_at_once, run_in_order};
 use std::alloc::Global;
+use std::sync::Wait;
+use std::thread::Threads;
 
 /// The status of a run that is written whole.
 fn run_status(some_refused: bool) -> Status
@@ -44,18 +46,66 @@ fn write_run<K: Sink, F: Shelf>(sink: &mut K, shelf: &mut F, run: &Run) -> Statu
     }
 }
 
-/// Reads the words, the model that they ask for and the script, runs its commands in the order of its lines, and writes the
-/// transcript to the sink and the files to the shelf. `words` are those after the program's name: `--load NAME`, `--demo N`
-/// or none. With `--demo N` the model and the script are those that the number makes, and nothing is read from the source.
-/// The first of the words, the load file and the script that is refused ends the call with its status.
-pub fn mged_main<R: AllocGlobal, S: Source, K: Sink, F: Shelf, G: Gate + Sync>(
-    rt: &R,
+/// Reads the words, the model that they ask for, the script and the order that `--replay NAME` asks for, runs the commands one
+/// after the other in this order, and writes the transcript to the sink and the files to the shelf. It waits for nobody, and
+/// always returns. Words without `--replay` are not understood.
+pub fn replay_mged<S: Source, K: Sink, F: Shelf>(
+    alloc: Global,
     words: &Vec<String>,
     source: &mut S,
     sink: &mut K,
     shelf: &mut F,
-    gate: &G,
 ) -> Status
+    ensures explained { has_replay (map string_bytes words.now.items) ≡ true → Explains result (map string_bytes words.now.items)
+        (outside (S.left source.old) (K.held sink.old) (F.files shelf.old) (F.puts shelf.old) (S.faults source.old) (K.faults sink.old) (F.faults shelf.old))
+        (outside (S.left source.new) (K.held sink.new) (F.files shelf.new) (F.puts shelf.new) (S.faults source.new) (K.faults sink.new) (F.faults shelf.new)) }
+    ensures complete { has_replay (map string_bytes words.now.items) ≡ true → IsComplete result (map string_bytes words.now.items)
+        (outside (S.left source.old) (K.held sink.old) (F.files shelf.old) (F.puts shelf.old) (S.faults source.old) (K.faults sink.old) (F.faults shelf.old))
+        (outside (S.left source.new) (K.held sink.new) (F.files shelf.new) (F.puts shelf.new) (S.faults source.new) (K.faults sink.new) (F.faults shelf.new)) }
+    ensures no_replay { has_replay (map string_bytes words.now.items) ≡ false → ((result ≡ Status.Usage) ⊎ (result ≡ Status.Memory)) × (source.new ≡ source.old) × (sink.new ≡ sink.old) × (shelf.new ≡ shelf.old) }
+    ensures unread { IsBeforeScript result → source.new ≡ source.old }
+    ensures demo_unread { has_own_script (map string_bytes words.now.items) ≡ true → source.new ≡ source.old }
+    ensures unasked { result ≡ Status.Usage → shelf.new ≡ shelf.old }
+    ensures unwritten { IsBeforeRun result → sink.new ≡ sink.old }
+{
+    let options = match read_options(alloc, words) {
+        Ok(options) => options,
+        Err(OptionsFault::Usage) => return Status::Usage,
+        Err(OptionsFault::Memory) => return Status::Memory,
+    };
+    let Some(name) = options.replay else {
+        return Status::Usage;
+    };
+    let Inputs {
+        directory,
+        commands,
+    } = match read_inputs(alloc, options.model, source, shelf) {
+        Ok(inputs) => inputs,
+        Err(status) => return status,
+    };
+    let commands = commands.items();
+    let order = match order_of(alloc, shelf, &name, commands) {
+        Ok(order) => order,
+        Err(stop) => return stop.status(),
+    };
+    let Ok(run) = run_in_order(alloc, directory, commands, order) else {
+        return Status::Memory;
+    };
+    write_run(sink, shelf, &run)
+}
+
+/// Reads the words, the model that they ask for and the script, runs its sessions at the same time, and writes the transcript
+/// to the sink and the files to the shelf. `words` are those after the program's name: `--load NAME`, `--demo N` and
+/// `--replay NAME`, or none. With `--demo N` the model and the script are those that the number makes, and nothing is read
+/// from the source. With `--replay NAME` it is the call of `replay_mged`. The first of the words, the load file, the script
+/// and the order file that is refused ends the call with its status.
+pub fn mged_main<
+    R: AllocGlobal + Threads + Wait + Sync,
+    S: Source,
+    K: Sink,
+    F: Shelf,
+    G: Gate + Sync,
+>(rt: &R, words: &Vec<String>, source: &mut S, sink: &mut K, shelf: &mut F, gate: &G) -> Status
     ensures explained { Explains result (map string_bytes words.now.items)
         (outside (S.left source.old) (K.held sink.old) (F.files shelf.old) (F.puts shelf.old) (S.faults source.old) (K.faults sink.old) (F.faults shelf.old))
         (outside (S.left source.new) (K.held sink.new) (F.files shelf.new) (F.puts shelf.new) (S.faults source.new) (K.faults sink.new) (F.faults shelf.new)) }
@@ -73,15 +123,18 @@ pub fn mged_main<R: AllocGlobal, S: Source, K: Sink, F: Shelf, G: Gate + Sync>(
         Err(OptionsFault::Usage) => return Status::Usage,
         Err(OptionsFault::Memory) => return Status::Memory,
     };
-    let start = match load(alloc, shelf, options.model) {
-        Ok(start) => start,
-        Err(stop) => return stop.status(),
+    if options.replay.is_some() {
+        return replay_mged(alloc, words, source, sink, shelf);
+    }
+    let Inputs {
+        directory,
+        commands,
+    } = match read_inputs(alloc, options.model, source, shelf) {
+        Ok(inputs) => inputs,
+        Err(status) => return status,
     };
-    let commands = match commands_of(alloc, source, &start.script) {
-        Ok(commands) => commands,
-        Err(stop) => return stop.status(),
-    };
-    let Ok(run) = run_script(alloc, start.directory, commands.items()) else {
+    let commands = commands.items();
+    let Ok(run) = run_at_once(rt, alloc, directory, commands, gate) else {
         return Status::Memory;
     };
     write_run(sink, shelf, &run)

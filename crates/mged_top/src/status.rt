@@ -1,6 +1,6 @@
 //! How a call of the program ends: its number and its line.
 ghost use Rattle.std.specs.Prelude.{◌≡◌, ◌≤◌, ◌+◌, ◌++◌, codes, decimal, length};
-ghost use Rattle.mged_top.specs.Statuses.{exit_number, flaw_text, kind_text, load_text, status_line};
+ghost use Rattle.mged_top.specs.Statuses.{exit_number, flaw_text, kind_text, load_text, replay_text, status_line};
 
 use asc_form::AscKind;
 use fixed_text::FixedText;
@@ -16,6 +16,16 @@ pub enum LoadFault {
     Size,
     /// The first faulty command of the file begins on this line, counted from 1.
     At { line: u32, kind: AscKind },
+}
+
+/// Why a script is not replayed.
+#[derive(Clone, Copy, Debug, PartialEq, Eq)]
+pub enum ReplayFault {
+    /// There is no file of this name.
+    NoFile(Name),
+    /// The first line of the file is no order that merges the script: `order`, and a blank and a session's digit for each
+    /// of its commands.
+    Order,
 }
 
 /// How a call of the program ended.
@@ -38,6 +48,8 @@ pub enum Status {
     WriteFault,
     /// There was no memory. Nothing is written, or the transcript is held whole and first files are put, not all.
     Memory,
+    /// The order file is refused. The script is read, and nothing is written.
+    ReplayRefused(ReplayFault),
 }
 
 /// The line of a status.
@@ -100,6 +112,20 @@ fn push_load(fault: &LoadFault, out: &mut StatusText)
     }
 }
 
+/// Puts why a script is not replayed at the end.
+fn push_replay(fault: &ReplayFault, out: &mut StatusText)
+    requires { length out.old ≤ 24 }
+    ensures { out.new ≡ out.old ++ replay_text fault.now }
+{
+    match fault {
+        ReplayFault::NoFile(name) => {
+            out.push(b"missing ");
+            out.push(name.bytes());
+        }
+        ReplayFault::Order => out.push(b"order"),
+    }
+}
+
 impl Status {
     /// The number with which the program ends.
     pub fn number(&self) -> u8
@@ -114,6 +140,7 @@ impl Status {
             Status::ReadFault => 5,
             Status::WriteFault => 6,
             Status::Memory => 7,
+            Status::ReplayRefused(_) => 8,
         }
     }
 
@@ -137,6 +164,10 @@ impl Status {
             Status::ReadFault => out.push(b"mgedrt: read"),
             Status::WriteFault => out.push(b"mgedrt: write"),
             Status::Memory => out.push(b"mgedrt: memory"),
+            Status::ReplayRefused(fault) => {
+                out.push(b"mgedrt: replay ");
+                push_replay(fault, out);
+            }
         }
     }
 }

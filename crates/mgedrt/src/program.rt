@@ -11,6 +11,8 @@ use mged_top::{Status, StatusText, mged_main};
 use outside_core::{Failed, Gate, Shelf, Sink, Source, write_all};
 use std::alloc::AllocError;
 use std::io::{Error, ErrorKind};
+use std::sync::Wait;
+use std::thread::Threads;
 
 /// Why there are no words of the command line.
 #[derive(Clone, Copy, Debug)]
@@ -83,7 +85,14 @@ fn wordless(fault: &WordsFault) -> Status
 }
 
 /// Runs the program: makes its call, says the line of the status on the error stream, and gives the number of the status.
-pub(crate) fn run_program<R: AllocGlobal, S: Source, K: Sink, F: Shelf, G: Gate + Sync, E: Sink>(
+pub(crate) fn run_program<
+    R: AllocGlobal + Threads + Wait + Sync,
+    S: Source,
+    K: Sink,
+    F: Shelf,
+    G: Gate + Sync,
+    E: Sink,
+>(
     rt: &R,
     words: &Result<Vec<String>, WordsFault>,
     source: &mut S,
@@ -99,7 +108,7 @@ pub(crate) fn run_program<R: AllocGlobal, S: Source, K: Sink, F: Shelf, G: Gate 
     ensures wordless { OnErr words.now ((source.new ≡ source.old) × (sink.new ≡ sink.old) × (shelf.new ≡ shelf.old)) }
     ensures unread { (result ≡ 2) ⊎ (result ≡ 3) → source.new ≡ source.old }
     ensures unasked { result ≡ 2 → shelf.new ≡ shelf.old }
-    ensures unwritten { (2 ≤ result) × (result ≤ 5) → sink.new ≡ sink.old }
+    ensures unwritten { ((2 ≤ result) × (result ≤ 5)) ⊎ (result ≡ 8) → sink.new ≡ sink.old }
 {
     let status = match words {
         Ok(words) => mged_main(rt, words, source, sink, shelf, gate),

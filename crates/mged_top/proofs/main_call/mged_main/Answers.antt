@@ -1,13 +1,12 @@
-use Rattle.std.proofs.Common.{ℕ, List, Err, map, string_bytes, subst, sym}
+use Rattle.std.proofs.Common.{◌≡◌, ◌∙◌, ℕ, List, Some, None, Err, map, string_bytes, subst, sym, ap}
+use Rattle.option_words.specs.Grammar.{asked_of}
 use Rattle.option_words.specs.Reading.{IsOptions}
 use Rattle.option_words.specs.declared.fault.OptionsFault.{OptionsFault}
 use Rattle.mged_words.specs.Entries.{command_entry}
 use Rattle.mged_words.specs.declared.command.ScriptCommand.{ScriptCommand}
-use Rattle.mged_top.specs.Calls.{Explains}
 use Rattle.mged_top.specs.Outside.{outside}
-use Rattle.mged_top.specs.Stages.{IsLineRun, files_among}
-use Rattle.mged_top.specs.declared.status.Status.{Status}
-use Rattle.mged_top.proofs.CallLaws.{no_options, load_stopped, script_stopped, no_memory, ran, writes_from, explained}
+use Rattle.mged_top.specs.Stages.{IsRun, files_among}
+use Rattle.mged_top.proofs.CallLaws.{no_options, no_memory, ran_free, writes_from, explained, completed, none_asked}
 use Rattle.mged_top.proofs.main_call.mged_main.Goals as goal
 
 pub returns-in-Err-Usage-clause-explained : goal.returns-in-Err-Usage-clause-explained
@@ -32,15 +31,10 @@ returns-in-Err-clause-explained g c =
     let reads = g.S.Source.faults c.args.source.now in
     let writes = g.K.Sink.faults c.args.sink.now in
     let calls = g.F.Shelf.faults c.args.shelf.now in
-    let files' = g.F.Shelf.files c.load.new.shelf in
-    let puts' = g.F.Shelf.puts c.load.new.shelf in
-    let calls' = g.F.Shelf.faults c.load.new.shelf in
-    subst (λ (status : Status). Explains status texts (outside left held files puts reads writes calls) (outside left held files' puts' reads writes calls')) (sym c.status.ensures)
-    (load_stopped c.in-Err.stop texts left held files files' puts puts' reads writes calls calls' c.in-Ok.options.model c.in-Ok.ensures.options c.in-Err.ensures.load
-    c.in-Err.ensures.files_stay c.in-Err.ensures.puts_stay c.in-Err.ensures.steady c.in-Err.ensures.rose)
+    c.in-Err.ensures.stopped texts c.in-Ok.options.replay held writes c.in-Ok.ensures.options
 
-pub returns-in-Err-commands_of-clause-explained : goal.returns-in-Err-commands_of-clause-explained
-returns-in-Err-commands_of-clause-explained g c =
+pub returns-in-Err-clause-complete : goal.returns-in-Err-clause-complete
+returns-in-Err-clause-complete g c =
     let texts : List (List ℕ) = map string_bytes c.args.words.now.items in
     let left = g.S.Source.left c.args.source.now in
     let held = g.K.Sink.held c.args.sink.now in
@@ -49,15 +43,16 @@ returns-in-Err-commands_of-clause-explained g c =
     let reads = g.S.Source.faults c.args.source.now in
     let writes = g.K.Sink.faults c.args.sink.now in
     let calls = g.F.Shelf.faults c.args.shelf.now in
-    let files' = g.F.Shelf.files c.load.new.shelf in
-    let puts' = g.F.Shelf.puts c.load.new.shelf in
-    let calls' = g.F.Shelf.faults c.load.new.shelf in
-    let left' = g.S.Source.left c.commands_of.new.source in
-    let reads' = g.S.Source.faults c.commands_of.new.source in
-    subst (λ (status : Status). Explains status texts (outside left held files puts reads writes calls) (outside left' held files' puts' reads' writes calls')) (sym c.status-in-Err-commands_of.ensures)
-    (script_stopped c.in-Err-commands_of.stop texts left left' held files files' puts puts' reads reads' writes calls calls' c.in-Ok.options.model c.in-Ok-load.start.script c.in-Ok-load.start.directory c.in-Ok.ensures.options (sym c.in-Ok-load.ensures.load.1) c.in-Ok-load.ensures.load.0
-    c.in-Err-commands_of.ensures.read c.in-Err-commands_of.ensures.advances c.in-Ok-load.ensures.files_stay c.in-Ok-load.ensures.puts_stay (c.in-Ok-load.ensures.steady (λ e. absurd cc))
-    c.in-Err-commands_of.ensures.steady c.in-Err-commands_of.ensures.rose)
+    let left' = g.S.Source.left c.read_inputs.new.source in
+    let reads' = g.S.Source.faults c.read_inputs.new.source in
+    let files' = g.F.Shelf.files c.read_inputs.new.shelf in
+    let puts' = g.F.Shelf.puts c.read_inputs.new.shelf in
+    let calls' = g.F.Shelf.faults c.read_inputs.new.shelf in
+    completed c.in-Err.status texts (outside left held files puts reads writes calls) (outside left' held files' puts' reads' writes calls') (c.in-Err.ensures.stopped texts c.in-Ok.options.replay held writes c.in-Ok.ensures.options)
+
+pub returns-in-Err-clause-unasked : goal.returns-in-Err-clause-unasked
+returns-in-Err-clause-unasked g c = λ is.
+    absurd (c.in-Err.ensures.understood is)
 
 pub returns-in_default-clause-explained : goal.returns-in_default-clause-explained
 returns-in_default-clause-explained g c =
@@ -69,13 +64,12 @@ returns-in_default-clause-explained g c =
     let reads = g.S.Source.faults c.args.source.now in
     let writes = g.K.Sink.faults c.args.sink.now in
     let calls = g.F.Shelf.faults c.args.shelf.now in
-    let files' = g.F.Shelf.files c.load.new.shelf in
-    let puts' = g.F.Shelf.puts c.load.new.shelf in
-    let calls' = g.F.Shelf.faults c.load.new.shelf in
-    let left' = g.S.Source.left c.commands_of.new.source in
-    let reads' = g.S.Source.faults c.commands_of.new.source in
-    no_memory texts left left' held files files' puts puts' reads reads' writes calls calls' c.in-Ok-commands_of.ensures.advances
-    c.in-Ok-load.ensures.files_stay c.in-Ok-load.ensures.puts_stay (c.in-Ok-commands_of.ensures.steady (λ e. absurd cc)) (c.in-Ok-load.ensures.steady (λ e. absurd cc))
+    let left' = g.S.Source.left c.read_inputs.new.source in
+    let reads' = g.S.Source.faults c.read_inputs.new.source in
+    let files' = g.F.Shelf.files c.read_inputs.new.shelf in
+    let puts' = g.F.Shelf.puts c.read_inputs.new.shelf in
+    let calls' = g.F.Shelf.faults c.read_inputs.new.shelf in
+    no_memory texts left left' held files files' puts puts' reads reads' writes calls calls' c.in-Ok-read_inputs.ensures.advances c.in-Ok-read_inputs.ensures.files_stay c.in-Ok-read_inputs.ensures.puts_stay c.in-Ok-read_inputs.ensures.reads c.in-Ok-read_inputs.ensures.calls
 
 pub returns-clause-explained : goal.returns-clause-explained
 returns-clause-explained g c =
@@ -87,24 +81,25 @@ returns-clause-explained g c =
     let reads = g.S.Source.faults c.args.source.now in
     let writes = g.K.Sink.faults c.args.sink.now in
     let calls = g.F.Shelf.faults c.args.shelf.now in
-    let files' = g.F.Shelf.files c.load.new.shelf in
-    let puts' = g.F.Shelf.puts c.load.new.shelf in
-    let calls' = g.F.Shelf.faults c.load.new.shelf in
-    let left' = g.S.Source.left c.commands_of.new.source in
-    let reads' = g.S.Source.faults c.commands_of.new.source in
+    let left' = g.S.Source.left c.read_inputs.new.source in
+    let reads' = g.S.Source.faults c.read_inputs.new.source in
+    let files' = g.F.Shelf.files c.read_inputs.new.shelf in
+    let puts' = g.F.Shelf.puts c.read_inputs.new.shelf in
+    let calls' = g.F.Shelf.faults c.read_inputs.new.shelf in
+    let asked : asked_of texts ≡ Some (record { model = c.in-Ok.options.model; replay = None }) = c.in-Ok.ensures.options ∙ ap (λ replay. Some (record { model = c.in-Ok.options.model; replay = replay })) (none_asked c.in-Ok.options.replay (sym c.is_some.ensures ∙ c.if-is_some.false)) in
+    let run = c.in-Ok-run_at_once.run' in
     let held' = g.K.Sink.held c.write_run.new.sink in
-    let files'' = g.F.Shelf.files c.write_run.new.shelf in
-    let puts'' = g.F.Shelf.puts c.write_run.new.shelf in
     let writes' = g.K.Sink.faults c.write_run.new.sink in
-    let calls'' = g.F.Shelf.faults c.write_run.new.shelf in
-    let run = c.in-Ok-run_script.run' in
+    let files-last = g.F.Shelf.files c.write_run.new.shelf in
+    let puts-last = g.F.Shelf.puts c.write_run.new.shelf in
+    let calls-last = g.F.Shelf.faults c.write_run.new.shelf in
     let bytes = run.text.items in
     let put = files_among run.order.items run.answers.items in
-    let start = c.in-Ok-load.start.directory in
-    let commands = c.in-Ok-commands_of.commands in
-    let is_run = subst (λ (cs : List ScriptCommand). IsLineRun start (map command_entry cs) bytes run.order.items run.answers.items run.some_refused) c.items.ensures c.in-Ok-run_script.ensures.run in
-    explained texts left left' held held' files files'' puts puts'' reads reads' writes writes' calls calls'' bytes put c.write_run.result run.some_refused
-    (ran texts (outside left held files puts reads writes calls) (outside left' held' files'' puts'' reads' writes' calls'') c.in-Ok.options.model c.in-Ok-load.start.script start commands bytes run.order.items run.answers.items run.some_refused
-    c.in-Ok.ensures.options (sym c.in-Ok-load.ensures.load.1) c.in-Ok-load.ensures.load.0 c.in-Ok-commands_of.ensures.read is_run)
-    (c.in-Ok-commands_of.ensures.steady (λ e. absurd cc))
-    (writes_from held held' files files' files'' puts puts' puts'' writes writes' calls calls' calls'' bytes put c.in-Ok-load.ensures.files_stay c.in-Ok-load.ensures.puts_stay (c.in-Ok-load.ensures.steady (λ e. absurd cc)) c.write_run.result run.some_refused c.write_run.ensures)
+    let start = c.in-Ok-read_inputs.inputs.directory in
+    let commands = map command_entry c.in-Ok-read_inputs.inputs.commands in
+    let is_run = subst (λ (cs : List ScriptCommand). IsRun start (map command_entry cs) bytes run.order.items run.answers.items run.some_refused) c.items-commands.ensures c.in-Ok-run_at_once.ensures.run in
+    explained texts left left' held held' files files-last puts puts-last reads reads' writes writes' calls calls-last bytes put c.write_run.result run.some_refused
+    (ran_free texts (outside left held files puts reads writes calls) (outside left' held' files-last puts-last reads' writes' calls-last) c.in-Ok.options.model start commands bytes run.order.items run.answers.items run.some_refused
+    asked c.in-Ok-read_inputs.ensures.read is_run)
+    c.in-Ok-read_inputs.ensures.reads
+    (writes_from held held' files files' files-last puts puts' puts-last writes writes' calls calls' calls-last bytes put c.in-Ok-read_inputs.ensures.files_stay c.in-Ok-read_inputs.ensures.puts_stay c.in-Ok-read_inputs.ensures.calls c.write_run.result run.some_refused c.write_run.ensures)

@@ -5,8 +5,9 @@ commands  random commands that are mostly well formed, with small numbers, so th
 scripts   random scripts of several kinds, made of them
 mutating  scripts and models with random faults put in
 models    random texts of models
+orders    orders of the sessions of a script, and texts that are none
 calls     random scripts with the words of a command line and the files of a folder
 reducing  a text, and a call, made smaller while something stays true of it
-outcomes  calls, compared with the program
+outcomes  the runs of calls, compared with the program
 tables    models, compared with a program that runs rows
 """

@@ -1,4 +1,4 @@
-"""Random calls: the words of the command line, the files of the folder, and a script."""
+"""Random calls: the words of the command line, the files of the folder, a script, and the orders in which it is replayed."""
 
 from collections import namedtuple
 
@@ -13,7 +13,9 @@ from .models import model
 from .mutating import mutated
 from .scripts import script
 
-Call = namedtuple("Call", "words files script")  # the files are bytes by their names
+# The files are bytes by their names. `merge` and `broken` are numbers: from one an order of the script is made, and from the
+# other a file that may be none. Where they are None the script is not replayed so.
+Call = namedtuple("Call", "words files script merge broken", defaults=[None] * 2)
 
 LOADED = ("m", "cup.asc", "s", "_0-.A", "n" * 64)  # names of files to load
 OTHERS = ("M", "cup", "m.asc")
@@ -28,6 +30,7 @@ BAD_WORDS = (
     ["--demo"], ["--demo="], ["--demo", ""], ["--demo", "-1"], ["--demo=-1"], ["--demo=+1"], ["--demo=1.0"], ["--demo", "NAME"], ["--demo=0000000007"], ["--demo=1000000000"], ["--demo", "7", "--demo", "7"],
     ["--demo=7", "--load=NAME"], ["--load", "NAME", "--demo", "7"], ["--demo", "--load=NAME"], ["--load", "--demo=7"], ["--demo", "7", "NAME"], ["--demo7"], ["--dem=7"], ["--demo=7 "], ["--demo=\u0667"],
 )  # fmt: skip
+BAD_WORDS += tuple([word.replace("load", "replay") for word in words] for words in BAD_WORDS if any("load" in word for word in words))
 MOST_USED = 2**26  # bytes of the bodies and files of one session
 
 
@@ -47,7 +50,9 @@ def call(rng):
     if rng.random() < 0.05:
         files = rng.choice(({}, dict(files, **{rng.choice(OTHERS): b"\x00put\n"})))
     lines = script(maker, (file, *OTHERS, "a"))
-    return Call(words, files, mutated(rng, lines) if rng.random() < 0.5 else "".join(line + "\n" for line in lines).encode())
+    text = mutated(rng, lines) if rng.random() < 0.5 else "".join(line + "\n" for line in lines).encode()
+    merge, broken = (rng.getrandbits(32) if rng.random() < share else None for share in (0.5, 0.3))
+    return Call(words, files, text, merge, broken)
 
 
 def model_and_directory(rng):

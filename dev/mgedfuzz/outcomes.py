@@ -1,32 +1,68 @@
-"""What a call comes to, of the program and of the evaluator, and where these differ. The files of an outcome are all that
-are in the folder then, as bytes by their names."""
+"""What the runs of a call come to, of the program and of the evaluator, and where these differ. The files of an outcome are
+all that are in the folder then, as bytes by their names."""
 
 import os
 import subprocess
 import tempfile
+from collections import namedtuple
 
 from mgedmodel.calls import call as evaluated
-from mgedmodel.script import Outcome
+from mgedmodel.script import Outcome, order_of
 
+from .orders import FILE, SPELLINGS, broken_text, commands_in, good_text
 from .reducing import smaller_call
 
 SECONDS = 120  # that the program may take for one call
+TRIES = 10  # how often a smaller call is run to see whether it still differs, where its sessions race
+
+# What one run is given, and what is told of it.
+Given = namedtuple("Given", "words files script told")
+# A run, what is wanted of it, and what came.
+Difference = namedtuple("Difference", "given wanted came")
 
 
-def wanted_of(call):
-    outcome = evaluated(call.words, lambda file, most: call.files[file][:most] if file in call.files else None, lambda: call.script)
-    return outcome._replace(files={**call.files, **dict(outcome.files)})
+def wanted_of(given, order=None):
+    outcome = evaluated(given.words, lambda file, most: given.files[file][:most] if file in given.files else None, lambda: given.script, order)
+    return outcome._replace(files={**given.files, **dict(outcome.files)})
 
 
-def outcome_of(program, call):
+def outcome_of(program, given):
     with tempfile.TemporaryDirectory() as folder:
-        write_files(folder, call.files)
+        write_files(folder, given.files)
         try:
-            ran = subprocess.run([program, *call.words], input=call.script, capture_output=True, timeout=SECONDS, cwd=folder)
+            ran = subprocess.run([program, *given.words], input=given.script, capture_output=True, timeout=SECONDS, cwd=folder)
         except subprocess.TimeoutExpired:
             return Outcome("none", f"(not ended after {SECONDS} seconds)")
         line = ran.stderr.decode("latin-1")
         return Outcome(ran.returncode, line[:-1] if line.endswith("\n") else line + "(no line feed)" if line else "", ran.stdout, files_of(folder))
+
+
+def runs_of(program, call):
+    """The runs of a call, each with what is wanted and what came. First the program is free in the order of the sessions, and
+    the evaluator takes the order that came. Then the program is to do the same by its own transcript. At last files of orders
+    are given to both."""
+    free = Given(call.words, call.files, call.script, "a run in any order")
+    came = outcome_of(program, free)
+    yield Difference(free, wanted_of(free, order_of(came.written)), came)
+    if came.number in (0, 1):
+        again = by_order(free, came.written, len(came.written), "a replay of its own transcript")
+        yield Difference(again, came._replace(files={**came.files, FILE: came.written}), outcome_of(program, again))
+    for number, text, told in ((call.merge, good_text, "an order of a file"), (call.broken, broken_text, "a file that may be no order")):
+        if number is not None:
+            given = by_order(free, text(number, call.script), number, told)
+            yield Difference(given, wanted_of(given), outcome_of(program, given))
+
+
+def by_order(free, text, number, told):
+    """A run by the order of a file; the number says how that is spelled."""
+    words = SPELLINGS[number % 2]
+    words = free.words + words if number // 2 % 2 else words + free.words
+    return Given(words, {**free.files, FILE: text}, free.script, told)
+
+
+def difference_in(program, call):
+    """The first run of a call that comes to something else than is wanted, or None."""
+    return next((run for run in runs_of(program, call) if run.wanted != run.came), None)
 
 
 def write_files(folder, files):
@@ -43,44 +79,60 @@ def files_of(folder):
     return files
 
 
-def compare(program, calls, place):
-    """Whether the calls come to the same. The first that doesn't is made smaller, and written beside what it comes to."""
-    differs = lambda call: outcome_of(program, call) != wanted_of(call)
+def compare(program, calls, place, times=1):
+    """Whether the calls come to the same, each so many times. The first that doesn't is made smaller, and written beside what
+    it comes to."""
     for number, call in calls:
-        if differs(call):
-            call = smaller_call(call, differs)
-            write_difference(place(number), wanted_of(call), outcome_of(program, call), call)
-            return False
+        for _ in range(times):
+            found = difference_in(program, call)
+            if found:
+                write_difference(place(number), smallest(program, call, found))
+                return False
     return True
 
 
-def write_difference(path, wanted, came, call):
+def smallest(program, call, found):
+    """The difference of a smaller call, where one is found."""
+
+    def differs(call):
+        nonlocal found
+        races = len({session for session, _ in commands_in(call.script)}) > 1
+        again = next(filter(None, (difference_in(program, call) for _ in range(TRIES if races else 1))), None)
+        found = again or found
+        return again is not None
+
+    smaller_call(call, differs)
+    return found
+
+
+def write_difference(path, found):
+    given, wanted, came = found
     with open(path + ".mged", "wb") as file:
-        file.write(call.script)
-    if call.files:
+        file.write(given.script)
+    if given.files:
         os.makedirs(path + ".files", exist_ok=True)
-        write_files(path + ".files", call.files)
+        write_files(path + ".files", given.files)
     where, ours, theirs = first_difference(wanted, came)
     difference = f"{where}\nwanted: {ours}\ncame:   {theirs}"
     parts = [
         f"A call, made smaller; the bytes of its script are in {os.path.basename(path)}.mged, and those of its files, if any, in .files.",
-        f"First difference: {difference}",
-        f"--- The words: {call.words}",
-        *files_shown("The file", call.files),
-        f"--- The script\n{shown(call.script)}",
+        f"It is {given.told}. First difference: {difference}",
+        f"--- The words: {given.words}",
+        *files_shown("The file", given.files),
+        f"--- The script\n{shown(given.script)}",
         f"--- Wanted, by dev/model: {ending(wanted)}\n{shown(wanted.written)}",
-        *files_shown("Wanted, the file", changed(wanted, call)),
+        *files_shown("Wanted, the file", changed(wanted, given)),
         f"--- Came, of the program: {ending(came)}\n{shown(came.written)}",
-        *files_shown("Came, the file", changed(came, call)),
+        *files_shown("Came, the file", changed(came, given)),
     ]
     with open(path + ".txt", "w", encoding="utf-8") as file:
         file.write("\n\n".join(parts))
-    print(f"{difference}\nwritten to {path}.txt")
+    print(f"{given.told}: {difference}\nwritten to {path}.txt")
 
 
-def changed(outcome, call):
+def changed(outcome, given):
     """The files that are other than before the call."""
-    return {name: text for name, text in outcome.files.items() if call.files.get(name) != text}
+    return {name: text for name, text in outcome.files.items() if given.files.get(name) != text}
 
 
 def first_difference(wanted, came):

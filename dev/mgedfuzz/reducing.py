@@ -23,7 +23,11 @@ def smaller(text, holds):
 
 
 def smaller_call(call, holds):
-    """The call without the words and files that can be left out, and with smaller texts."""
+    """The call without the orders, words and files that can be left out, and with smaller texts."""
+    for order in ("merge", "broken"):
+        without = call._replace(**{order: None})
+        if without != call and holds(without):
+            call = without
     call = call._replace(words=fewer(call.words, lambda words: holds(call._replace(words=words))))
     for file in call.files:
         others = {name: text for name, text in call.files.items() if name != file}

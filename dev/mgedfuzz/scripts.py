@@ -8,20 +8,38 @@ ODD_FILES = ("{a}", "{ a }", "{a b}", "a b", "", "{}", "a/b", "./a", "-a", ".a",
 
 
 def script(maker, files):
-    """The lines of a script, which may save to these files. In some lines blanks and spellings are others, and some scripts
+    """The lines of a script, which may save to these files. In some lines blanks and spellings are others, and most scripts
     have several sessions."""
-    rng, kinds = maker.rng, (rays_at_solids, rays_at_regions, rays_at_regions, turned, turned, edits, edits, texts, texts, chain, crowd, great)
-    lines = rng.choice(kinds)(maker)
+    rng, kinds = maker.rng, (rays_at_solids, rays_at_regions, rays_at_regions, turned, turned, edits, edits, texts, texts, chain, crowd, great, races, races, races)
+    kind = rng.choice(kinds)
+    lines = kind(maker)
     for _ in range(rng.choice((0, 0, 1, 2, 3, 6))):
         lines.insert(rng.randint(0, len(lines)), f"save {rng.choice(ODD_FILES if rng.random() < 0.15 else files)}")
     share = rng.choice((0, 0, 0.1, 0.5))
     lines = [dressed(rng, line) if rng.random() < share and len(line) < 2_000 else line for line in lines]
-    return in_sessions(rng, lines) if rng.random() < 0.3 else lines
+    return in_sessions(rng, lines) if kind is races or rng.random() < 0.5 else lines
 
 
 def in_sessions(rng, lines):
-    heads = ["@%d " % session for session in rng.sample(range(1, 9), rng.randint(1, 4))] + [""]
-    return [rng.choice(heads) + line for line in lines]
+    """The lines given to one to eight sessions: each to any, or to one after the other in blocks."""
+    heads = [f"@{session} " for session in rng.sample(range(1, 9), rng.randint(1, 8))]
+    heads = ["" if head == "@1 " and rng.random() < 0.5 else head for head in heads]
+    if rng.random() < 0.5:
+        return [rng.choice(heads) + line for line in lines]
+    return [heads[at * len(heads) // len(lines)] + line for at, line in enumerate(lines)]
+
+
+RACES = (
+    "in {} sph 0 0 0 5", "in {} rpp 0 4 0 4 0 4", "in {} half 1 0 0 2", "put {} comb region yes tree {{- {{l {}}} {{l {}}}}}", "kill {}", "kill {}", "kill {} {}", "mvall {} {}", "mvall {} {}",
+    "g {} {}", "r {} u {} - {}", "rm {} {}", "cattr {} air 1", "cattr {} region no", "place {} {} 1 0 0 2 0 1 0 0 0 0 1 0 0 0 0 1", "attr set {} k v", "title {}",
+    "ls", "l {} {}", "tree {}", "save a", "nirt -9 1 1 +x {}", "nirt -9 1 1 +x {} {}", "rt p.ppm -z -4 12 50 1 17 17 {}", "rtcheck -z -4 12 50 1 3 17 {} {}",
+)  # fmt: skip
+
+
+def races(maker):
+    """Short commands about a few names, of which some undo what others do."""
+    names = maker.rng.choice(("ab", "abc", "abcdef"))
+    return [maker.rng.choice(RACES).format(*maker.rng.choices(names, k=3)) for _ in range(maker.rng.choice((8, 40, 40, 150, 400)))]
 
 
 def rays_at_solids(maker):

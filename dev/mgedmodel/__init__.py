@@ -15,9 +15,10 @@ pictures    views, the pictures of them, and the overlaps on their rays
 texts       objects, kept attributes and titles as words
 models      a whole model, read of a text
 lines       which command a line is, or why it is none
-script      the run of a script, its transcript and its status
-calls       a whole call of the program: its words, the model that is loaded, and the script
+script      the commands of a script, their run in an order of the sessions, its transcript and its status
+calls       a whole call of the program: its words, the model that is loaded, the script, and its order
 rows        rows of models and of words, with what is wanted of each
+cases       cases of scripts, with what is wanted of each
 
 Each module stands on those above it only. A new command is a reader in `lines` that answers an edit of `directory` or
 a query; a new solid is a class in `solids` and a row in `lines` and in `texts`.

@@ -1,46 +1,80 @@
-"""A whole call of the program: the words of its command line, the model that they ask for, and its script."""
+"""A whole call of the program: the words of its command line, the model that they ask for, its script, and the order in
+which that is run."""
 
 import os
 import re
+from collections import namedtuple
 
-from .demos import SCRIPT, text
+from . import demos
 from .models import read_model
 from .refused import Refused, refuse_unless
-from .script import Outcome, run
+from .script import Fault, Outcome, commands_of, in_order, is_merge, order_of, run
 from .words import name
 
 MOST_OF_A_MODEL = 16_777_216  # bytes
+MOST_OF_AN_ORDER = 131_078  # bytes that are asked for: the longest line of an order has one less, with its line feed as many
+
+# What words ask for: the name of a file to load, the number of a demo, and the name of a file with an order, or None.
+Asked = namedtuple("Asked", "load demo replay", defaults=[None] * 3)
 
 
-def call(words, get, script):
+class Ended(Exception):
+    """The call ends without a run: the number of the status, and what its line tells."""
+
+
+def call(words, get, script, order=None, marks=frozenset()):
     """What a call comes to. `get` answers the bytes of the file of a name, at most so many as it is asked for, or None where
-    there is none; `script` answers the script. The words are looked at first, then the model, then the script. A demo has a
-    model and a script of its own, and neither is asked for."""
+    there is none; `script` answers the script. The words are looked at first, then the model, then the script, then the file
+    of the order. A demo has a model and a script of its own, and neither is asked for. Where the words ask for no order, the
+    sessions are run in the one that is given, if it is one of the script, and else as their lines stand. Commands that are
+    marked find no memory."""
     try:
-        file, number = asked_by(words)
-    except Refused:
-        return Outcome(2, "mgedrt: usage")
-    if number is not None:
-        return run(SCRIPT.encode(), read_model(text(number).encode()))
-    try:
-        directory = loaded(file, get) if file else None
-    except Refused as refusal:
-        return Outcome(3, f"mgedrt: load {refusal}")
-    return run(script(), directory)
+        asked = asked_by(words)
+        directory = directory_of(asked, get)
+        commands = commands_in(demos.SCRIPT.encode() if asked.demo is not None else script())
+        if asked.replay:
+            order = order_in(get(asked.replay, MOST_OF_AN_ORDER), asked.replay, commands)
+    except Ended as end:
+        number, told = end.args
+        return Outcome(number, f"mgedrt: {told}")
+    return run(in_order(commands, order) if is_merge(order, commands) else commands, directory, marks)
 
 
 def asked_by(words):
-    """The name that `--load NAME` or `--load=NAME` gives, and the number that `--demo N` or `--demo=N` gives: one of them, or
-    neither where there are no words. No other words are allowed."""
-    if not words:
-        return None, None
-    option, value = words if len(words) == 2 else words[0].partition("=")[::2] if len(words) == 1 else ("", "")
-    if option == "--demo":
-        refuse_unless(re.fullmatch("[0-9]{1,9}", value), "usage")
-        return None, int(value)
-    file = name(os.fsencode(value))
-    refuse_unless(option == "--load" and file, "usage")
-    return file, None
+    """What words ask for: `--load NAME`, `--demo N` and `--replay NAME`, each also with `=`, and at most once. No other words
+    are allowed, nor a demo beside a file to load."""
+    given, words = {}, iter(words)
+    for word in words:
+        option, sign, value = word.partition("=")
+        if not sign:
+            value = next(words, "")
+        if option in given or option not in READERS or READERS[option](value) is None:
+            raise Ended(2, "usage")
+        given[option] = READERS[option](value)
+    if len(given.keys() & {"--load", "--demo"}) > 1:
+        raise Ended(2, "usage")
+    return Asked(**{option[2:]: value for option, value in given.items()})
+
+
+def name_of(value):
+    return name(os.fsencode(value))
+
+
+def number_of(value):
+    return int(value) if re.fullmatch("[0-9]{1,9}", value) else None
+
+
+READERS = {"--load": name_of, "--demo": number_of, "--replay": name_of}
+
+
+def directory_of(asked, get):
+    """The directory at first, or None for an empty one."""
+    try:
+        if asked.demo is not None:
+            return read_model(demos.text(asked.demo).encode())
+        return loaded(asked.load, get) if asked.load else None
+    except Refused as refusal:
+        raise Ended(3, f"load {refusal}") from None
 
 
 def loaded(file, get):
@@ -49,3 +83,21 @@ def loaded(file, get):
     refuse_unless(text is not None, f"missing {file}")
     refuse_unless(len(text) <= MOST_OF_A_MODEL, "size")
     return read_model(text)
+
+
+def commands_in(text):
+    """The commands of a script."""
+    try:
+        return commands_of(text)
+    except Fault as fault:
+        raise Ended(4, f"script {fault}") from None
+
+
+def order_in(text, file, commands):
+    """The order that the text of a file has, which is one of these commands."""
+    if text is None:
+        raise Ended(8, f"replay missing {file}")
+    order = order_of(text)
+    if not is_merge(order, commands):
+        raise Ended(8, "replay order")
+    return order

@@ -1,10 +1,10 @@
 """Rows of models, as `load TEXT => saved WRITTEN` and `load TEXT => line L KIND`, and of words, as `options WORD .. => load
-NAME` and `.. => demo N`, with texts as docs/CASES.md escapes them."""
+NAME`, `.. => demo N`, `.. => nothing` and each of these with ` replay NAME`, with texts as docs/CASES.md escapes them."""
 
 import os
 import re
 
-from .calls import asked_by
+from .calls import Ended, asked_by
 from .models import read_model
 from .refused import Refused
 from .written import text_of
@@ -28,12 +28,11 @@ def answer_of(text):
 def asked_of(words):
     """What the words of the command line ask for."""
     try:
-        file, number = asked_by([os.fsdecode(word) for word in words])
-    except Refused:
+        asked = asked_by([os.fsdecode(word) for word in words])
+    except Ended:
         return b"usage"
-    if number is not None:
-        return f"demo {number}".encode()
-    return f"load {file}".encode() if file else b"nothing"
+    told = [f"{what} {value}" for what, value in asked._asdict().items() if value is not None]
+    return " ".join(told if asked.load or asked.demo is not None else ["nothing", *told]).encode()
 
 
 # What is answered of that which stands behind the first word of a row.

@@ -1,18 +1,19 @@
-"""The run of a script, its transcript and its status."""
+"""The commands of a script, their run in an order of the sessions, its transcript and its status."""
 
 import re
-from collections import namedtuple
+from collections import Counter, defaultdict, deque, namedtuple
 
 from .directory import Directory
 from .lines import read_line
 from .listings import MOST_USED
-from .refused import Refused
+from .refused import Refused, refuse_unless
 
 MOST_BYTES = 4_194_304
 MOST_LINES = 65_536
 MOST_OF_A_LINE = 65_536  # bytes
 BLANKS = b" \t\r"
 SESSION = re.compile(rb"@([1-8])(?: (.*))?", re.DOTALL)
+ORDER = re.compile(rb"order((?: [1-8])*)")
 
 # What a call comes to: the status's number, its line on standard error, which may be empty, the bytes written, and the
 # files that are put then, each a name and its bytes.
@@ -20,7 +21,7 @@ Outcome = namedtuple("Outcome", "number line written files", defaults=[b"", ()])
 
 
 class Fault(Exception):
-    """A fault of the whole script; the text is that of the status line."""
+    """A fault of the whole script; the text is what the status line tells of it."""
 
 
 class Session:
@@ -38,7 +39,7 @@ class Session:
 def commands_of(script):
     """The session and the line of each command."""
     if len(script) > MOST_BYTES:
-        raise Fault("script size")
+        raise Fault("size")
     lines, commands = script.split(b"\n"), []
     if lines[-1] == b"":
         lines.pop()
@@ -52,29 +53,59 @@ def commands_of(script):
 def session_of(place, line):
     """The session of a line, and what is behind it."""
     if place > MOST_LINES:
-        raise Fault(f"script line {place} lines")
+        raise Fault(f"line {place} lines")
     if len(line) > MOST_OF_A_LINE:
-        raise Fault(f"script line {place} long")
+        raise Fault(f"line {place} long")
     if not line.startswith(b"@"):
         return 1, line
     form = SESSION.fullmatch(line)
     if not form:
-        raise Fault(f"script line {place} session")
+        raise Fault(f"line {place} session")
     return int(form[1]), form[2] or b""
 
 
-def run(script, directory=None):
-    """What a script comes to. At first there is this directory, else an empty one."""
-    try:
-        commands = commands_of(script)
-    except Fault as fault:
-        return Outcome(4, f"mgedrt: {fault}")
-    directory, version, any_refused = directory or Directory(), 0, False
-    sessions, files = {}, []
+def order_of(text):
+    """The sessions of the commands in the order that a text has on its first line, or None where that is no such line."""
+    form = ORDER.fullmatch(text.partition(b"\n")[0])
+    return [int(digit) for digit in form[1].split()] if form else None
+
+
+def is_merge(order, commands):
+    """Whether each session comes in an order as often as it has commands."""
+    return order is not None and Counter(order) == Counter(number for number, _ in commands)
+
+
+def in_order(commands, order):
+    """The commands with the sessions in this order, and those of one session as they were."""
+    lines = defaultdict(deque)
     for number, line in commands:
-        session = sessions.setdefault(number, Session())
+        lines[number].append(line)
+    return [(number, lines[number].popleft()) for number in order]
+
+
+def marks_in(text):
+    """The commands that a transcript answers for want of memory, each as its session and number."""
+    lines, marks = iter(text.decode("latin-1").split("\n")[1:-1]), set()
+    for line in lines:
+        label, outcome, _, rest = line.split(" ", 3)
+        if outcome == "ok":
+            for _ in range(int(rest)):
+                next(lines)
+        elif rest == "memory":
+            marks.add(label)
+    return marks
+
+
+def run(commands, directory=None, marks=frozenset()):
+    """What commands come to that are run in this order. At first there is this directory, else an empty one. A command that is
+    marked finds no memory."""
+    directory, version, any_refused = directory or Directory(), 0, False
+    sessions, files = defaultdict(Session), []
+    for number, line in commands:
+        session = sessions[number]
         label = f"{number}.{session.count + 1}"
         try:
+            refuse_unless(label not in marks, "memory")
             command = read_line(line)
             body, put = command.act(directory, MOST_USED - session.used)
             size = sum(len(text) + 1 for text in body) + sum(len(text) for _, text in put)

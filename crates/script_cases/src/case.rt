@@ -1,5 +1,6 @@
 //! A case: what goes into a call of the program, and what it is to leave.
 
+use case_text::CaseFault;
 use name_core::Name;
 use std::alloc::Global;
 
@@ -19,6 +20,8 @@ pub(crate) struct CaseFile {
 pub(crate) struct WantedText {
     pub is_whole: bool,
     pub whole: Vec<u8>,
+    /// Other wholes that may come as well.
+    pub others: Vec<Vec<u8>>,
     pub front: Vec<u8>,
     pub end: Vec<u8>,
     pub size: Option<usize>,
@@ -44,6 +47,8 @@ pub(crate) struct Case {
     pub line: Vec<u8>,
     pub left: Option<usize>,
     pub puts: Vec<CaseFile>,
+    /// Whether what comes is to come again where it is replayed.
+    pub is_replayed: bool,
 }
 
 impl WantedText {
@@ -51,6 +56,7 @@ impl WantedText {
         WantedText {
             is_whole: false,
             whole: Vec::new(alloc),
+            others: Vec::new(alloc),
             front: Vec::new(alloc),
             end: Vec::new(alloc),
             size: None,
@@ -77,11 +83,35 @@ impl Case {
             line: Vec::new(alloc),
             left: None,
             puts: Vec::new(alloc),
+            is_replayed: false,
         }
     }
 
-    /// The number of the status that is wanted: where none is told, 1 where a command is refused, and else 0.
-    pub(crate) fn wanted_status(&self) -> usize {
-        self.status.unwrap_or(usize::from(self.some_refused))
+    /// The number of the status that is wanted, beside the one that came. Where none is told it is 1 where a command is
+    /// refused, and else 0; but where the order of the commands is free, which decides on refusals, it may be either.
+    pub(crate) fn wanted_status(&self, came: usize) -> usize {
+        match self.status {
+            Some(status) => status,
+            None if self.is_replayed => came.min(1),
+            None => usize::from(self.some_refused),
+        }
+    }
+
+    /// Whether its words name a file that has an order.
+    pub(crate) fn has_order(&self) -> bool {
+        self.words
+            .iter()
+            .any(|word| word.as_bytes().starts_with(b"--replay"))
+    }
+
+    /// The words of the case, and behind them those that ask for an order of this file.
+    pub(crate) fn replay_words(&self, alloc: Global, file: &str) -> Result<Vec<String>, CaseFault> {
+        let mut words = Vec::new(alloc);
+        for word in &self.words {
+            words.push(String::from_str(alloc, word.as_str())?)?;
+        }
+        words.push(String::from_str(alloc, "--replay")?)?;
+        words.push(String::from_str(alloc, file)?)?;
+        Ok(words)
     }
 }

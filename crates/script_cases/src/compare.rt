@@ -89,10 +89,21 @@ pub(crate) fn compare_texts(what: &[u8], wanted: &[u8], came: &[u8], report: &mu
     put_sides(line_from(wanted, begin), line_from(came, begin), report);
 }
 
+/// Whether a text is one of the others that may come.
+fn is_another(wanted: &WantedText, came: &[u8]) -> bool {
+    wanted.others.iter().any(|other| other.as_slice() == came)
+}
+
+/// Whether nothing is told of a transcript but that it may be any.
+fn is_any(case: &Case) -> bool {
+    let text = &case.text;
+    case.is_replayed || !text.front.is_empty() || !text.end.is_empty() || text.size.is_some()
+}
+
 /// Puts in what differs of the bytes that were written.
-pub(crate) fn compare_transcript(wanted: &WantedText, came: &[u8], report: &mut Shown) {
-    let is_part = !wanted.front.is_empty() || !wanted.end.is_empty() || wanted.size.is_some();
-    if wanted.is_whole || !is_part {
+pub(crate) fn compare_transcript(case: &Case, came: &[u8], report: &mut Shown) {
+    let wanted = &case.text;
+    if (wanted.is_whole || !is_any(case)) && !is_another(wanted, came) {
         let held = wanted.held.unwrap_or(wanted.whole.len());
         compare_texts(b"transcript", front_of(&wanted.whole, held), came, report);
     }
@@ -120,10 +131,27 @@ fn compare_put(wanted: &CaseFile, came: &File, report: &mut Shown) {
     }
 }
 
-/// Puts in what differs of the files that were put.
+/// Puts in what differs of the files that were put. Where the order of the commands is free, a case may say nothing of them.
 pub(crate) fn compare_puts(case: &Case, came: &[File], report: &mut Shown) {
+    if case.is_replayed && case.puts.is_empty() {
+        return;
+    }
     compare_numbers(b"files", case.puts.len(), came.len(), report);
     for (wanted, file) in case.puts.iter().zip(came.iter()) {
         compare_put(wanted, file, report);
+    }
+}
+
+/// Puts in what differs of the files that two calls put.
+pub(crate) fn compare_both_puts(first: &[File], second: &[File], report: &mut Shown) {
+    compare_numbers(b"files", first.len(), second.len(), report);
+    for (one, other) in first.iter().zip(second.iter()) {
+        compare_texts(
+            b"name of a file",
+            one.name.bytes(),
+            other.name.bytes(),
+            report,
+        );
+        compare_texts(b"file", one.bytes.items(), other.bytes.items(), report);
     }
 }

@@ -11,6 +11,7 @@ enum Block {
     Nowhere,
     Script,
     Whole,
+    Other,
     Front,
     End,
     Body,
@@ -101,6 +102,7 @@ impl Reader {
         match self.block {
             Block::Script => expand(text, &mut self.case.script),
             Block::Whole => expand(text, &mut self.case.text.whole),
+            Block::Other => push_last_text(&mut self.case.text.others, text),
             Block::Front => expand(text, &mut self.case.text.front),
             Block::End => expand(text, &mut self.case.text.end),
             Block::Body => expand(text, &mut self.body),
@@ -180,6 +182,8 @@ impl Reader {
                 self.case.text.is_whole = true;
                 self.open(Block::Whole);
             }
+            "or" => return self.take_other(),
+            "replayed" => self.case.is_replayed = true,
             "begins" => self.open(Block::Front),
             "ends" => self.open(Block::End),
             "file" => return self.take_file(rest),
@@ -195,6 +199,13 @@ impl Reader {
     fn open(&mut self, block: Block) {
         self.end_answer();
         self.block = block;
+    }
+
+    /// Another whole transcript that may come.
+    fn take_other(&mut self) -> Result<(), CaseFault> {
+        self.case.text.others.push(Vec::new(self.alloc))?;
+        self.open(Block::Other);
+        Ok(())
     }
 
     /// A file that stands on the shelf before the call.
@@ -296,6 +307,14 @@ impl Reader {
 fn push_last(files: &mut Vec<CaseFile>, text: &[u8]) -> Result<(), CaseFault> {
     match files.last_mut() {
         Some(file) => expand(text, &mut file.bytes),
+        None => Err(CaseFault::Line),
+    }
+}
+
+/// Puts a text at the end of the last of others.
+fn push_last_text(others: &mut Vec<Vec<u8>>, text: &[u8]) -> Result<(), CaseFault> {
+    match others.last_mut() {
+        Some(other) => expand(text, other),
         None => Err(CaseFault::Line),
     }
 }

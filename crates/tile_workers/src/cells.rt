@@ -1,30 +1,41 @@
 //! A cell for each piece, which its result is put into.
-ghost use Rattle.std.specs.Prelude.{◌≡◌, IfOk, Some, map, vec_len};
+ghost use Rattle.std.specs.Prelude.{◌≡◌, ◌<◌, ◌^◌, All, IfOk, vec_len};
+ghost use Rattle.tile_workers.specs.Cells.{HaveOwn, IsOwn};
 
+use crate::job::Job;
 use memory_core::Memory;
 use std::alloc::Global;
 
+/// What a piece gave, with its number.
+#[derive(Drop)]
+pub(crate) struct Shot<X> {
+    pub(crate) piece: u32,
+    pub(crate) out: X,
+}
+
 /// Cells with nothing in them.
-pub(crate) fn empty_cells<X: Drop>(alloc: Global, count: u32) -> Result<Vec<Option<X>>, Memory>
-    ensures { IfOk result (λ cells. vec_len cells ≡ count) }
+pub(crate) fn empty_cells<J: Job>(alloc: Global, job: &J) -> Result<Vec<Option<J::Out>>, Memory>
+    ensures len { IfOk result (λ cells. (vec_len cells ≡ J.pieces job.now) × (vec_len cells < 2 ^ 32)) }
+    ensures own { IfOk result (λ cells. HaveOwn (J.gives job.now) cells.items) }
 {
     let mut cells = Vec::new(alloc);
-    for _ in 0..count {
+    for _ in 0..job.count() {
         cells.push(None)?;
     }
     Ok(cells)
 }
 
-/// What all cells have, in their order; an empty one is want of memory.
-pub(crate) fn all_full<X: Drop>(alloc: Global, cells: Vec<Option<X>>) -> Result<Vec<X>, Memory>
-    ensures { IfOk result (λ all. cells.items ≡ map (λ x. Some x) all.items) }
+/// Puts what pieces gave into their cells.
+pub(crate) fn fill<J: Job>(job: &J, cells: &mut Vec<Option<J::Out>>, shots: Vec<Shot<J::Out>>)
+    requires cells { HaveOwn (J.gives job.now) cells.old.items }
+    requires shots { All (IsOwn (J.gives job.now)) shots.items }
+    ensures len { vec_len cells.new ≡ vec_len cells.old }
+    ensures own { HaveOwn (J.gives job.now) cells.new.items }
 {
-    let mut all = Vec::new(alloc);
-    for cell in cells {
-        let Some(out) = cell else {
-            return Err(Memory);
-        };
-        all.push(out)?;
+    for shot in shots {
+        let i = shot.piece as usize;
+        if i < cells.len() {
+            cells[i] = Some(shot.out);
+        }
     }
-    Ok(all)
 }

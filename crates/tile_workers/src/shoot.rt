@@ -1,15 +1,17 @@
-ghost use Rattle.std.specs.Prelude.{◌≡◌, ◌<◌, ◌≤◌, ◌^◌, ℕ, IfOk, IfSome, length, slice_index_or, vec_len};
+ghost use Rattle.std.specs.Prelude.{◌≡◌, ◌<◌, ◌≤◌, ◌^◌, ℕ, All, IfOk, slice_index_or, vec_len};
+ghost use Rattle.tile_workers.specs.Cells.{HaveOwn, IsOwn};
 ghost use Rattle.tile_workers.specs.Results.{AreResults};
 
-use crate::cells::{all_full, empty_cells};
+use crate::cells::{Shot, empty_cells, fill};
 use crate::job::Job;
 use memory_core::Memory;
 use outside_core::{Gate, GateEvent};
 use std::alloc::Global;
+use std::sync::atomic::{AtomicU64, Ordering};
 use std::thread;
 use std::thread::Threads;
 
-/// Tells the gate of a piece, runs it, and puts its result into the cell.
+/// Tells the gate of a piece, and runs it.
 fn shoot_piece<J: Job, G: Gate>(
     alloc: Global,
     job: &J,
@@ -17,10 +19,9 @@ fn shoot_piece<J: Job, G: Gate>(
     command: u32,
     gate: &G,
     i: u32,
-    cell: &mut Option<J::Out>,
-)
+) -> Result<J::Out, Memory>
     requires { i < J.pieces job.now }
-    ensures { IfSome cell.new (J.gives job.now i) }
+    ensures { IfOk result (J.gives job.now i) }
 {
     let tile = job.tile(i);
     gate.at(GateEvent::TileBegin {
@@ -28,11 +29,37 @@ fn shoot_piece<J: Job, G: Gate>(
         command,
         tile,
     });
-    *cell = job.run(alloc, i).ok();
+    job.run(alloc, i)
 }
 
-/// Shoots the piece of each cell, on at most as many threads as there are workers.
-fn shoot_cells<R: Threads + Sync, J: Job, G: Gate + Sync>(
+/// Shoots the next piece that no thread has taken, over and over until all are taken. A piece without memory is left out.
+fn shoot_next<J: Job, G: Gate>(
+    alloc: Global,
+    job: &J,
+    session: u8,
+    command: u32,
+    gate: &G,
+    next: &AtomicU64,
+) -> Vec<Shot<J::Out>>
+    ensures { All (IsOwn (J.gives job.now)) result.items }
+{
+    let count = job.count();
+    let mut shots = Vec::new(alloc);
+    for _ in 0..count {
+        let taken = next.fetch_add(1, Ordering::SeqCst);
+        if taken >= u64::from(count) {
+            break;
+        }
+        let piece = taken as u32;
+        if let Ok(out) = shoot_piece(alloc, job, session, command, gate, piece) {
+            let _ = shots.push(Shot { piece, out });
+        }
+    }
+    shots
+}
+
+/// Shoots the pieces on at most as many threads as there are workers, and gives what each thread has shot.
+fn shoot_shared<R: Threads + Sync, J: Job, G: Gate + Sync>(
     rt: &R,
     alloc: Global,
     workers: u8,
@@ -40,57 +67,72 @@ fn shoot_cells<R: Threads + Sync, J: Job, G: Gate + Sync>(
     session: u8,
     command: u32,
     gate: &G,
-    cells: &mut [Option<J::Out>],
-)
-    requires cells { length cells.old ≡ J.pieces job.now }
-    requires few { J.pieces job.now < 2 ^ 32 }
-    requires workers { 1 ≤ workers }
-    ensures { (i : ℕ) (d : _) → i < length cells.old → IfSome (slice_index_or cells.new i d) (J.gives job.now i) }
+) -> Result<Vec<Vec<Shot<J::Out>>>, Memory>
+    ensures { IfOk result (λ lists. (w : ℕ) (d : _) → w < vec_len lists → All (IsOwn (J.gives job.now)) (slice_index_or lists.items w d).items) }
 {
-    thread::for_each_mut(
-        rt,
-        cells,
-        usize::from(workers),
-        &|i: usize, cell: &mut Option<J::Out>|
-            requires { (i < J.pieces job.now) × (J.pieces job.now < 2 ^ 32) }
-            ensures { IfSome cell.new (J.gives job.entry.now i) }
-        { shoot_piece(alloc, job, session, command, gate, i as u32, cell) },
-    );
-}
-
-/// As `shoot_cells`, for the cells of a list.
-fn shoot_list<R: Threads + Sync, J: Job, G: Gate + Sync>(
-    rt: &R,
-    alloc: Global,
-    workers: u8,
-    job: &J,
-    session: u8,
-    command: u32,
-    gate: &G,
-    cells: &mut Vec<Option<J::Out>>,
-)
-    requires cells { vec_len cells.old ≡ J.pieces job.now }
-    requires few { J.pieces job.now < 2 ^ 32 }
-    requires workers { 1 ≤ workers }
-    ensures len { vec_len cells.new ≡ vec_len cells.old }
-    ensures each { (i : ℕ) (d : _) → i < vec_len cells.old → IfSome (slice_index_or cells.new.items i d) (J.gives job.now i) }
-{
-    shoot_cells(
+    let next = AtomicU64::new(0);
+    let shared = &next;
+    let threads = usize::from(workers).min(job.count() as usize);
+    let lists = thread::map_indices(
         rt,
         alloc,
-        workers,
-        job,
-        session,
-        command,
-        gate,
-        cells.as_mut_slice(),
-    );
+        threads,
+        &|_| -> Vec<Shot<J::Out>>
+            ensures { All (IsOwn (J.gives job.entry.now)) result.items }
+        { shoot_next(alloc, job, session, command, gate, shared) },
+    )?;
+    Ok(lists)
+}
+
+/// The cells of a job, with what each thread has shot.
+fn filled<J: Job>(
+    alloc: Global,
+    job: &J,
+    lists: Vec<Vec<Shot<J::Out>>>,
+) -> Result<Vec<Option<J::Out>>, Memory>
+    requires { (w : ℕ) (d : _) → w < vec_len lists → All (IsOwn (J.gives job.now)) (slice_index_or lists.items w d).items }
+    ensures len { IfOk result (λ cells. (vec_len cells ≡ J.pieces job.now) × (vec_len cells < 2 ^ 32)) }
+    ensures own { IfOk result (λ cells. HaveOwn (J.gives job.now) cells.items) }
+{
+    let mut cells = empty_cells(alloc, job)?;
+    for shots in lists {
+        fill(job, &mut cells, shots);
+    }
+    Ok(cells)
+}
+
+/// What the cells have, in their order; the calling thread shoots the piece of an empty one.
+fn completed<J: Job, G: Gate>(
+    alloc: Global,
+    job: &J,
+    session: u8,
+    command: u32,
+    gate: &G,
+    cells: Vec<Option<J::Out>>,
+) -> Result<Vec<J::Out>, Memory>
+    requires len { vec_len cells ≡ J.pieces job.now }
+    requires few { vec_len cells < 2 ^ 32 }
+    requires own { HaveOwn (J.gives job.now) cells.items }
+    ensures len { IfOk result (λ all. vec_len all ≡ J.pieces job.now) }
+    ensures each { IfOk result (λ all. AreResults (J.gives job.now) (J.pieces job.now) all.items) }
+{
+    let mut all = Vec::new(alloc);
+    for cell in cells {
+        let i = all.len() as u32;
+        let out = match cell {
+            Some(out) => out,
+            None => shoot_piece(alloc, job, session, command, gate, i)?,
+        };
+        all.push(out)?;
+    }
+    Ok(all)
 }
 
 /// The results of all pieces, in their order. At most as many threads as there are workers run the pieces, and no more than
-/// there are pieces; the calling thread is one of them, and runs what those that can't be had would have run. Each piece
-/// tells the gate first, on the thread that runs it, that the tile begins of this command of the session. `Memory` where a
-/// piece found none, or where there is none for the list.
+/// there are pieces; the calling thread is one of them. Each takes the next piece that no other has taken, until all are
+/// taken. The calling thread then runs the pieces that found no memory once more. Each piece tells the gate first, on the
+/// thread that runs it, that the tile begins of this command of the session. `Memory` where a piece found none again, or where
+/// there is none for the list.
 pub fn shoot_all<R: Threads + Sync, J: Job, G: Gate + Sync>(
     rt: &R,
     alloc: Global,
@@ -104,7 +146,7 @@ pub fn shoot_all<R: Threads + Sync, J: Job, G: Gate + Sync>(
     ensures len { IfOk result (λ all. vec_len all ≡ J.pieces job.now) }
     ensures each { IfOk result (λ all. AreResults (J.gives job.now) (J.pieces job.now) all.items) }
 {
-    let mut cells = empty_cells::<J::Out>(alloc, job.count())?;
-    shoot_list(rt, alloc, workers, job, session, command, gate, &mut cells);
-    all_full(alloc, cells)
+    let lists = shoot_shared(rt, alloc, workers, job, session, command, gate)?;
+    let cells = filled(alloc, job, lists)?;
+    completed(alloc, job, session, command, gate, cells)
 }

@@ -9,3 +9,4 @@ pub mod Merges
 pub mod ReportLaws
 pub mod RaySteps
 pub mod ReportExamples
+pub mod NameExamples

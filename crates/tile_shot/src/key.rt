@@ -1,4 +1,6 @@
+use crate::feed::feed_bodies;
 use crate::same::same_bodies;
+use crate::small::are_small;
 use item_list::Items;
 use lattice_core::View;
 use memory_core::Memory;
@@ -15,7 +17,7 @@ use std::sync::Arc;
 pub struct TileKey {
     view: View,
     tile: u32,
-    bodies: Items<Arc<PrepRegion>>,
+    bodies: Arc<Items<Arc<PrepRegion>>>,
 }
 
 impl Model for TileKey {
@@ -29,7 +31,7 @@ impl Model for TileKey {
 
     ghost coded = { name_code };
 
-    ghost view = { λ s. record { view = s.view; tile = s.tile; bodies = map arc_value s.bodies } };
+    ghost view = { λ s. record { view = s.view; tile = s.tile; bodies = map arc_value (arc_value s.bodies) } };
 
     ghost invariant = { λ s. IsChecked s.view × (s.tile < tiles_of s.view) };
 }
@@ -69,6 +71,7 @@ impl Hash for TileKey {
     fn hash<H: Hasher>(&self, state: &mut H) {
         self.view.hash(state);
         self.tile.hash(state);
+        feed_bodies(self.bodies(), state);
     }
 }
 
@@ -94,7 +97,7 @@ impl TileKey {
     ghost use Rattle.lattice_core.specs.Views.{IsChecked};
     ghost use Rattle.lattice_core.specs.Tiles.{tiles_of};
     ghost use Rattle.tile_shot.specs.Pixels.{bodies_of};
-    ghost use Rattle.tile_shot.specs.Named.{name_of};
+    ghost use Rattle.tile_shot.specs.Named.{name_of, is_small_name};
     ghost use Rattle.tile_shot.specs.Same.{same_name};
 
     fn is_same(&self, other: &TileKey) -> bool
@@ -111,12 +114,31 @@ impl TileKey {
         requires tile { tile < tiles_of view.now }
         ensures { IfOk result (λ key. key ≡ name_of scene.now view.now tile) }
     {
-        let bodies = bodies_of(alloc, scene)?;
+        let bodies = Arc::new(alloc, bodies_of(alloc, scene)?)?;
         Ok(TileKey {
             view: *view,
             tile,
             bodies,
         })
+    }
+
+    /// Another share of the name. It copies no list.
+    pub fn share(&self) -> Result<TileKey, Memory>
+        ensures { IfOk result (λ key. key ≡ self.now) }
+    {
+        let bodies = self.bodies.clone()?;
+        Ok(TileKey {
+            view: self.view,
+            tile: self.tile,
+            bodies,
+        })
+    }
+
+    /// Whether a tile of this name may be kept: whether the size of the bodies together is at most `MOST_TILE_SIZE`.
+    pub fn is_small(&self) -> bool
+        ensures { result ≡ is_small_name self.now }
+    {
+        are_small(self.bodies())
     }
 
     /// The view, which has no fault.

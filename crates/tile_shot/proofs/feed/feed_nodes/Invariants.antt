@@ -1,0 +1,8 @@
+use Rattle.std.proofs.Common.{◌≡◌, length, take, fold, flat_map}
+use Rattle.std.specs.Hash as fed
+use Rattle.tile_shot.specs.Same.{node_input}
+use Rattle.tile_shot.proofs.feed.feed_nodes.Given as goal
+
+abbrev pub invariant-loop-node : goal.invariant-loop-node
+invariant-loop-node g l =
+    l.state ≡ fold g.H.Hasher.write (fold g.H.Hasher.write l.fn.state (fed.usize (length l.nodes))) (flat_map node_input (take l.node-index l.nodes))

@@ -1,0 +1,5 @@
+pub mod KeptLaws
+pub mod TileLaws
+pub mod Led
+pub mod PictureLaws
+pub mod CheckLaws

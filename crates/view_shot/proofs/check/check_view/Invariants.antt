@@ -1,0 +1,10 @@
+use Rattle.std.proofs.Common.{◌≡◌, ◌≤◌, ◌-◌, ℕ}
+use Rattle.std.specs.Arc.{arc_value}
+use Rattle.view_shot.proofs.CheckLaws.{first_report}
+use Rattle.view_shot.proofs.check.check_view.Given as goal
+
+abbrev pub decreases-loop-first : goal.decreases-loop-first
+decreases-loop-first g l = l.tiles - l.first
+
+abbrev pub invariant-loop-first : goal.invariant-loop-first
+invariant-loop-first g l = record { within : l.first ≤ l.tiles; report : l.report.items ≡ first_report (arc_value l.scene) l.view l.first }

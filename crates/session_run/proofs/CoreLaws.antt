@@ -3,7 +3,6 @@ use Rattle.std.proofs.Common.{◌≡◌, ◌≤◌, ◌+◌, ◌^◌, ◌<◌, �
 use Rattle.std.specs.List.{AllByRecursion}
 use Rattle.std.specs.Option.{option_map, option_or}
 use Rattle.std.proofs.lemmas.Bool.{leb-true}
-use Rattle.lattice_core.specs.Tiles.{tiles_of}
 use Rattle.transcript.specs.Lines.{Lacks}
 use Rattle.transcript.proofs.LineLaws.{lacks_append}
 use Rattle.transcript.proofs.Printable.{says_memory, IsPrintableReply}
@@ -32,14 +31,16 @@ use Rattle.edit_core.specs.Refused.{refusal_of, unless}
 use Rattle.mged_words.specs.Readable.{IsPlain, IsPlainRefusal, IsPlainQuery, IsPlainShoot, ArePlain}
 use Rattle.report_text.specs.Listings.{listings, written_lines}
 use Rattle.session_run.specs.declared.answer.Found.{Found}
-use Rattle.session_run.specs.declared.answer.Own.{Own}
+use Rattle.tile_shot.specs.Named.{TileName}
+use Rattle.view_shot.specs.Kept.{reused, shot, tile_names}
+use Rattle.session_run.specs.Own.{OwnState}
 use Rattle.session_run.specs.Replies.{first_missing as first_absent, lines_unless_missing, Outcome, core_rules, most_used, size_of, within_quota, found_unless, lines_alone, lines_of_scene, pictured, lines_of_check, viewed, found, edit_outcome, outcome_of, directory_made, shown}
 use Rattle.session_run.proofs.EditLaws.{MayBePlain, IsPlainName, IsPlainListing, find_plain, plain_names, plain_missing, plain_instances, refusal_plain, edit_keeps, names_plain, lines_few}
 use Rattle.session_run.proofs.ListingLaws.{written_plain, listings_plain}
 use Rattle.session_run.proofs.ShotLaws.{shot_plain, check_plain}
 use Rattle.session_run.proofs.PictureLaws.{picture_plain}
 
-abbrev pub Any_own : Own → Type 0
+abbrev pub Any_own : OwnState → Type 0
 Any_own own = Unit {0}
 
 -- replies stand on lines of their own
@@ -85,9 +86,11 @@ scene_fits es names found k h =
     missing_plain (first_missing es names) (too_many es names) found (find_plain (λ name. not (is_some (object_of es name))) names k)
     (size_plain (nat_lt most_size (names_size es names)) (told_size (names_size es names)) found h)
 
-viewed_plain : (d : Listing) (shoot : Shoot) → IsPlainListing d → IsPlainShoot shoot → IsPlainOutcome (viewed d shoot)
-viewed_plain d (Picture file view names) h k = scene_fits d.objects names (pictured (scene_of d.objects names) file view) k.1.one_line (picture_plain file view (tiles_of view) 0 k.0, tt)
-viewed_plain d (Check view names) h k = scene_fits d.objects names (lines_alone (lines_of_check (scene_of d.objects names) view)) k.one_line (check_plain d.objects names view (plain_names d.objects h))
+viewed_plain : (d : Listing) (kept : List TileName) (shoot : Shoot) → IsPlainListing d → IsPlainShoot shoot → IsPlainOutcome (viewed d kept shoot)
+viewed_plain d kept (Picture file view names) h k =
+    let tiles : List TileName = tile_names (scene_of d.objects names) view in
+    scene_fits d.objects names (pictured kept (scene_of d.objects names) file view) k.1.one_line (picture_plain file view (length (shot kept tiles)) (length (reused kept tiles)) k.0, tt)
+viewed_plain d kept (Check view names) h k = scene_fits d.objects names (lines_alone (lines_of_check (scene_of d.objects names) view)) k.one_line (check_plain d.objects names view (plain_names d.objects h))
 
 all_there_plain : (missing : Option Name) (lines : List (List ℕ)) → IsPlainName missing → AllByRecursion (Lacks 10) lines → IsPlainOutcome (lines_unless_missing missing lines)
 all_there_plain None lines h k = k
@@ -100,11 +103,11 @@ found_plain d (queries.Tree names) h k = all_there_plain (first_absent d.objects
 found_plain d (queries.Save file) h k = (lacks_append 10 (codes "saved ") file (computed 10 (codes "saved ") refl) k, tt)
 found_plain d (queries.Shot ray names) h k = scene_fits d.objects names (lines_alone (lines_of_scene (scene_of d.objects names) ray)) k.one_line (shot_plain d.objects names ray (plain_names d.objects h))
 
-reply_fits : (d : Listing) (own : Own) (c : Command) → IsPlainListing d → Any_own own → IsPlain c → IsPrintableReply (shown (outcome_of d own.used c))
+reply_fits : (d : Listing) (own : OwnState) (c : Command) → IsPlainListing d → Any_own own → IsPlain c → IsPrintableReply (shown (outcome_of d own c))
 reply_fits d own (Bad refusal) h q k = k.one_line
 reply_fits d own (IsEdit edit) h q k = edit_fits d (refusal_of d edit) (made d edit) (refusal_plain d edit k)
 reply_fits d own (IsQuery query) h q k = within_fits own.used (found d query) (found_plain d query h k)
-reply_fits d own (IsShoot shoot) h q k = within_fits own.used (viewed d shoot) (viewed_plain d shoot h k)
+reply_fits d own (IsShoot shoot) h q k = within_fits own.used (viewed d own.tiles shoot) (viewed_plain d own.tiles shoot h k)
 
 -- none of them says memory
 edit_tells : (refusal : Option Refusal) (made : Listing) → MayBePlain refusal → says_memory (shown (edit_outcome (unless refusal made))) ≡ false
@@ -134,9 +137,9 @@ size_tells false size found = tt
 scene_tells : (es : Entries) (names : List Name) (found : Found) → Tells (found_unless (prep_fault es names) found)
 scene_tells es names found = missing_tells (first_missing es names) (too_many es names) found (size_tells (nat_lt most_size (names_size es names)) (told_size (names_size es names)) found)
 
-viewed_tells : (d : Listing) (shoot : Shoot) → Tells (viewed d shoot)
-viewed_tells d (Picture file view names) = scene_tells d.objects names (pictured (scene_of d.objects names) file view)
-viewed_tells d (Check view names) = scene_tells d.objects names (lines_alone (lines_of_check (scene_of d.objects names) view))
+viewed_tells : (d : Listing) (kept : List TileName) (shoot : Shoot) → Tells (viewed d kept shoot)
+viewed_tells d kept (Picture file view names) = scene_tells d.objects names (pictured kept (scene_of d.objects names) file view)
+viewed_tells d kept (Check view names) = scene_tells d.objects names (lines_alone (lines_of_check (scene_of d.objects names) view))
 
 all_there_tell : (missing : Option Name) (lines : List (List ℕ)) → Tells (lines_unless_missing missing lines)
 all_there_tell None lines = tt
@@ -149,11 +152,11 @@ found_tells d (queries.Tree names) = all_there_tell (first_absent d.objects name
 found_tells d (queries.Save file) = tt
 found_tells d (queries.Shot ray names) = scene_tells d.objects names (lines_alone (lines_of_scene (scene_of d.objects names) ray))
 
-reply_tells : (d : Listing) (own : Own) (c : Command) → IsPlain c → says_memory (shown (outcome_of d own.used c)) ≡ false
+reply_tells : (d : Listing) (own : OwnState) (c : Command) → IsPlain c → says_memory (shown (outcome_of d own c)) ≡ false
 reply_tells d own (Bad refusal) k = k.other
 reply_tells d own (IsEdit edit) k = edit_tells (refusal_of d edit) (made d edit) (refusal_plain d edit k)
 reply_tells d own (IsQuery query) k = within_tells own.used (found d query) (found_tells d query)
-reply_tells d own (IsShoot shoot) k = within_tells own.used (viewed d shoot) (viewed_tells d shoot)
+reply_tells d own (IsShoot shoot) k = within_tells own.used (viewed d own.tiles shoot) (viewed_tells d own.tiles shoot)
 
 pub keeps : KeepsLines core_rules IsPlainListing Any_own IsPlain
 keeps = record { edited = edited_fits; kept = λ d own c h q k. tt; forgotten = λ own c q k. tt; reply = reply_fits; tells = reply_tells }

@@ -1,6 +1,4 @@
-pub mod Led
 pub mod PictureLaws
-pub mod CheckLaws
 pub mod ShotLaws
 pub mod ObjectLaws
 pub mod EditLaws

@@ -7,7 +7,7 @@ use Rattle.command_set.specs.declared.command.Command.{Command}
 use Rattle.directory.specs.Listing.{Listing}
 use Rattle.session_run.specs.Laws.{NeverFall, VersionsNeverFall, versions_of, RisesWithEdits, AnswersAtPlaces}
 use Rattle.session_run.specs.Replies.{core_rules, directory_made}
-use Rattle.session_run.specs.declared.answer.Own.{Own}
+use Rattle.session_run.specs.Own.{OwnState}
 
 committed_rises : (book : Book Listing) (made : Option Listing) → book.version ≤ (committed book made).version
 committed_rises book None = omega arith
@@ -24,10 +24,10 @@ falls_step : (t : Bool) (from : ℕ) (a : Answer File) (rest : List (Answer File
 falls_step true from a rest le one other = (le, one)
 falls_step false from a rest le one other = other
 
-never_fall : (from : ℕ) (s : State Listing Own) (entries : List (Entry (Marked Command))) (session : ℕ) → from ≤ s.book.version → NeverFall from (versions_of (lane (run_of core_rules s entries) session))
+never_fall : (from : ℕ) (s : State Listing OwnState) (entries : List (Entry (Marked Command))) (session : ℕ) → from ≤ s.book.version → NeverFall from (versions_of (lane (run_of core_rules s entries) session))
 never_fall from s [] session le = tt
 never_fall from s (e ∷ rest) session le =
-    let next : State Listing Own = stepped core_rules s e in
+    let next : State Listing OwnState = stepped core_rules s e in
     let up : s.book.version ≤ next.book.version = rises s.book e.item in
     falls_step (e.session == session) from (answered core_rules s e).item (lane (run_of core_rules next rest) session) (omega (arith, le, up))
     (never_fall next.book.version next rest session (omega arith)) (never_fall from next rest session (omega (arith, le, up)))

@@ -2,6 +2,7 @@
 use Rattle.std.proofs.Common.{◌≡◌, ◌≤◌, ◌+◌, ℕ, Bool, true, false, not, ◌&&◌, cond, List, [], ◌∷◌, ◌++◌, Option, None, Some, IfOk, Result, Ok, Err, is_err, length, map, codes, ◌∙◌, refl, ap, ap₂, sym, subst, arith, append_assoc, length-append}
 use Rattle.std.proofs.lemmas.List.{append-nil, map_push}
 use Rattle.std.proofs.lemmas.Option.{IfSome_then}
+use Rattle.std.specs.Arc.{arc_value}
 use Rattle.std.specs.HashMap.{get}
 use Rattle.std.specs.List.{AllByRecursion}
 use mathlib.Core.List.{IsPrefix}
@@ -18,6 +19,7 @@ use Rattle.session_merge.proofs.CountLaws.{state_by_version, versions_never_fall
 use Rattle.command_set.specs.Refusals.{refusal_text}
 use Rattle.command_set.specs.declared.command.Command.{Command}
 use Rattle.command_set.specs.declared.command.Command.TheVariants.{Bad, Edit as IsAnEdit, Query as IsQuery, Shoot as IsShoot}
+use Rattle.command_set.specs.declared.command.Edit.{Edit}
 use Rattle.command_set.specs.declared.refusal.Refusal.{Refusal}
 use Rattle.command_set.specs.declared.refusal.Refusal.TheVariants.{Memory}
 use Rattle.directory.specs.Listing.{Listing}
@@ -28,17 +30,17 @@ use Rattle.session_run.specs.Answers.{core_answer}
 use Rattle.session_run.specs.Kept.{IsCurrent, IsOf}
 use Rattle.scene_prep.specs.Outcomes.{IsSceneOf}
 use Rattle.name_core.specs.Same.{same_name}
-use Rattle.session_run.specs.Replies.{core_rules, directory_made, edit_outcome, own_with, shown, table_outcome}
+use Rattle.session_run.specs.Replies.{core_rules, directory_made, edit_outcome, forgotten, own_with, shown, table_outcome}
 use Rattle.session_run.specs.Sessions.{IsCurrentPast, IsNext, book_at, mark_of, start_book}
 use Rattle.session_run.specs.declared.answer.Answer.{Answer}
-use Rattle.session_run.specs.declared.answer.Own.{Own}
+use Rattle.session_run.specs.Own.{OwnState}
 use Rattle.session_run.specs.declared.keep.Keep.{Keep}
 use Rattle.session_run.specs.declared.keep.KeptScene.{KeptScene}
 use Rattle.session_run.proofs.MoreLaws.{HasMore, IsMore, begins_all, book_is, book_more, grows, has_more}
 use Rattle.session_run.proofs.TellLaws.{IsOther, MayBeOther, refusal_other}
 
 -- what holds of a session after some of its commands
-pub record Holds (opening : Listing) (first : Own) (commands : List Command) (old new : PassView Command) (answers : List Answer) (own : Own) : Type 0 where
+pub record Holds (opening : Listing) (first : OwnState) (commands : List Command) (old new : PassView Command) (answers : List Answer) (own : OwnState) : Type 0 where
   pub places : List ℕ
   pub grown : new.own ≡ old.own ++ places
   pub later : AllByRecursion (λ (p : ℕ). length old.seen ≤ p) places
@@ -48,7 +50,7 @@ pub record Holds (opening : Listing) (first : Own) (commands : List Command) (ol
   pub table : new.table ≡ old.table
   pub session : new.session ≡ old.session
 
-pub holds_first : (opening : Listing) (own : Own) (pass : PassView Command) → Holds opening own [] pass pass [] own
+pub holds_first : (opening : Listing) (own : OwnState) (pass : PassView Command) → Holds opening own [] pass pass [] own
 holds_first opening own pass = record {
   places = [];
   grown = sym (append-nil pass.own);
@@ -68,7 +70,7 @@ all_more n (p ∷ places) place all le = (all.0, all_more n places place all.1 l
 prefix_length : (xs ys : List (Noted Command)) → IsPrefix xs ys → length xs ≤ length ys
 prefix_length xs ys p = omega (arith, length-append xs p.0, ap (length {A = Noted Command}) p.1)
 
-pub holds_next : (opening : Listing) (first own kept : Own) (commands : List Command) (command : Command) (old mid new : PassView Command) (answers : List Answer) (answer : Answer)
+pub holds_next : (opening : Listing) (first own kept : OwnState) (commands : List Command) (command : Command) (old mid new : PassView Command) (answers : List Answer) (answer : Answer)
     → Holds opening first commands old mid answers own → IsNext opening command own mid new answer kept → Holds opening first (commands ++ command ∷ []) old new (answers ++ answer ∷ []) kept
 holds_next opening first own kept commands command old mid new answers answer h n =
     let a : Adds n.before (note_of mid.session command n.memory) mid new = n.adds in
@@ -115,12 +117,13 @@ module _ {E : Type 0} where
   edit_replies (Ok (Err r)) None d is = absurd (let wrong : Err r ≡ Ok tt = is in cc)
   edit_replies (Ok (Err r)) (Some refusal) d is = let same : r ≡ refusal = cc in ap (λ x. Refused (refusal_text x)) same
 
-  edit_owns : (answer : Result (Result (Unit {0}) Refusal) E) (refusal : Option Refusal) (d : Listing) (own : Own) → own ≡ cond (is_err answer) own (own_with own (edit_outcome (unless refusal d)))
-  edit_owns (Err e) refusal d own = refl
-  edit_owns (Ok r) None d own = ap (λ (n : ℕ). record { used = n }) (omega arith)
-  edit_owns (Ok r) (Some refusal) d own = refl
+  edit_owns : (answer : Result (Result (Unit {0}) Refusal) E) (refusal : Option Refusal) (d here : Listing) (own : OwnState) (edit : Edit)
+      → own ≡ cond (is_err answer) own (own_with here own (IsAnEdit edit) (edit_outcome (unless refusal d)))
+  edit_owns (Err e) refusal d here own edit = refl
+  edit_owns (Ok r) None d here own edit = ap (λ (n : ℕ). record { tiles = own.tiles; used = n }) (omega arith)
+  edit_owns (Ok r) (Some refusal) d here own edit = refl
 
-  pub edit_next : (opening : Listing) (command : Command) (own : Own) (old new : PassView Command) (version : ℕ) (answer : Result (Result (Unit {0}) Refusal) E) → is_look command ≡ false
+  pub edit_next : (opening : Listing) (command : Command) (own : OwnState) (old new : PassView Command) (version : ℕ) (answer : Result (Result (Unit {0}) Refusal) E) → is_look command ≡ false
       → IsEdit next commits reply opening command old new version answer → IsNext opening command own old new (record { version = version; outcome = table_outcome answer }) own
   edit_next opening (Bad refusal) own old new version answer edits e = absurd (let wrong : true ≡ false = edits in cc)
   edit_next opening (IsQuery query) own old new version answer edits e = absurd (let wrong : true ≡ false = edits in cc)
@@ -137,7 +140,7 @@ module _ {E : Type 0} where
       sym (book_is core_rules opening new.seen) ∙ book_more core_rules (start_book opening) e.before new.seen note (e.adds).seen in
       let reply_is : shown (table_outcome answer) ≡ cond (is_err answer) (Refused (codes "memory")) (shown (edit_outcome (edited past.directory edit))) =
       edit_replies answer (refusal_of d edit) (made d edit) e.reply_is ∙ ap (λ (b : run.Book Listing). cond (is_err answer) (Refused (codes "memory")) (shown (edit_outcome (edited b.directory edit)))) (sym here) in
-      let own_is : own ≡ cond (is_err answer) own (own_with own (edit_outcome (edited past.directory edit))) = edit_owns answer (refusal_of past.directory edit) (made past.directory edit) own in
+      let own_is : own ≡ cond (is_err answer) own (own_with past.directory own command (edit_outcome (edited past.directory edit))) = edit_owns answer (refusal_of past.directory edit) (made past.directory edit) past.directory own edit in
       record {
         before = e.before;
         memory = is_err answer;
@@ -150,7 +153,7 @@ module _ {E : Type 0} where
       }
 
 -- a look, as an entry
-module _ (opening : Listing) (command : Command) (own : Own) (old new : PassView Command) (version : ℕ) (looks : is_look command ≡ true) (before : List (Noted Command))
+module _ (opening : Listing) (command : Command) (own : OwnState) (old new : PassView Command) (version : ℕ) (looks : is_look command ≡ true) (before : List (Noted Command))
     (adds : Adds before (note_of old.session command false) old new) (version_is : version ≡ commits_in next commits opening new.seen) where
   abbrev past : run.Book Listing
   past = book_past core_rules (start_book opening) (entries_of before)
@@ -163,7 +166,7 @@ module _ (opening : Listing) (command : Command) (own : Own) (old new : PassView
   unmarked_look : (answer : Answer) → false ≡ mark_of is_look command (core_answer answer)
   unmarked_look answer = ap (λ (b : Bool). not b && says_memory (core_answer answer)) (sym looks)
 
-  pub look_next : (d : Listing) (answer : Answer) (kept : Own) → d ≡ state_after next opening new.seen
+  pub look_next : (d : Listing) (answer : Answer) (kept : OwnState) → d ≡ state_after next opening new.seen
       → core_answer answer ≡ answer_of core_rules (book_at d version) own (shown_as command (core_answer answer)) → kept ≡ own_after core_rules (book_at d version) own (shown_as command (core_answer answer))
       → IsNext opening command own old new answer kept
   look_next d answer kept is answer_is kept_is =
@@ -178,7 +181,7 @@ module _ (opening : Listing) (command : Command) (own : Own) (old new : PassView
       }
 
   -- there was no memory for it
-  pub missed_look : IsNext opening command own old new (record { version = version; outcome = Err Memory }) own
+  pub missed_look : IsNext opening command own old new (record { version = version; outcome = Err Memory }) (forgotten own command)
   missed_look = record {
     before = before;
     memory = false;
@@ -195,7 +198,7 @@ kept_of version now d d' le same kept is = record {
   not_later = omega (arith, is.not_later, le);
   scene_is = λ at.
       let still : now ≡ version = omega (arith, is.not_later, le, at) in
-      subst (λ (x : Listing). IsSceneOf (Ok kept.scene) x.objects kept.names.items) (sym (same still)) (is.scene_is (omega (arith, at, still)));
+      subst (λ (x : Listing). IsSceneOf (Ok (arc_value kept.scene)) x.objects kept.names.items) (sym (same still)) (is.scene_is (omega (arith, at, still)));
 }
 
 current_by : (version now : ℕ) (d d' : Listing) → version ≤ now → (now ≡ version → d' ≡ d) → (keep : Keep) → IsCurrent keep version d.objects → IsCurrent keep now d'.objects

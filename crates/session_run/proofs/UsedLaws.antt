@@ -7,6 +7,7 @@ use Rattle.command_set.specs.declared.refusal.Refusal.{Refusal}
 use Rattle.command_set.specs.declared.refusal.Refusal.TheVariants.{Quota}
 use Rattle.directory.specs.Listing.{Listing}
 use Rattle.edit_core.specs.Refused.{edited}
+use Rattle.session_run.specs.Own.{OwnState}
 use Rattle.session_run.specs.Replies.{Outcome, most_used, size_of, within_quota, found, viewed, edit_outcome, outcome_of, used_after}
 use Rattle.session_run.specs.declared.answer.Found.{Found}
 
@@ -22,8 +23,8 @@ edit_within : (used : ℕ) (made : Result Listing Refusal) → used ≤ most_use
 edit_within used (Ok d) h = omega (arith, h)
 edit_within used (Err refusal) h = h
 
-pub used_within : (d : Listing) (used : ℕ) (command : Command) → used ≤ most_used → used_after used (outcome_of d used command) ≤ most_used
-used_within d used (Bad refusal) h = h
-used_within d used (IsEdit edit) h = edit_within used (edited d edit) h
-used_within d used (IsQuery query) h = quota_within used (found d query) h
-used_within d used (IsShoot shoot) h = quota_within used (viewed d shoot) h
+pub used_within : (d : Listing) (own : OwnState) (command : Command) → own.used ≤ most_used → used_after own.used (outcome_of d own command) ≤ most_used
+used_within d own (Bad refusal) h = h
+used_within d own (IsEdit edit) h = edit_within own.used (edited d edit) h
+used_within d own (IsQuery query) h = quota_within own.used (found d query) h
+used_within d own (IsShoot shoot) h = quota_within own.used (viewed d own.tiles shoot) h

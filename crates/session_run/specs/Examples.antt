@@ -1,5 +1,5 @@
 -- Small directories, and what the definitions make of commands.
-use Rattle.std.specs.Prelude.{◌≡◌, refl, pos, [], ◌∷◌, ◌++◌, None, Some, Ok, Err, codes}
+use Rattle.std.specs.Prelude.{◌≡◌, ℕ, refl, pos, [], ◌∷◌, ◌++◌, None, Some, Ok, Err, codes}
 use Rattle.lattice_core.specs.declared.ray.Dir.TheVariants.{PlusX}
 use Rattle.lattice_core.specs.declared.ray.Ray.{Ray}
 use Rattle.lattice_core.specs.declared.view.View.{View}
@@ -17,6 +17,7 @@ use Rattle.command_set.specs.declared.refusal.Refusal.TheVariants.{Syntax, Exist
 use Rattle.directory.specs.Listing.{Listing}
 use Rattle.scene_prep.specs.Regions.{regions_of_name}
 use Rattle.scene_prep.specs.Sizes.{size_of_name}
+use Rattle.session_run.specs.Own.{OwnState}
 use Rattle.session_run.specs.Replies.{no_objects, lines_alone, picture_line, outcome_of, directory_made, used_after}
 
 -- the half-space of the points with x at most 5
@@ -26,47 +27,51 @@ half = record { body = Solid (solids.Half (record { normal = record { x = pos 1;
 abbrev along_x : Ray
 along_x = record { origin = record { x = pos 0; y = pos 0; z = pos 0 }; dir = PlusX }
 
+-- a session that keeps no tile
+abbrev used_so_far : ℕ → OwnState
+used_so_far used = record { tiles = []; used = used }
+
 -- a half-space, a region and another combination without members
 abbrev three : Listing
 three = record { title = []; objects = (codes "h", half) ∷ (codes "r", record { body = Comb region_attr None; kept = [] }) ∷ (codes "g", record { body = Comb group_attr None; kept = [] }) ∷ [] }
 
-names_of_three : outcome_of three 0 (IsQuery queries.Names) ≡ Ok (lines_alone (codes "h" ∷ codes "r/R" ∷ codes "g/" ∷ []))
+names_of_three : outcome_of three (used_so_far 0) (IsQuery queries.Names) ≡ Ok (lines_alone (codes "h" ∷ codes "r/R" ∷ codes "g/" ∷ []))
 names_of_three = refl
 
 -- these lines have nine bytes with their line feeds
-nine_bytes : used_after 7 (outcome_of three 7 (IsQuery queries.Names)) ≡ 16
+nine_bytes : used_after 7 (outcome_of three (used_so_far 7) (IsQuery queries.Names)) ≡ 16
 nine_bytes = refl
 
-nine_bytes_left : outcome_of three 67108855 (IsQuery queries.Names) ≡ Ok (lines_alone (codes "h" ∷ codes "r/R" ∷ codes "g/" ∷ []))
+nine_bytes_left : outcome_of three (used_so_far 67108855) (IsQuery queries.Names) ≡ Ok (lines_alone (codes "h" ∷ codes "r/R" ∷ codes "g/" ∷ []))
 nine_bytes_left = refl
 
-eight_bytes_left : outcome_of three 67108856 (IsQuery queries.Names) ≡ Err Quota
+eight_bytes_left : outcome_of three (used_so_far 67108856) (IsQuery queries.Names) ≡ Err Quota
 eight_bytes_left = refl
 
 -- a refused command uses nothing
-nothing_used : used_after 67108856 (outcome_of three 67108856 (IsQuery queries.Names)) ≡ 67108856
+nothing_used : used_after 67108856 (outcome_of three (used_so_far 67108856) (IsQuery queries.Names)) ≡ 67108856
 nothing_used = refl
 
-a_shot : outcome_of three 0 (IsQuery (queries.Shot along_x (codes "h" ∷ []))) ≡ Ok (lines_alone (codes "1 /h 0 5" ∷ []))
+a_shot : outcome_of three (used_so_far 0) (IsQuery (queries.Shot along_x (codes "h" ∷ []))) ≡ Ok (lines_alone (codes "1 /h 0 5" ∷ []))
 unfolding place_cmp digits regions_of_name size_of_name
 a_shot = refl
 
 -- a combination without members has no region, and takes no place
-a_shot_of_several_names : outcome_of three 0 (IsQuery (queries.Shot along_x (codes "g" ∷ codes "r" ∷ codes "h" ∷ []))) ≡ Ok (lines_alone (codes "1 /h 0 5" ∷ []))
+a_shot_of_several_names : outcome_of three (used_so_far 0) (IsQuery (queries.Shot along_x (codes "g" ∷ codes "r" ∷ codes "h" ∷ []))) ≡ Ok (lines_alone (codes "1 /h 0 5" ∷ []))
 unfolding place_cmp digits regions_of_name size_of_name
 a_shot_of_several_names = refl
 
 -- a name that is given twice has two regions, and the first of them has the ray
-a_shot_of_one_name_twice : outcome_of three 0 (IsQuery (queries.Shot along_x (codes "h" ∷ codes "h" ∷ []))) ≡ Ok (lines_alone (codes "1 /h 0 5" ∷ []))
+a_shot_of_one_name_twice : outcome_of three (used_so_far 0) (IsQuery (queries.Shot along_x (codes "h" ∷ codes "h" ∷ []))) ≡ Ok (lines_alone (codes "1 /h 0 5" ∷ []))
 unfolding place_cmp digits regions_of_name size_of_name
 a_shot_of_one_name_twice = refl
 
 -- the first name that is not there is told, before the bytes used
-missing_before_quota : outcome_of three 67108864 (IsQuery (queries.Shot along_x (codes "h" ∷ codes "x" ∷ codes "y" ∷ []))) ≡ Err (Missing (codes "x"))
+missing_before_quota : outcome_of three (used_so_far 67108864) (IsQuery (queries.Shot along_x (codes "h" ∷ codes "x" ∷ codes "y" ∷ []))) ≡ Err (Missing (codes "x"))
 unfolding size_of_name
 missing_before_quota = refl
 
-no_bytes_left : outcome_of three 67108864 (IsQuery (queries.Shot along_x (codes "h" ∷ []))) ≡ Err Quota
+no_bytes_left : outcome_of three (used_so_far 67108864) (IsQuery (queries.Shot along_x (codes "h" ∷ []))) ≡ Err Quota
 unfolding place_cmp digits regions_of_name size_of_name
 no_bytes_left = refl
 
@@ -74,33 +79,33 @@ no_bytes_left = refl
 an_edit : directory_made no_objects (IsEdit (Make (codes "h") half)) ≡ Some (record { title = []; objects = (codes "h", half) ∷ [] })
 an_edit = refl
 
-its_answer : outcome_of no_objects 67108864 (IsEdit (Make (codes "h") half)) ≡ Ok (lines_alone [])
+its_answer : outcome_of no_objects (used_so_far 67108864) (IsEdit (Make (codes "h") half)) ≡ Ok (lines_alone [])
 its_answer = refl
 
 a_refused_edit : directory_made three (IsEdit (Make (codes "h") half)) ≡ None
 a_refused_edit = refl
 
-its_refusal : outcome_of three 0 (IsEdit (Make (codes "h") half)) ≡ Err (Exists (codes "h"))
+its_refusal : outcome_of three (used_so_far 0) (IsEdit (Make (codes "h") half)) ≡ Err (Exists (codes "h"))
 its_refusal = refl
 
 -- the first name that is not there is told
-missing_names : outcome_of three 0 (IsEdit (Kill (codes "h" ∷ codes "x" ∷ codes "y" ∷ []))) ≡ Err (Missing (codes "x"))
+missing_names : outcome_of three (used_so_far 0) (IsEdit (Kill (codes "h" ∷ codes "x" ∷ codes "y" ∷ []))) ≡ Err (Missing (codes "x"))
 missing_names = refl
 
-a_bad_line : outcome_of three 0 (Bad Syntax) ≡ Err Syntax
+a_bad_line : outcome_of three (used_so_far 0) (Bad Syntax) ≡ Err Syntax
 a_bad_line = refl
 
 -- the whole text is put as a file, and its bytes are used as well as those of the body
-no_text : outcome_of no_objects 0 (IsQuery (queries.Save (codes "a"))) ≡ Ok (record { body = codes "saved a" ∷ []; file = Some (record { name = codes "a"; bytes = codes "title {}\nunits mm\n" }) })
+no_text : outcome_of no_objects (used_so_far 0) (IsQuery (queries.Save (codes "a"))) ≡ Ok (record { body = codes "saved a" ∷ []; file = Some (record { name = codes "a"; bytes = codes "title {}\nunits mm\n" }) })
 no_text = refl
 
-its_bytes : used_after 5 (outcome_of no_objects 5 (IsQuery (queries.Save (codes "a")))) ≡ 31
+its_bytes : used_after 5 (outcome_of no_objects (used_so_far 5) (IsQuery (queries.Save (codes "a")))) ≡ 31
 its_bytes = refl
 
-room_for_the_file : outcome_of no_objects 67108838 (IsQuery (queries.Save (codes "a"))) ≡ outcome_of no_objects 0 (IsQuery (queries.Save (codes "a")))
+room_for_the_file : outcome_of no_objects (used_so_far 67108838) (IsQuery (queries.Save (codes "a"))) ≡ outcome_of no_objects (used_so_far 0) (IsQuery (queries.Save (codes "a")))
 room_for_the_file = refl
 
-no_room_for_the_file : outcome_of no_objects 67108839 (IsQuery (queries.Save (codes "a"))) ≡ Err Quota
+no_room_for_the_file : outcome_of no_objects (used_so_far 67108839) (IsQuery (queries.Save (codes "a"))) ≡ Err Quota
 no_room_for_the_file = refl
 
 -- one pixel
@@ -113,20 +118,20 @@ unfolding digits
 a_line_of_a_picture = refl
 
 -- a ray that starts inside shows the colour itself, which is white where there is none
-a_picture : outcome_of three 0 (IsShoot (Picture (codes "p") at_once (codes "h" ∷ [])))
+a_picture : outcome_of three (used_so_far 0) (IsShoot (Picture (codes "p") at_once (codes "h" ∷ [])))
     ≡ Ok (record { body = codes "picture p 1 1 tiles 1 shot 1 reused 0" ∷ []; file = Some (record { name = codes "p"; bytes = codes "P6\n1 1\n255\n" ++ 255 ∷ 255 ∷ 255 ∷ [] }) })
 unfolding place_cmp digits regions_of_name size_of_name
 a_picture = refl
 
 -- 38 bytes of the line and 14 of the file
-no_room_for_the_picture : outcome_of three 67108813 (IsShoot (Picture (codes "p") at_once (codes "h" ∷ []))) ≡ Err Quota
+no_room_for_the_picture : outcome_of three (used_so_far 67108813) (IsShoot (Picture (codes "p") at_once (codes "h" ∷ []))) ≡ Err Quota
 unfolding place_cmp digits regions_of_name size_of_name
 no_room_for_the_picture = refl
 
-overlaps : outcome_of three 0 (IsShoot (Check at_once (codes "h" ∷ codes "g" ∷ codes "h" ∷ []))) ≡ Ok (lines_alone (codes "overlap 1 /h 2 /h rays 1 first 0 0 0 5" ∷ []))
+overlaps : outcome_of three (used_so_far 0) (IsShoot (Check at_once (codes "h" ∷ codes "g" ∷ codes "h" ∷ []))) ≡ Ok (lines_alone (codes "overlap 1 /h 2 /h rays 1 first 0 0 0 5" ∷ []))
 unfolding place_cmp digits regions_of_name size_of_name
 overlaps = refl
 
-no_overlaps_of_a_missing_name : outcome_of three 67108864 (IsShoot (Check at_once (codes "h" ∷ codes "x" ∷ []))) ≡ Err (Missing (codes "x"))
+no_overlaps_of_a_missing_name : outcome_of three (used_so_far 67108864) (IsShoot (Check at_once (codes "h" ∷ codes "x" ∷ []))) ≡ Err (Missing (codes "x"))
 unfolding size_of_name
 no_overlaps_of_a_missing_name = refl

@@ -1,5 +1,6 @@
 -- Scenes that sessions keep.
 use Rattle.std.specs.Prelude.{◌≡◌, ◌⊎◌, ◌+◌, ◌≤◌, ℕ, List, Ok, IfSome}
+use Rattle.std.specs.Arc.{arc_value}
 use Rattle.std.specs.HashMap.{get}
 use Rattle.name_core.specs.declared.name.Name.{Name}
 use Rattle.name_core.specs.Same.{same_name}
@@ -12,11 +13,11 @@ use Rattle.session_run.specs.declared.keep.Keep.{Keep}
 -- a scene was not prepared later than at this version, and if it was at this one it is that of its names in the directory
 pub record IsOf (version : ℕ) (directory : Entries) (kept : KeptScene) : Type 0 where
   pub not_later : kept.version ≤ version
-  pub scene_is : kept.version ≡ version → IsSceneOf (Ok kept.scene) directory kept.names.items
+  pub scene_is : kept.version ≡ version → IsSceneOf (Ok (arc_value kept.scene)) directory kept.names.items
 
 -- a kept scene is that of these names in the directory of this version
 abbrev pub IsKeptOf : KeptScene → ℕ → Entries → List Name → Type 0
-IsKeptOf kept version directory names = IsOf version directory kept × IsSceneOf (Ok kept.scene) directory names
+IsKeptOf kept version directory names = IsOf version directory kept × IsSceneOf (Ok (arc_value kept.scene)) directory names
 
 -- what a session keeps can be used with the directory of this version, the large scene and each small one
 pub record IsCurrent (keep : Keep) (version : ℕ) (directory : Entries) : Type 0 where

@@ -6,7 +6,7 @@ use Rattle.transcript.specs.Run.{Answer, Book, Marked, State, answered, book_aft
 use Rattle.command_set.specs.declared.command.Command.{Command}
 use Rattle.directory.specs.Listing.{Listing}
 use Rattle.session_run.specs.Replies.{core_rules, directory_made}
-use Rattle.session_run.specs.declared.answer.Own.{Own}
+use Rattle.session_run.specs.Own.{OwnState}
 
 -- numbers of which none is less than the one before it, and the first not less than another
 abbrev pub NeverFall : ℕ → List ℕ → Type 0
@@ -18,20 +18,20 @@ versions_of answers = map (λ (a : Answer File). a.version) answers
 
 -- along the commands of one session versions never fall, whatever the other sessions do
 abbrev pub VersionsNeverFall : Type 0
-VersionsNeverFall = (start : State Listing Own) (entries : List (Entry (Marked Command))) (session : ℕ) → NeverFall start.book.version (versions_of (lane (run_of core_rules start entries) session))
+VersionsNeverFall = (start : State Listing OwnState) (entries : List (Entry (Marked Command))) (session : ℕ) → NeverFall start.book.version (versions_of (lane (run_of core_rules start entries) session))
 
 -- a command raises the version by one where it is an edit that is accepted and not marked, and else leaves it
 abbrev pub RisesWithEdits : Type 0
 RisesWithEdits = (book : Book Listing) (m : Marked Command) → (book_after core_rules book m).version ≡ book.version + (if not m.memory && is_some (directory_made book.directory m.command) then 1 else 0)
 
 -- the state after some commands
-abbrev pub state_after : State Listing Own → List (Entry (Marked Command)) → State Listing Own
+abbrev pub state_after : State Listing OwnState → List (Entry (Marked Command)) → State Listing OwnState
 state_after s [] = s
 state_after s (e ∷ rest) = state_after (stepped core_rules s e) rest
 
 -- the answer of a command is that of the state at its place, which the commands before it have made
 abbrev pub AnswersAtPlaces : Type 0
 AnswersAtPlaces =
-    (start : State Listing Own) (before later : List (Entry (Marked Command))) (e : Entry (Marked Command))
+    (start : State Listing OwnState) (before later : List (Entry (Marked Command))) (e : Entry (Marked Command))
     → run_of core_rules start (before ++ e ∷ later)
     ≡ run_of core_rules start before ++ answered core_rules (state_after start before) e ∷ run_of core_rules (stepped core_rules (state_after start before) e) later

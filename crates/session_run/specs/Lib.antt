@@ -1,3 +1,4 @@
+pub mod Own
 pub mod Replies
 pub mod Answers
 pub mod Laws

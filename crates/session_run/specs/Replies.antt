@@ -35,7 +35,10 @@ use Rattle.scene_prep.specs.declared.fault.PrepFault.TheVariants as prep
 use Rattle.scene_prep.specs.Scenes.{scene_of}
 use Rattle.scene_prep.specs.Outcomes.{prep_fault}
 use Rattle.session_run.specs.declared.answer.Found.{Found}
-use Rattle.session_run.specs.declared.answer.Own.{Own}
+use Rattle.tile_shot.specs.Named.{TileName}
+use Rattle.view_shot.specs.Kept.{after_picture, reused, shot, tile_names}
+use Rattle.session_run.specs.Own.{OwnState}
+pub use Rattle.session_run.specs.Own.{nothing_used}
 
 -- what a command is answered: the lines of its body, with a file where it puts one, or why it is refused
 abbrev pub Outcome : Type 0
@@ -89,13 +92,17 @@ picture_line file view shot reused =
 abbrev pub picture_bytes : List Region → View → List ℕ
 picture_bytes scene view = header_text view.w view.h ++ view_bytes scene view
 
--- the picture of a scene as a file, and its line. No tile is kept, so each is shot
-abbrev pub pictured : List Region → Name → View → Found
-pictured scene file view = record { body = picture_line file view (tiles_of view) 0 ∷ []; file = Some (record { name = file; bytes = picture_bytes scene view }) }
+-- The picture of a scene as a file, and its line. Those of its tiles that are kept are reused, and the others are shot; whichever
+-- they are, its bytes are those of all pixels of the scene.
+abbrev pub pictured : List TileName → List Region → Name → View → Found
+pictured kept scene file view = record {
+  body = picture_line file view (length (shot kept (tile_names scene view))) (length (reused kept (tile_names scene view))) ∷ [];
+  file = Some (record { name = file; bytes = picture_bytes scene view });
+}
 
--- the picture of the regions of the names, or why these make no scene
-abbrev pub picture_of : Entries → Name → View → List Name → Outcome
-picture_of directory file view names = found_unless (prep_fault directory names) (pictured (scene_of directory names) file view)
+-- the picture of the regions of the names, where these tiles are kept, or why the names make no scene
+abbrev pub picture_of : Entries → List TileName → Name → View → List Name → Outcome
+picture_of directory kept file view names = found_unless (prep_fault directory names) (pictured kept (scene_of directory names) file view)
 
 -- a line for each two regions of a scene that overlap on some ray of a view
 abbrev pub lines_of_check : List Region → View → List (List ℕ)
@@ -105,10 +112,10 @@ lines_of_check scene view = overlap_lines scene (view_report scene view)
 abbrev pub check_of : Entries → View → List Name → Outcome
 check_of directory view names = found_unless (prep_fault directory names) (lines_alone (lines_of_check (scene_of directory names) view))
 
--- what a command that shoots each ray of a view finds
-abbrev pub viewed : Listing → Shoot → Outcome
-viewed d (Picture file view names) = picture_of d.objects file view names
-viewed d (Check view names) = check_of d.objects view names
+-- what a command that shoots each ray of a view finds, where these tiles are kept
+abbrev pub viewed : Listing → List TileName → Shoot → Outcome
+viewed d kept (Picture file view names) = picture_of d.objects kept file view names
+viewed d kept (Check view names) = check_of d.objects view names
 
 -- the first of the names that is not there
 abbrev pub first_missing : Entries → List Name → Option Name
@@ -140,43 +147,59 @@ table_outcome (Ok (Ok done)) = Ok (lines_alone [])
 table_outcome (Ok (Err refusal)) = Err refusal
 table_outcome (Err memory) = Err Memory
 
--- what a command is answered, where its session has used so many bytes; the body of an edit is empty
-abbrev pub outcome_of : Listing → ℕ → Command → Outcome
-outcome_of d used (Bad refusal) = Err refusal
-outcome_of d used (IsEdit edit) = edit_outcome (edited d edit)
-outcome_of d used (IsQuery query) = within_quota used (found d query)
-outcome_of d used (IsShoot shoot) = within_quota used (viewed d shoot)
+-- what a command is answered, by what its session has of its own; the body of an edit is empty
+abbrev pub outcome_of : Listing → OwnState → Command → Outcome
+outcome_of d own (Bad refusal) = Err refusal
+outcome_of d own (IsEdit edit) = edit_outcome (edited d edit)
+outcome_of d own (IsQuery query) = within_quota own.used (found d query)
+outcome_of d own (IsShoot shoot) = within_quota own.used (viewed d own.tiles shoot)
 
 -- the bytes used after an answer: an accepted one adds those of its body and of its file
 abbrev pub used_after : ℕ → Outcome → ℕ
 used_after used (Ok found) = used + size_of found
 used_after used (Err refusal) = used
 
+-- the tiles that are kept after a command that is accepted: a picture moves those that it reuses and puts in those that it shot
+abbrev pub tiles_with : Listing → List TileName → Command → List TileName
+tiles_with d kept (Bad refusal) = kept
+tiles_with d kept (IsEdit edit) = kept
+tiles_with d kept (IsQuery query) = kept
+tiles_with d kept (IsShoot (Picture file view names)) = after_picture kept (tile_names (scene_of d.objects names) view)
+tiles_with d kept (IsShoot (Check view names)) = kept
+
+-- a refused command changes none of them
+abbrev pub tiles_by : Outcome → List TileName → List TileName → List TileName
+tiles_by (Ok found) after kept = after
+tiles_by (Err refusal) after kept = kept
+
 -- what the session has of its own after an answer
-abbrev pub own_with : Own → Outcome → Own
-own_with own outcome = record { used = used_after own.used outcome }
+abbrev pub own_with : Listing → OwnState → Command → Outcome → OwnState
+own_with d own command outcome = record { tiles = tiles_by outcome (tiles_with d own.tiles command) own.tiles; used = used_after own.used outcome }
+
+-- and after a command that was answered `memory`: one that shoots each ray of a view leaves no tile kept
+abbrev pub forgotten : OwnState → Command → OwnState
+forgotten own (Bad refusal) = own
+forgotten own (IsEdit edit) = own
+forgotten own (IsQuery query) = own
+forgotten own (IsShoot shoot) = record own { tiles = [] }
 
 abbrev pub shown : Outcome → Reply File
 shown (Ok found) = Accepted found.body found.file
 shown (Err refusal) = Refused (refusal_text refusal)
 
--- The rules of the core. What a session has of its own is the number of bytes that it has used.
-abbrev pub core_rules : Rules Listing Own Command File
+-- The rules of the core. What a session has of its own are the tiles that it keeps and the number of bytes that it has used.
+abbrev pub core_rules : Rules Listing OwnState Command File
 core_rules = record {
   edited = directory_made;
-  reply = λ d own command. shown (outcome_of d own.used command);
-  kept = λ d own command. own_with own (outcome_of d own.used command);
-  forgotten = λ own command. own;
+  reply = λ d own command. shown (outcome_of d own command);
+  kept = λ d own command. own_with d own command (outcome_of d own command);
+  forgotten = forgotten;
 }
-
--- a session that has used nothing
-abbrev pub nothing_used : Own
-nothing_used = record { used = 0 }
 
 -- the empty directory
 abbrev pub no_objects : Listing
 no_objects = record { title = []; objects = [] }
 
--- the state from which a run begins: the directory, version 0, and nothing used by any session
-abbrev pub start_from : Listing → State Listing Own
+-- the state from which a run begins: the directory, version 0, and nothing kept and nothing used by any session
+abbrev pub start_from : Listing → State Listing OwnState
 start_from d = record { book = record { directory = d; version = 0 }; own = λ session. nothing_used }

@@ -17,14 +17,14 @@ use Rattle.session_run.specs.Answers.{core_answer}
 use Rattle.session_run.specs.Kept.{IsCurrent}
 use Rattle.session_run.specs.Replies.{core_rules}
 use Rattle.session_run.specs.declared.answer.Answer.{Answer}
-use Rattle.session_run.specs.declared.answer.Own.{Own}
+use Rattle.session_run.specs.Own.{OwnState}
 use Rattle.session_run.specs.declared.keep.Keep.{Keep}
 
 -- its number, its commands in sequence, what it has of its own, and the scenes that it keeps
 pub record SessionView : Type 0 where
   pub session : ℕ
   pub commands : List Command
-  pub own : Own
+  pub own : OwnState
   pub keep : Keep
 
 -- the book of this directory and version
@@ -53,7 +53,7 @@ module _ {C F : Type 0} (looks : C → Bool) where
   marks_of (c ∷ commands) (a ∷ answers) = mark_of c a ∷ marks_of commands answers
 
 -- The session's own entries have grown by its commands, each once, in sequence, and past what its pass had seen. Each was answered at its entry's place, with what its own earlier commands left of what the session came with.
-pub record HasRun (opening : Listing) (own : Own) (commands : List Command) (old new : PassView Command) (answers : List Answer) : Type 0 where
+pub record HasRun (opening : Listing) (own : OwnState) (commands : List Command) (old new : PassView Command) (answers : List Answer) : Type 0 where
   pub places : List ℕ
   pub grown : new.own ≡ old.own ++ places
   pub rising : IsRising places
@@ -66,7 +66,7 @@ pub record HasRun (opening : Listing) (own : Own) (commands : List Command) (old
   pub session : new.session ≡ old.session
 
 -- One command was answered, as the session's next entry, with what the session had of its own; and what it has then.
-pub record IsNext (opening : Listing) (command : Command) (own : Own) (old new : PassView Command) (answer : Answer) (kept : Own) : Type 0 where
+pub record IsNext (opening : Listing) (command : Command) (own : OwnState) (old new : PassView Command) (answer : Answer) (kept : OwnState) : Type 0 where
   pub before : List (Noted Command)
   pub memory : Bool
   pub adds : Adds before (note_of old.session command memory) old new

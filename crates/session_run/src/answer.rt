@@ -8,12 +8,16 @@ ghost use Rattle.name_core.specs.declared.name.Name.{Name};
 ghost use Rattle.directory.specs.Walks.{Entries};
 ghost use Rattle.shot_core.specs.Shots.{lit_of};
 ghost use Rattle.scene_prep.specs.Outcomes.{IsSceneOf, prep_fault};
+ghost use Rattle.scene_prep.specs.Scenes.{scene_of};
+ghost use Rattle.tile_shot.specs.Named.{TileName};
+ghost use Rattle.view_shot.specs.Kept.{after_picture, tile_names};
 ghost use Rattle.edit_core.specs.Refused.{edited};
 ghost use Rattle.report_text.specs.Listings.{listings, written_lines};
 ghost use Rattle.report_text.specs.Names.{names_lines};
 ghost use Rattle.report_text.specs.Texts.{IsText};
 ghost use Rattle.edit_core.specs.Modelling.{is_look};
-ghost use Rattle.command_set.specs.declared.command.Command.TheVariants.{Edit as IsEdit};
+ghost use Rattle.command_set.specs.declared.command.Command.TheVariants.{Edit as IsEdit, Shoot as IsShoot};
+ghost use Rattle.command_set.specs.declared.command.Shoot.TheVariants.{Picture as IsPicture};
 ghost use Rattle.command_set.specs.declared.refusal.Refusal.TheVariants.{Memory as NoMemory};
 ghost use Rattle.session_merge.specs.Answered.{shown_as};
 ghost use Rattle.session_run.specs.Answers.{core_book, core_answer};
@@ -21,8 +25,8 @@ ghost use Rattle.session_run.specs.Sessions.{book_at};
 ghost use Rattle.session_run.specs.Kept.{IsCurrent, Moves};
 ghost use Rattle.session_run.specs.declared.keep.Keep.{Keep};
 ghost use Rattle.session_run.specs.declared.answer.Found.{Found};
-ghost use Rattle.session_run.specs.declared.answer.Own.{Own as TheOwn};
-ghost use Rattle.session_run.specs.Replies.{core_rules, most_used, lines_alone, size_of, within_quota, lines_of_scene, shot_of, found_unless, picture_of, check_of, viewed, first_missing, lines_unless_missing, saved, found, edit_outcome, outcome_of, used_after};
+ghost use Rattle.session_run.specs.Own.{OwnState, nothing_used};
+ghost use Rattle.session_run.specs.Replies.{core_rules, most_used, lines_alone, size_of, within_quota, lines_of_scene, shot_of, found_unless, picture_of, check_of, viewed, first_missing, lines_unless_missing, saved, found, edit_outcome, outcome_of, used_after, tiles_by, tiles_with, forgotten};
 
 use crate::check::check_scene;
 use crate::keep::Keep;
@@ -36,14 +40,16 @@ use item_list::Items;
 use lattice_core::Ray;
 use memory_core::Memory;
 use name_core::Name;
-use outside_core::File;
+use outside_core::{File, Gate, OpenGate};
 use report_text::{Body, TextFault, list_text, names_text, shot_text, tree_text};
 use scene_prep::PrepFault;
 use shot_core::{Lit, Scene, shoot};
 use std::alloc::Global;
-use std::marker::Brand;
+use std::marker::{Brand, Model};
 use std::sync::ledger::{Blank, Ledger};
+use std::thread::Threads;
 use step_counter::Steps;
+use view_shot::{Executor, KeptTiles};
 
 /// What an accepted command gives: the lines of its body, and a file where it puts one.
 #[derive(Debug, Drop)]
@@ -59,10 +65,41 @@ pub struct Answer {
     pub outcome: Result<Found, Refusal>,
 }
 
-/// What a session has of its own: how many bytes the bodies and files of its accepted commands have.
-#[derive(Clone, Copy, Debug, PartialEq, Eq)]
+/// What a session has of its own: the tiles that it keeps, and how many bytes the bodies and files of its accepted commands
+/// have. Contracts see the tiles as the list of their names, the last used first.
+#[derive(Drop)]
 pub struct Own {
-    pub used: u64,
+    used: u64,
+    kept: KeptTiles,
+}
+
+impl Model for Own {
+    ghost use Rattle.session_run.specs.Own.{OwnState, own_code};
+
+    ghost Value = { OwnState };
+
+    ghost coded = { own_code };
+
+    ghost view = { λ s. record { tiles = s.kept; used = s.used } };
+}
+
+impl Own {
+    /// Nothing is kept, and nothing is used.
+    pub fn new(alloc: Global) -> Result<Own, Memory>
+        ensures { IfOk result (λ own. own ≡ nothing_used) }
+    {
+        let kept = KeptTiles::new(alloc)?;
+        Ok(Own { used: 0, kept })
+    }
+
+    /// What is left of it after a command for which there was no memory.
+    pub(crate) fn forget(&mut self, command: &Command)
+        ensures { self.new ≡ forgotten self.old command.now }
+    {
+        if let Command::Shoot(_) = command {
+            self.kept.clear();
+        }
+    }
 }
 
 /// The directory, and how many edits of it were accepted.
@@ -232,7 +269,8 @@ fn shoot_scene(
 
 /// The refusal of names that make no scene.
 fn refused(fault: PrepFault) -> Result<Result<Found, Refusal>, Memory>
-    ensures { IfOk result (λ outcome. (directory : Entries) (names : List Name) → IsSceneOf (Err fault) directory names → (used : ℕ) (shown : Found) → outcome ≡ within_quota used (found_unless (prep_fault directory names) shown)) }
+    ensures outcome { IfOk result (λ outcome. (directory : Entries) (names : List Name) → IsSceneOf (Err fault) directory names → (used : ℕ) (shown : Found) → outcome ≡ within_quota used (found_unless (prep_fault directory names) shown)) }
+    ensures tiles { IfOk result (λ outcome. (after kept : List TileName) → kept ≡ tiles_by outcome after kept) }
 {
     match fault {
         PrepFault::Missing(name) => Ok(Err(Refusal::Missing(name))),
@@ -267,24 +305,27 @@ fn look_along(
 }
 
 /// The picture of the regions of names.
-fn look_at_picture(
+fn look_at_picture<R: Threads + Sync, G: Gate + Sync>(
+    executor: &Executor<R, G>,
     alloc: Global,
     version: u32,
     directory: &Directory,
     keep: &mut Keep,
     used: u64,
+    tiles: &mut KeptTiles,
     file: &Name,
     view: &CheckedView,
     names: &[Name],
 ) -> Result<Result<Found, Refusal>, Memory>
     requires quota { used ≤ most_used }
     requires current { IsCurrent keep.old version directory.now.objects }
-    ensures outcome { IfOk result (λ outcome. outcome ≡ within_quota used (picture_of directory.now.objects file.now view.now names.now)) }
+    ensures outcome { IfOk result (λ outcome. outcome ≡ within_quota used (picture_of directory.now.objects tiles.old file.now view.now names.now)) }
+    ensures tiles { IfOk result (λ outcome. tiles.new ≡ tiles_by outcome (after_picture tiles.old (tile_names (scene_of directory.now.objects names.now) view.now)) tiles.old) }
     ensures current { IsCurrent keep.new version directory.now.objects }
 {
     match keep.scene(alloc, version, directory, names) {
         Ok(kept) => {
-            let outcome = shoot_picture(alloc, &kept.scene, used, file, view);
+            let outcome = shoot_picture(executor, alloc, &kept.scene, used, tiles, file, view);
             keep.put(kept);
             outcome
         }
@@ -293,7 +334,8 @@ fn look_at_picture(
 }
 
 /// The overlaps of the regions of names.
-fn look_for_overlaps(
+fn look_for_overlaps<R: Threads + Sync, G: Gate + Sync>(
+    executor: &Executor<R, G>,
     alloc: Global,
     version: u32,
     directory: &Directory,
@@ -309,7 +351,7 @@ fn look_for_overlaps(
 {
     match keep.scene(alloc, version, directory, names) {
         Ok(kept) => {
-            let outcome = check_scene(alloc, &kept.scene, used, view);
+            let outcome = check_scene(executor, alloc, &kept.scene, used, view);
             keep.put(kept);
             outcome
         }
@@ -318,34 +360,48 @@ fn look_for_overlaps(
 }
 
 /// What a command that shoots each ray of a view is answered.
-fn look_from(
+fn look_from<R: Threads + Sync, G: Gate + Sync>(
+    executor: &Executor<R, G>,
     alloc: Global,
     version: u32,
     directory: &Directory,
     keep: &mut Keep,
     used: u64,
+    tiles: &mut KeptTiles,
     shoot: &Shoot,
 ) -> Result<Result<Found, Refusal>, Memory>
     requires quota { used ≤ most_used }
     requires current { IsCurrent keep.old version directory.now.objects }
-    ensures outcome { IfOk result (λ outcome. outcome ≡ within_quota used (viewed directory.now shoot.now)) }
+    ensures outcome { IfOk result (λ outcome. outcome ≡ within_quota used (viewed directory.now tiles.old shoot.now)) }
+    ensures tiles { IfOk result (λ outcome. tiles.new ≡ tiles_by outcome (tiles_with directory.now tiles.old (IsShoot shoot.now)) tiles.old) }
     ensures current { IsCurrent keep.new version directory.now.objects }
 {
     match shoot {
         Shoot::Picture { file, view, names } => {
             look_at_picture(
+                executor,
                 alloc,
                 version,
                 directory,
                 keep,
                 used,
+                tiles,
                 file,
                 view,
                 names.items(),
             )
         }
         Shoot::Check { view, names } => {
-            look_for_overlaps(alloc, version, directory, keep, used, view, names.items())
+            look_for_overlaps(
+                executor,
+                alloc,
+                version,
+                directory,
+                keep,
+                used,
+                view,
+                names.items(),
+            )
         }
     }
 }
@@ -423,26 +479,35 @@ fn used_with(used: u64, outcome: &Result<Found, Refusal>) -> u64
     }
 }
 
-/// What a command that is no edit finds.
-fn look_by(
+/// What a command that is no edit finds. After want of memory any tiles may be kept.
+fn look_by<R: Threads + Sync, G: Gate + Sync>(
+    executor: &Executor<R, G>,
     alloc: Global,
     version: u32,
     directory: &Directory,
+    own: &mut Own,
     keep: &mut Keep,
-    used: u64,
     command: &Command,
 ) -> Result<Result<Found, Refusal>, Memory>
     requires looks { is_look command.now ≡ true }
-    requires quota { used ≤ most_used }
+    requires quota { own.old.used ≤ most_used }
     requires current { IsCurrent keep.old version directory.now.objects }
-    ensures outcome { IfOk result (λ outcome. outcome ≡ outcome_of directory.now used command.now) }
+    ensures outcome { IfOk result (λ outcome. outcome ≡ outcome_of directory.now own.old command.now) }
+    ensures tiles { IfOk result (λ outcome. own.new.tiles ≡ tiles_by outcome (tiles_with directory.now own.old.tiles command.now) own.old.tiles) }
+    ensures used { own.new.used ≡ own.old.used }
+    ensures forgets { forgotten own.new command.now ≡ forgotten own.old command.now }
     ensures current { IsCurrent keep.new version directory.now.objects }
 {
     match command {
         Command::Bad(refusal) => Ok(Err(*refusal)),
         Command::Edit(_) => unreachable!(),
-        Command::Query(query) => look(alloc, version, directory, keep, used, query),
-        Command::Shoot(shoot) => look_from(alloc, version, directory, keep, used, shoot),
+        Command::Query(query) => look(alloc, version, directory, keep, own.used, query),
+        Command::Shoot(shoot) => {
+            let tiles = &mut own.kept;
+            look_from(
+                executor, alloc, version, directory, keep, own.used, tiles, shoot,
+            )
+        }
     }
 }
 
@@ -456,8 +521,10 @@ fn or_refused(found: Result<Result<Found, Refusal>, Memory>) -> Result<Found, Re
     }
 }
 
-/// What a command that is no edit is answered with the directory of a version, where want of memory is an answer too.
-pub fn answer_look(
+/// What a command that is no edit is answered with the directory of a version, where want of memory is an answer too. The
+/// executor shoots the tiles of pictures and checks.
+pub fn answer_look<R: Threads + Sync, G: Gate + Sync>(
+    executor: &Executor<R, G>,
     alloc: Global,
     version: u32,
     directory: &Directory,
@@ -473,18 +540,25 @@ pub fn answer_look(
     ensures quota { own.new.used ≤ most_used }
     ensures current { IsCurrent keep.new version directory.now.objects }
 {
-    let found = look_by(alloc, version, directory, keep, own.used, command);
-    let outcome = or_refused(found);
-    own.used = used_with(own.used, &outcome);
-    Answer { version, outcome }
+    match look_by(executor, alloc, version, directory, own, keep, command) {
+        Ok(outcome) => {
+            own.used = used_with(own.used, &outcome);
+            Answer { version, outcome }
+        }
+        Err(_) => {
+            own.forget(command);
+            let outcome = Err(Refusal::Memory);
+            Answer { version, outcome }
+        }
+    }
 }
 
 /// What an edit is answered, with the book after it. Want of memory is an answer too, and leaves the book as it was.
 fn answer_edit(alloc: Global, book: &mut Book, edit: &Edit) -> Answer
     requires version { book.old.version + 1 < 2 ^ 32 }
-    ensures answer { (own : TheOwn) → core_answer result ≡ answer_of core_rules (core_book book.old) own (shown_as (IsEdit edit.now) (core_answer result)) }
+    ensures answer { (own : OwnState) → core_answer result ≡ answer_of core_rules (core_book book.old) own (shown_as (IsEdit edit.now) (core_answer result)) }
     ensures book { core_book book.new ≡ book_after core_rules (core_book book.old) (shown_as (IsEdit edit.now) (core_answer result)) }
-    ensures own { (own : TheOwn) → own ≡ own_after core_rules (core_book book.old) own (shown_as (IsEdit edit.now) (core_answer result)) }
+    ensures own { (own : OwnState) → own ≡ own_after core_rules (core_book book.old) own (shown_as (IsEdit edit.now) (core_answer result)) }
     ensures moves { Moves book.old book.new }
     ensures version { book.new.version ≤ book.old.version + 1 }
 {
@@ -499,7 +573,7 @@ fn answer_edit(alloc: Global, book: &mut Book, edit: &Edit) -> Answer
 /// The core step on one thread: what a command of a session is answered, with the book and what the session has of its own
 /// after it. Want of memory is an answer too, and leaves both as they were. What a session keeps stays one that can be used
 /// with the book's directory, whichever session the command is of.
-pub fn answer_command(
+pub fn answer_command<R: Threads + Sync>(
     alloc: Global,
     book: &mut Book,
     own: &mut Own,
@@ -519,6 +593,18 @@ pub fn answer_command(
 {
     match command {
         Command::Edit(edit) => answer_edit(alloc, book, edit),
-        _ => answer_look(alloc, book.version, &book.directory, own, keep, command),
+        _ => {
+            let executor: Executor<R, OpenGate> = Executor::Sequential;
+            let version = book.version;
+            answer_look(
+                &executor,
+                alloc,
+                version,
+                &book.directory,
+                own,
+                keep,
+                command,
+            )
+        }
     }
 }

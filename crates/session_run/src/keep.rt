@@ -1,15 +1,19 @@
 //! The scenes that a session prepared lately, which are shot at again while the version stands.
 ghost use Rattle.std.specs.Prelude.{◌≡◌, ℕ, true, Ok, Err, IfOk, IfErr, IfSome};
+ghost use Rattle.std.specs.Arc.{arc_value};
 ghost use Rattle.directory.specs.Walks.{Entries};
 ghost use Rattle.scene_prep.specs.Outcomes.{IsSceneOf};
 ghost use Rattle.session_run.specs.Kept.{IsCurrent, IsKeptOf, IsOf};
 
 use directory::Directory;
+use memory_core::Memory;
 use name_core::Name;
 use scene_prep::{PrepFault, prepare};
 use shot_core::Scene;
 use std::alloc::Global;
 use std::collections::HashMap;
+use std::sync::Arc;
+use std::vec::Vec;
 
 /// How many small scenes a session keeps at most.
 const MOST_SMALL: usize = 512;
@@ -27,13 +31,33 @@ fn is_small(scene: &Scene) -> bool {
 pub(crate) struct KeptScene {
     version: u32,
     names: Vec<Name>,
-    pub(crate) scene: Scene,
+    pub(crate) scene: Arc<Scene>,
+}
+
+/// A scene that is kept, of these names and this version.
+fn kept_scene(
+    alloc: Global,
+    version: u32,
+    names: &[Name],
+    scene: Scene,
+) -> Result<KeptScene, Memory>
+    ensures version { IfOk result (λ kept. kept.version ≡ version) }
+    ensures names { IfOk result (λ kept. kept.names.items ≡ names.now) }
+    ensures scene { IfOk result (λ kept. arc_value kept.scene ≡ scene) }
+{
+    let names = Vec::from_slice(alloc, names)?;
+    let scene = Arc::new(alloc, scene)?;
+    Ok(KeptScene {
+        version,
+        names,
+        scene,
+    })
 }
 
 impl KeptScene {
     /// Whether the scene is of these names and was prepared at this version.
     fn is_of(&self, version: u32, names: &[Name]) -> bool
-        ensures { result ≡ true → (directory : Entries) → IsOf version directory self.now → IsSceneOf (Ok self.now.scene) directory names.now }
+        ensures { result ≡ true → (directory : Entries) → IsOf version directory self.now → IsSceneOf (Ok (arc_value self.now.scene)) directory names.now }
     {
         self.version == version && self.names.as_slice() == names
     }
@@ -116,12 +140,8 @@ impl Keep {
             return Ok(kept);
         }
         let scene = prepare(alloc, directory, names)?;
-        match Vec::from_slice(alloc, names) {
-            Ok(names) => Ok(KeptScene {
-                version,
-                names,
-                scene,
-            }),
+        match kept_scene(alloc, version, names, scene) {
+            Ok(kept) => Ok(kept),
             Err(_) => Err(PrepFault::Memory),
         }
     }

@@ -17,12 +17,15 @@ use directory::Directory;
 use edit_core::Modeller;
 use item_list::Items;
 use memory_core::Memory;
-use outside_core::{Gate, GateEvent};
+use outside_core::{Gate, GateEvent, OpenGate};
 use report_text::Body;
 use std::alloc::Global;
 use std::marker::Model;
 use std::sync::{Arc, Wait};
+use std::thread::Threads;
+use std::vec::Vec;
 use version_table::{Edited, Machine, Pass, Snapshot, VersionTable};
+use view_shot::{Executor, Parallel};
 
 /// A command, and another share of it, which goes to the table.
 #[derive(Drop)]
@@ -66,13 +69,14 @@ impl Model for Session {
     ghost use Rattle.std.specs.Prelude.{◌≡◌, ◌≤◌, [], length, vec_capacity};
     ghost use Rattle.std.specs.Coded.{codes};
     ghost use Rattle.command_set.specs.contracts.command.Command as asked;
+    ghost use Rattle.session_run.specs.contracts.answer.Own as owned;
     ghost use Rattle.session_run.specs.contracts.keep.Keep as kept;
     ghost use Rattle.session_run.specs.Replies.{most_used};
     ghost use Rattle.session_run.specs.Sessions.{SessionView};
 
     ghost Value = { SessionView };
 
-    ghost coded = { Prim.hlevel (codes, asked.the_row.coded, kept.the_row.coded) };
+    ghost coded = { Prim.hlevel (codes, asked.the_row.coded, owned.the_row.coded, kept.the_row.coded) };
 
     ghost view = { λ s. record { session = s.course.session; commands = s.tasks.items; own = s.course.own; keep = s.course.keep } };
 
@@ -143,9 +147,10 @@ impl Course {
     }
 
     /// Adds a command that is no edit to the history, and answers it there.
-    fn look<R: Wait>(
+    fn look<R: Threads + Wait + Sync, G: Gate + Sync>(
         &mut self,
         rt: &R,
+        executor: &Executor<R, G>,
         alloc: Global,
         table: &VersionTable<Modeller>,
         pass: &mut Pass<Modeller>,
@@ -165,17 +170,19 @@ impl Course {
     {
         let Snapshot { version, state } = table.view(rt, pass, share);
         match state {
-            Ok(directory) => self.one(alloc, version, &directory, command),
-            Err(_) => Answer {
-                version,
-                outcome: Err(Refusal::Memory),
-            },
+            Ok(directory) => self.one(executor, alloc, version, &directory, command),
+            Err(_) => {
+                self.own.forget(command);
+                let outcome = Err(Refusal::Memory);
+                Answer { version, outcome }
+            }
         }
     }
 
     /// Answers a command that is no edit, with the directory of a version.
-    fn one(
+    fn one<R: Threads + Sync, G: Gate + Sync>(
         &mut self,
+        executor: &Executor<R, G>,
         alloc: Global,
         version: u32,
         directory: &Directory,
@@ -192,13 +199,14 @@ impl Course {
     {
         let own = &mut self.own;
         let keep = &mut self.keep;
-        answer_look(alloc, version, directory, own, keep, command)
+        answer_look(executor, alloc, version, directory, own, keep, command)
     }
 
-    /// Answers the next command.
-    fn next<R: Wait, G: Gate>(
+    /// Answers the next command, whose tiles the executor shoots.
+    fn next<R: Threads + Wait + Sync, G: Gate + Sync>(
         &mut self,
         rt: &R,
+        executor: &Executor<R, G>,
         alloc: Global,
         table: &VersionTable<Modeller>,
         pass: &mut Pass<Modeller>,
@@ -216,7 +224,7 @@ impl Course {
     {
         let Task { command, share } = task;
         if Modeller::looks(&command) {
-            self.look(rt, alloc, table, pass, &command, share)
+            self.look(rt, executor, alloc, table, pass, &command, share)
         } else {
             self.edit(rt, alloc, table, pass, gate, share)
         }
@@ -236,7 +244,7 @@ impl Session {
         let tasks = tasks_of(alloc, commands)?;
         let course = Course {
             session,
-            own: Own { used: 0 },
+            own: Own::new(alloc)?,
             keep: Keep::new(alloc),
         };
         Ok(Session {
@@ -248,7 +256,7 @@ impl Session {
 
     /// Answers a command that is no edit, with the directory of a version, which may be any: scenes that were kept of others
     /// are not used.
-    pub fn one(
+    pub fn one<R: Threads + Sync>(
         &mut self,
         alloc: Global,
         version: u32,
@@ -264,25 +272,26 @@ impl Session {
     {
         let course = &mut self.course;
         course.keep = Keep::new(alloc);
-        course.one(alloc, version, directory, command)
+        let executor: Executor<R, OpenGate> = Executor::Sequential;
+        course.one(&executor, alloc, version, directory, command)
     }
 
     /// Runs all commands in sequence, each as an entry of the history. It takes no memory for the list of answers.
-    /// After each accepted edit the gate is told. `workers` is how many threads may shoot its tiles; it shoots all tiles
-    /// itself so far.
-    pub fn run<R: Wait, G: Gate>(
+    /// At most so many threads as there are workers shoot the tiles of a picture or a check, this one among them. The gate is
+    /// told after each accepted edit, and before each tile that is shot.
+    pub fn run<R: Threads + Wait + Sync, G: Gate + Sync>(
         self,
         rt: &R,
         alloc: Global,
         table: &VersionTable<Modeller>,
         pass: &mut Pass<Modeller>,
-        _workers: u8,
+        workers: u8,
         gate: &G,
     ) -> Items<Answer>
         requires table { pass.old.table ≡ table.now.id }
         requires session { pass.old.session ≡ self.session }
         requires calls { length self.commands ≤ pass.old.left }
-        requires workers { (1 ≤ _workers) × (_workers ≤ 16) }
+        requires workers { (1 ≤ workers) × (workers ≤ 16) }
         ensures ran { HasRun table.now.told.state self.own self.commands pass.old pass.new result }
     {
         let Session {
@@ -292,8 +301,18 @@ impl Session {
         } = self;
         // What it keeps may be of another directory than the table's.
         course.keep = Keep::new(alloc);
+        let session = course.session;
+        let mut command: u32 = 0;
         for task in tasks {
-            let answer = course.next(rt, alloc, table, pass, gate, task);
+            command = command.saturating_add(1);
+            let executor = Executor::Parallel(Parallel {
+                rt,
+                workers,
+                session,
+                command,
+                gate,
+            });
+            let answer = course.next(rt, &executor, alloc, table, pass, gate, task);
             push_answer(&mut answers, answer);
         }
         Items::of_vec(answers)

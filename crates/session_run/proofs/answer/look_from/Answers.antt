@@ -5,7 +5,7 @@ use Rattle.session_run.specs.Replies.{within_quota, check_of, viewed}
 use Rattle.session_run.proofs.answer.look_from.Goals as goal
 
 pub returns-in-Check-clause-outcome : goal.returns-in-Check-clause-outcome
-returns-in-Check-clause-outcome c =
-    subst (λ (s : Shoot). IfOk c.look_for_overlaps.result (λ outcome. outcome ≡ within_quota c.args.used (viewed c.args.directory.now s))) (sym c.in-Check.is)
+returns-in-Check-clause-outcome g c =
+    subst (λ (s : Shoot). IfOk c.look_for_overlaps.result (λ outcome. outcome ≡ within_quota c.args.used (viewed c.args.directory.now c.args.tiles.now s))) (sym c.in-Check.is)
     (subst (λ (ns : List Name). IfOk c.look_for_overlaps.result (λ outcome. outcome ≡ within_quota c.args.used (check_of c.args.directory.now.objects c.in-Check.view ns)))
     c.items-in-Check.ensures.value c.look_for_overlaps.ensures.outcome)

@@ -4,14 +4,14 @@ use Rattle.version_table.specs.Run.{commits_in, state_after}
 use Rattle.edit_core.specs.Modelling.{next, commits}
 use Rattle.session_run.specs.Sessions.{SessionView}
 use Rattle.session_run.specs.declared.answer.Answer.{Answer}
-use Rattle.session_run.specs.declared.answer.Own.{Own}
+use Rattle.session_run.specs.Own.{OwnState}
 use Rattle.session_run.proofs.SessionLaws.{Holds, holds_first, holds_next}
 use Rattle.session_run.proofs.session.Session.run.Goals as goal
 
 pub loop-task-init : goal.loop-task-init
 loop-task-init g c =
     let own : c.self.inside.course.own ≡ c.args.self.own = ap (λ (s : SessionView). s.own) c.self.view_is in record {
-      holds = subst (λ (o : Own). Holds c.args.table.now.told.state c.args.self.own [] c.args.pass.now c.args.pass.now c.self.inside.answers.items o) (sym own)
+      holds = subst (λ (o : OwnState). Holds c.args.table.now.told.state c.args.self.own [] c.args.pass.now c.args.pass.now c.self.inside.answers.items o) (sym own)
           (subst (λ (l : List Answer). Holds c.args.table.now.told.state c.args.self.own [] c.args.pass.now c.args.pass.now l c.args.self.own) (sym {A = List Answer} c.self.invariant.0)
           (holds_first c.args.table.now.told.state c.args.self.own c.args.pass.now));
       quota = c.self.invariant.2;

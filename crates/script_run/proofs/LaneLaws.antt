@@ -23,7 +23,7 @@ use Rattle.session_run.specs.Laws.{state_after}
 use Rattle.session_run.specs.Replies.{core_rules, nothing_used, start_from}
 use Rattle.session_run.specs.declared.answer.Answer.{Answer}
 use Rattle.session_run.specs.declared.answer.Book.{Book}
-use Rattle.session_run.specs.declared.answer.Own.{Own}
+use Rattle.session_run.specs.Own.{OwnState}
 use Rattle.session_run.proofs.PlaceLaws.{answers_at_places}
 use Rattle.script_run.specs.Answers.{answers_at, core_answers, core_state, left_at, left_of, list_at, lists_of, own_at, owns_of}
 use Rattle.script_run.specs.Runs.{IsOfEight}
@@ -72,7 +72,7 @@ lane_append : {X : Type 0} (xs ys : List (Entry X)) (k : ℕ) → lane (xs ++ ys
 lane_append [] ys k = refl
 lane_append (x ∷ xs) ys k = ap (λ r. cond (x.session == k) (x.item ∷ r) r) (lane_append xs ys k) ∙ append_cond (x.session == k) x.item (lane xs k) (lane ys k)
 
-state_push : (s : State Listing Own) (es : List (Entry (Marked Command))) (e : Entry (Marked Command)) → state_after s (es ++ e ∷ []) ≡ stepped core_rules (state_after s es) e
+state_push : (s : State Listing OwnState) (es : List (Entry (Marked Command))) (e : Entry (Marked Command)) → state_after s (es ++ e ∷ []) ≡ stepped core_rules (state_after s es) e
 state_push s [] e = refl
 state_push s (x ∷ es) e = state_push (stepped core_rules s x) es e
 
@@ -128,14 +128,14 @@ module _ (session place : ℕ) (lanes : List Lane) (one : Lane) (some : 1 ≤ se
     own_step : (k : ℕ) → own_at (owns_of lanes') k ≡ cond (session == k) (own_after core_rules (core_book old) (own_at (owns_of lanes) k) m) (own_at (owns_of lanes) k)
     own_step k =
         by_either (session == k) (own_at (owns_of lanes') k) (own_after core_rules (core_book old) (own_at (owns_of lanes) k) m) (own_at (owns_of lanes) k)
-        (λ is. ap (λ (os : List Own). own_at os k) owns_set
+        (λ is. ap (λ (os : List OwnState). own_at os k) owns_set
         ∙ at_same nothing_used own_at (λ xs. refl) (λ xs n. refl) (owns_of lanes) session place one'.own k some here owns_within is
         ∙ has.own
-        ∙ ap (λ (o : Own). own_after core_rules (core_book old) o m) (sym own_of_session ∙ ap (own_at (owns_of lanes)) (eqb-true session k is)))
-        (λ is. ap (λ (os : List Own). own_at os k) owns_set ∙ at_other nothing_used own_at (λ xs. refl) (λ xs n. refl) (owns_of lanes) session place one'.own k some here is)
+        ∙ ap (λ (o : OwnState). own_after core_rules (core_book old) o m) (sym own_of_session ∙ ap (own_at (owns_of lanes)) (eqb-true session k is)))
+        (λ is. ap (λ (os : List OwnState). own_at os k) owns_set ∙ at_other nothing_used own_at (λ xs. refl) (λ xs n. refl) (owns_of lanes) session place one'.own k some here is)
 
     state_next : core_state new (owns_of lanes') ≡ stepped core_rules (core_state old (owns_of lanes)) said
-    state_next = ap₂ (λ (b : run.Book Listing) (o : ℕ → Own). record { book = b; own = o }) has.book (fun_ext own_step)
+    state_next = ap₂ (λ (b : run.Book Listing) (o : ℕ → OwnState). record { book = b; own = o }) has.book (fun_ext own_step)
 
     -- their answers
     lists_set : lists_of lanes' ≡ set (lists_of lanes) place one'.answers
@@ -163,11 +163,11 @@ module _ (session place : ℕ) (lanes : List Lane) (one : Lane) (some : 1 ≤ se
         (sym (ap (λ (ls : List (List Command)). list_at ls k) left_set ∙ at_same [] list_at (λ xs. refl) (λ xs n. refl) (map left_of lanes) session place (left_of one') k some here left_within is)))
         (λ is. sym (ap (λ (ls : List (List Command)). list_at ls k) left_set ∙ at_other [] list_at (λ xs. refl) (λ xs n. refl) (map left_of lanes) session place (left_of one') k some here is))
 
-    module _ (start : State Listing Own) (script : ℕ → List Command) (order : List ℕ) (so : HaveAnswered start script order old lanes) where
+    module _ (start : State Listing OwnState) (script : ℕ → List Command) (order : List ℕ) (so : HaveAnswered start script order old lanes) where
       said_answer : answered core_rules (state_after start so.done) said ≡ entry session (core_answer has.answer)
       said_answer =
-          ap (λ (s : State Listing Own). answered core_rules s said) (sym so.state)
-          ∙ ap (λ (o : Own). entry session (answer_of core_rules (core_book old) o m)) own_of_session
+          ap (λ (s : State Listing OwnState). answered core_rules s said) (sym so.state)
+          ∙ ap (λ (o : OwnState). entry session (answer_of core_rules (core_book old) o m)) own_of_session
           ∙ ap (entry session) (sym has.answer_is)
 
       run_next : run_of core_rules start (so.done ++ said ∷ []) ≡ run_of core_rules start so.done ++ entry session (core_answer has.answer) ∷ []
@@ -186,7 +186,7 @@ module _ (session place : ℕ) (lanes : List Lane) (one : Lane) (some : 1 ≤ se
         answers = λ k.
             answers_next k ∙ ap (λ (given : List (run.Answer File)). given ++ lane (entry session (core_answer has.answer) ∷ []) k) (so.answers k)
             ∙ sym (ap (λ (es : List (Entry (run.Answer File))). lane es k) run_next ∙ lane_append (run_of core_rules start so.done) (entry session (core_answer has.answer) ∷ []) k);
-        state = state_next ∙ ap (λ (s : State Listing Own). stepped core_rules s said) so.state ∙ sym (state_push start so.done said);
+        state = state_next ∙ ap (λ (s : State Listing OwnState). stepped core_rules s said) so.state ∙ sym (state_push start so.done said);
       }
 
 -- before the first command
@@ -197,7 +197,7 @@ none_answered book lanes none = record { done = []; order_is = refl; commands = 
 abbrev count_of : ℕ → List ℕ → ℕ
 count_of k order = length (filter (λ digit. digit == k) order)
 
-module _ (start : State Listing Own) (script : ℕ → List Command) (order : List ℕ) (book : Book) (lanes : List Lane) (so : HaveAnswered start script order book lanes) where
+module _ (start : State Listing OwnState) (script : ℕ → List Command) (order : List ℕ) (book : Book) (lanes : List Lane) (so : HaveAnswered start script order book lanes) where
   left_length : (k : ℕ) → count_of k order + length (left_at lanes k) ≡ length (script k)
   left_length k =
       let done : length (map (λ (n : Marked Command). n.command) (lane so.done k)) ≡ count_of k order =
@@ -261,15 +261,15 @@ same_past zero x k = refl
 same_past (suc n) x zero = refl
 same_past (suc n) x (suc k) = same_past n x k
 
-none_used : (owns : List Own) → owns ≡ replicate 8 nothing_used → ◌≡◌ {A = ℕ → Own} (own_at owns) (λ k. nothing_used)
+none_used : (owns : List OwnState) → owns ≡ replicate 8 nothing_used → ◌≡◌ {A = ℕ → OwnState} (own_at owns) (λ k. nothing_used)
 none_used owns is = ap own_at is ∙ fun_ext zero_at
   where
     zero_at : (k : ℕ) → own_at (replicate 8 nothing_used) k ≡ nothing_used
     zero_at zero = refl
     zero_at (suc n) = same_past 8 nothing_used n
 
-pub start_is : (d : Listing) (owns : List Own) → owns ≡ replicate 8 nothing_used → core_state (record { directory = d; version = 0 }) owns ≡ start_from d
-start_is d owns none = ap (λ (own : ℕ → Own). record { book = record { directory = d; version = 0 }; own = own }) (none_used owns none)
+pub start_is : (d : Listing) (owns : List OwnState) → owns ≡ replicate 8 nothing_used → core_state (record { directory = d; version = 0 }) owns ≡ start_from d
+start_is d owns none = ap (λ (own : ℕ → OwnState). record { book = record { directory = d; version = 0 }; own = own }) (none_used owns none)
 
 -- no session has an answer yet
 pub no_answers_yet : (lists : List (List Answer)) (k : ℕ) → lists ≡ replicate 8 [] → core_answers lists k ≡ []
@@ -304,5 +304,5 @@ whole_run d script order given first lanes book in_session merge same left owns 
     let so : HaveAnswered (start_from d) (lane script) order book lanes =
     subst (λ (o : List ℕ). HaveAnswered (start_from d) (lane script) o book lanes) same
     (subst (λ (f : ℕ → List Command). HaveAnswered (start_from d) f given book lanes) (all_left script first in_session left)
-    (subst (λ (s : State Listing Own). HaveAnswered s (left_at first) given book lanes) (start_is d (owns_of first) owns) all)) in
+    (subst (λ (s : State Listing OwnState). HaveAnswered s (left_at first) given book lanes) (start_is d (owns_of first) owns) all)) in
     (so.done, so.order_is, all_answered d script order book lanes merge so)

@@ -26,7 +26,7 @@ use Rattle.mged_words.specs.Readable.{IsPlain, IsReadable}
 use Rattle.session_run.specs.Answers.{core_answer}
 use Rattle.session_run.specs.Replies.{Outcome, core_rules, start_from, shown}
 use Rattle.session_run.specs.declared.answer.Answer.{Answer}
-use Rattle.session_run.specs.declared.answer.Own.{Own}
+use Rattle.session_run.specs.Own.{OwnState}
 use Rattle.session_run.proofs.CoreLaws.{Any_own, keeps}
 use Rattle.session_run.proofs.EditLaws.{IsPlainListing}
 use Rattle.script_run.specs.Answers.{core_answers, answers_at, is_refused}
@@ -129,7 +129,7 @@ pub record IsRunBy (d : Listing) (script : List (Entry Command)) (entries : List
   pub answers : (k : ℕ) → core_answers lists k ≡ lane (run_of core_rules (start_from d) entries) k
 
 module _ (d : Listing) (script : List (Entry Command)) (entries : List (Entry (Marked Command))) (lists : List (List Answer)) (in_session : All HasSession script) (by : IsRunBy d script entries lists) where
-  abbrev start : State Listing Own
+  abbrev start : State Listing OwnState
   start = start_from d
 
   abbrev answered : List (Entry (run.Answer File))

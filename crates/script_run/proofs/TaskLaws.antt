@@ -20,7 +20,7 @@ use Rattle.session_run.specs.Answers.{core_answer}
 use Rattle.session_run.specs.Replies.{core_rules, nothing_used, start_from}
 use Rattle.session_run.specs.Sessions.{HasRun}
 use Rattle.session_run.specs.declared.answer.Answer.{Answer}
-use Rattle.session_run.specs.declared.answer.Own.{Own}
+use Rattle.session_run.specs.Own.{OwnState}
 use Rattle.script_run.specs.Answers.{core_answers}
 use Rattle.script_run.specs.AtOnce.{AreAllRun, CanJoin, CanRun, IsRunOf, IsTask, all_done, done_of, number_of, own_pass, those_with}
 use Rattle.script_run.specs.declared.at_once.Finished.{Finished}
@@ -74,7 +74,7 @@ finished_one opening id script t f is run =
     let same : t.number ≡ n = sym run.number in
     record {
       number = subst (λ k. (1 ≤ k) × (k ≤ 8)) same is.number;
-      ran = subst (λ (o : Own). HasRun opening o (lane script n) (own_pass id script n) f.pass f.answers) is.own
+      ran = subst (λ (o : OwnState). HasRun opening o (lane script n) (own_pass id script n) f.pass f.answers) is.own
           (subst (λ (cs : List Command). HasRun opening t.session.own cs (own_pass id script n) f.pass f.answers) (is.commands ∙ ap (lane script) same)
           (subst (λ (p : PassView Command). HasRun opening t.session.own t.session.commands p f.pass f.answers) (is.pass ∙ ap (own_pass id script) same) run.ran));
     }

@@ -10,7 +10,7 @@ use Rattle.session_run.specs.Answers.{core_answer, core_book}
 use Rattle.session_run.specs.Replies.{nothing_used}
 use Rattle.session_run.specs.declared.answer.Answer.{Answer}
 use Rattle.session_run.specs.declared.answer.Book.{Book}
-use Rattle.session_run.specs.declared.answer.Own.{Own}
+use Rattle.session_run.specs.Own.{OwnState}
 use Rattle.script_run.specs.declared.run.Lane.{Lane}
 
 -- the answers of each session, where the first list is that of session 1
@@ -22,12 +22,12 @@ abbrev pub core_answers : List (List Answer) → ℕ → List (run.Answer File)
 core_answers lists session = map core_answer (answers_at lists session)
 
 -- what each session has of its own, where the first is session 1
-abbrev pub own_at : List Own → ℕ → Own
+abbrev pub own_at : List OwnState → ℕ → OwnState
 own_at owns zero = nothing_used
 own_at owns (suc n) = get_or owns n nothing_used
 
 -- the state of the core
-abbrev pub core_state : Book → List Own → run.State Listing Own
+abbrev pub core_state : Book → List OwnState → run.State Listing OwnState
 core_state book owns = record { book = core_book book; own = own_at owns }
 
 abbrev pub is_refused : Answer → Bool
@@ -38,7 +38,7 @@ abbrev pub all_session_lines : List (List Answer) → ℕ → List (List ℕ)
 all_session_lines lists n = flat_map (λ session. session_lines session 1 (core_answers lists session)) (take n sessions)
 
 -- what each session of a run on one thread has of its own
-abbrev pub owns_of : List Lane → List Own
+abbrev pub owns_of : List Lane → List OwnState
 owns_of lanes = map (λ (one : Lane). one.own) lanes
 
 -- the answers that each has

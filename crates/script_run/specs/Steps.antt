@@ -11,7 +11,7 @@ use Rattle.session_run.specs.Laws.{state_after}
 use Rattle.session_run.specs.Replies.{core_rules, most_used}
 use Rattle.session_run.specs.declared.answer.Answer.{Answer}
 use Rattle.session_run.specs.declared.answer.Book.{Book}
-use Rattle.session_run.specs.declared.answer.Own.{Own}
+use Rattle.session_run.specs.Own.{OwnState}
 use Rattle.script_run.specs.Answers.{core_answers, core_state, left_at, left_of, lists_of, owns_of}
 use Rattle.script_run.specs.declared.run.Lane.{Lane}
 
@@ -31,7 +31,7 @@ pub record HasAnswered (old new : Book) (one one' : Lane) : Type 0 where
   pub own : one'.own ≡ own_after core_rules (core_book old) one.own (shown_as command (core_answer answer))
 
 -- Commands of a script's sessions were answered in this order: they and what is left are the script, their answers are the run of them, and book and sessions are as they leave them.
-pub record HaveAnswered (start : State Listing Own) (script : ℕ → List Command) (order : List ℕ) (book : Book) (lanes : List Lane) : Type 0 where
+pub record HaveAnswered (start : State Listing OwnState) (script : ℕ → List Command) (order : List ℕ) (book : Book) (lanes : List Lane) : Type 0 where
   pub done : List (Entry (Marked Command))
   pub order_is : order_of done ≡ order
   pub commands : (session : ℕ) → map (λ (m : Marked Command). m.command) (lane done session) ++ left_at lanes session ≡ script session

@@ -14,7 +14,7 @@ ghost use Rattle.script_run.specs.Runs.{IsOfEight, IsOrderedRun};
 ghost use Rattle.script_run.specs.Steps.{HasAnswered, HaveAnswered, IsReady};
 ghost use Rattle.script_run.specs.declared.run.Lane.{Lane as TheLane};
 ghost use Rattle.session_run.specs.declared.answer.Book.{Book as TheBook};
-ghost use Rattle.session_run.specs.declared.answer.Own.{Own as TheOwn};
+ghost use Rattle.session_run.specs.Own.{OwnState};
 ghost use Rattle.session_run.specs.Answers.{core_answer};
 ghost use Rattle.session_run.specs.Replies.{nothing_used};
 
@@ -26,6 +26,7 @@ use memory_core::Memory;
 use mged_words::ScriptCommand;
 use session_run::{Answer, Book, Keep, Own, answer_command};
 use std::alloc::Global;
+use std::thread::Threads;
 use std::sync::Arc;
 use std::vec::Vec;
 use transcript::{push_accepted, push_order, push_refused};
@@ -52,7 +53,7 @@ pub struct Lane {
 
 impl Lane {
     /// Answers the session's next command.
-    fn next(&mut self, alloc: Global, book: &mut Book) -> Result<(), Memory>
+    fn next<R: Threads + Sync>(&mut self, alloc: Global, book: &mut Book) -> Result<(), Memory>
         requires some { 0 < length (left_of self.old) }
         requires small { book.old.version + 1 < 2 ^ 32 }
         requires ready { IsReady book.old self.old }
@@ -63,14 +64,14 @@ impl Lane {
     {
         let next = self.answers.items().len();
         let command = &self.commands[next];
-        let answer = answer_command(alloc, book, &mut self.own, &mut self.keep, command);
+        let answer = answer_command::<R>(alloc, book, &mut self.own, &mut self.keep, command);
         self.answers.push(answer)?;
         Ok(())
     }
 }
 
 /// Answers the next command of a session.
-fn answer_next(
+fn answer_next<R: Threads + Sync>(
     alloc: Global,
     book: &mut Book,
     lanes: &mut Vec<Lane>,
@@ -84,13 +85,13 @@ fn answer_next(
     ensures eight { vec_len lanes.new ≡ 8 }
     ensures ready { All (IsReady book.new) lanes.new.items }
     ensures small { book.new.version ≤ book.old.version + 1 }
-    ensures answered { OnOk result ((start : State Listing TheOwn) (script : ℕ → List TheCommand) (order : List ℕ) → HaveAnswered start script order book.old lanes.old.items → HaveAnswered start script (order ++ session ∷ []) book.new lanes.new.items) }
+    ensures answered { OnOk result ((start : State Listing OwnState) (script : ℕ → List TheCommand) (order : List ℕ) → HaveAnswered start script order book.old lanes.old.items → HaveAnswered start script (order ++ session ∷ []) book.new lanes.new.items) }
 {
-    lanes[usize::from(session - 1)].next(alloc, book)
+    lanes[usize::from(session - 1)].next::<R>(alloc, book)
 }
 
 /// Answers the commands of all sessions, in this order of the sessions.
-fn answer_all(
+fn answer_all<R: Threads + Sync>(
     alloc: Global,
     book: &mut Book,
     lanes: &mut Vec<Lane>,
@@ -107,7 +108,7 @@ fn answer_all(
     ensures answered { OnOk result (HaveAnswered (core_state book.old (owns_of lanes.old.items)) (left_at lanes.old.items) order.now book.new lanes.new.items) }
 {
     for session in order {
-        answer_next(alloc, book, lanes, *session)?;
+        answer_next::<R>(alloc, book, lanes, *session)?;
     }
     Ok(())
 }
@@ -122,7 +123,7 @@ fn lane_of(alloc: Global, script: &[ScriptCommand], number: u8) -> Result<Lane, 
     let commands = session_commands(alloc, script, number)?;
     Ok(Lane {
         commands,
-        own: Own { used: 0 },
+        own: Own::new(alloc)?,
         keep: Keep::new(alloc),
         answers: Items::new(alloc),
     })
@@ -257,8 +258,9 @@ impl Run {
     }
 }
 
-/// Runs a script on one thread, in this order of its sessions, from a directory.
-pub fn run_in_order(
+/// Runs a script on one thread, in this order of its sessions, from a directory. `R` is the runtime of the calls that have
+/// threads; none is taken and no thread is started here.
+pub fn run_in_order<R: Threads + Sync>(
     alloc: Global,
     directory: Directory,
     script: &[ScriptCommand],
@@ -277,7 +279,7 @@ pub fn run_in_order(
         version: 0,
     };
     let mut lanes = lanes_of(alloc, script)?;
-    answer_all(alloc, &mut book, &mut lanes, &order)?;
+    answer_all::<R>(alloc, &mut book, &mut lanes, &order)?;
     let answers = answers_of(alloc, lanes)?;
     Run::written(alloc, order, answers)
 }

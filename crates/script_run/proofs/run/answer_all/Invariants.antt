@@ -4,7 +4,7 @@ use Rattle.script_run.specs.Steps.{HaveAnswered, IsReady}
 use Rattle.script_run.proofs.run.answer_all.Given as goal
 
 abbrev pub invariant-loop-session : goal.invariant-loop-session
-invariant-loop-session l = record {
+invariant-loop-session g l = record {
   eight : vec_len l.lanes ≡ 8;
   ready : All (IsReady l.book) l.lanes.items;
   version : l.book.version ≤ l.session-index;

@@ -7,7 +7,7 @@ use Rattle.command_set.specs.declared.command.Command.{Command}
 use Rattle.mged_words.specs.Entries.{command_entry}
 use Rattle.session_run.specs.Replies.{nothing_used}
 use Rattle.session_run.specs.declared.answer.Answer.{Answer}
-use Rattle.session_run.specs.declared.answer.Own.{Own}
+use Rattle.session_run.specs.Own.{OwnState}
 use Rattle.script_run.specs.Answers.{left_of, lists_of, owns_of}
 use Rattle.script_run.specs.Steps.{IsReady}
 use Rattle.script_run.specs.declared.run.Lane.{Lane}
@@ -28,7 +28,7 @@ loop-i-preserved c =
           ∙ ap₂ (λ (ls : List (List Command)) (l : List Command). ls ++ l ∷ []) c.loop-i.invariant.left c.in_ok-lane_of.ensures.left
           ∙ sym (map_push (lane script) (take i sessions) (i + 1)) ∙ ap (map (lane script)) (sym (nth i below));
       owns = ap owns_of items ∙ map_push (λ (l : Lane). l.own) old one
-          ∙ ap₂ (λ (os : List Own) (o : Own). os ++ o ∷ []) c.loop-i.invariant.owns c.in_ok-lane_of.ensures.own ∙ replicate_more i nothing_used;
+          ∙ ap₂ (λ (os : List OwnState) (o : OwnState). os ++ o ∷ []) c.loop-i.invariant.owns c.in_ok-lane_of.ensures.own ∙ replicate_more i nothing_used;
       answers = ap lists_of items ∙ map_push (λ (l : Lane). l.answers) old one
           ∙ ap₂ (λ (ls : List (List Answer)) (l : List Answer). ls ++ l ∷ []) c.loop-i.invariant.answers c.in_ok-lane_of.ensures.answers ∙ replicate_more i [];
       ready = λ book. subst (All (IsReady book)) (sym items) (All-push (IsReady book) old one (c.loop-i.invariant.ready book) (c.in_ok-lane_of.ensures.ready book));

@@ -15,11 +15,11 @@ use Rattle.script_run.proofs.RunLaws.{IsRunBy, few_answers, ordered_run}
 use Rattle.script_run.proofs.run.run_in_order.Goals as goal
 
 pub answer_all-requires-clause-sessions : goal.answer_all-requires-clause-sessions
-answer_all-requires-clause-sessions c =
+answer_all-requires-clause-sessions g c =
     subst (All IsOfEight) (sym c.deref.ensures.value) (order_of_eight (map command_entry c.args.script.now) c.args.order.items c.requires.sessions c.requires.merge)
 
 pub answer_all-requires-clause-few : goal.answer_all-requires-clause-few
-answer_all-requires-clause-few c =
+answer_all-requires-clause-few g c =
     omega (
       arith,
       ap length c.deref.ensures.value,
@@ -29,17 +29,17 @@ answer_all-requires-clause-few c =
     )
 
 pub answer_all-requires-clause-merge : goal.answer_all-requires-clause-merge
-answer_all-requires-clause-merge c = λ session.
+answer_all-requires-clause-merge g c = λ session.
     let script : List (Entry Command) = map command_entry c.args.script.now in
     let left : ◌≡◌ {A = ℕ → List Command} (left_at c.in_ok-lanes.lanes.items) (lane script) = all_left script c.in_ok-lanes.lanes.items c.requires.sessions c.in_ok-lanes.ensures.left in
     ap (λ (o : List ℕ). length (filter (λ digit. digit == session) o)) c.deref.ensures.value ∙ c.requires.merge session ∙ ap (λ (f : ℕ → List Command). length (f session)) (sym left)
 
 pub written-requires-clause-order : goal.written-requires-clause-order
-written-requires-clause-order c =
+written-requires-clause-order g c =
     All-weaker IsOfEight (λ (d : ℕ). d ≤ 8) (λ d h. h.1) c.args.order.items (order_of_eight (map command_entry c.args.script.now) c.args.order.items c.requires.sessions c.requires.merge)
 
 pub written-requires-clause-few : goal.written-requires-clause-few
-written-requires-clause-few c = λ k e lt.
+written-requires-clause-few g c = λ k e lt.
     let d : Listing = c.args.directory in
     let script : List (Entry Command) = map command_entry c.args.script.now in
     let lists : List (List Answer) = c.in_ok-answers.answers.items in
@@ -49,7 +49,7 @@ written-requires-clause-few c = λ k e lt.
     omega (arith, few_answers d script run.0 lists c.requires.sessions by k, ap length (get_or_default lists k e [] lt), length-map c.args.script.now command_entry, c.requires.few)
 
 pub returns-clause-run : goal.returns-clause-run
-returns-clause-run c =
+returns-clause-run g c =
     let d : Listing = c.args.directory in
     let script : List (Entry Command) = map command_entry c.args.script.now in
     let lists : List (List Answer) = c.in_ok-answers.answers.items in

@@ -7,7 +7,7 @@ use Rattle.script_run.proofs.LaneLaws.{first_left}
 use Rattle.script_run.proofs.run.Lane.next.Goals as goal
 
 pub returns-clause-answered : goal.returns-clause-answered
-returns-clause-answered c =
+returns-clause-answered g c =
     let commands = c.args.self.now.commands.items in
     let answers : List Answer = c.args.self.now.answers in
     let next = c.index-command.result.now in

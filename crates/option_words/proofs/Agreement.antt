@@ -10,7 +10,7 @@ use Rattle.clap.specs.declared.error.kind.ErrorKind.{ErrorKind}
 use Rattle.option_words.specs.Grammar.{Given, are_distinct, begins_with_dash, begun, given, given_from, is_among, name_of, option_of, with_given}
 use Rattle.option_words.specs.Reading.{NoneEnds}
 use Rattle.option_words.specs.declared.options.Key.{Key}
-use Rattle.option_words.specs.declared.options.Key.TheVariants.{Load, Demo, Replay}
+use Rattle.option_words.specs.declared.options.Key.TheVariants.{Load, Demo, Replay, Workers}
 use Rattle.option_words.proofs.ClapSteps.{after, app, attached, conflict, from_both, from_holding, from_settled, holding, holding_attached, holding_end, holding_finished, holding_named, id_of, is_used, named, named_attached, named_end, named_named, rest_fault, rules, settled_at, settled_attached, settled_end, settled_finished, settled_named, to_settled, turn_fails, turn_passes, used}
 use Rattle.option_words.proofs.Dashes.{has_dash}
 use Rattle.option_words.proofs.Rows.{clash, rows_of, still_distinct, used_is, used_row}
@@ -137,21 +137,25 @@ name_is_option : (j : Key) → option_of (name_of j) ≡ Some (j, None)
 name_is_option Load = refl
 name_is_option Demo = refl
 name_is_option Replay = refl
+name_is_option Workers = refl
 
 attached_is_option : (j : Key) (x : Text) → option_of (attached j x) ≡ Some (j, Some x)
 attached_is_option Load x = refl
 attached_is_option Demo x = refl
 attached_is_option Replay x = refl
+attached_is_option Workers x = refl
 
 name_dash : (j : Key) → begins_with_dash (name_of j) ≡ true
 name_dash Load = refl
 name_dash Demo = refl
 name_dash Replay = refl
+name_dash Workers = refl
 
 attached_dash : (j : Key) (x : Text) → begins_with_dash (attached j x) ≡ true
 attached_dash Load x = refl
 attached_dash Demo x = refl
 attached_dash Replay x = refl
+attached_dash Workers x = refl
 
 module _ (rest : Texts) (others : (gs : List Given) (p : Pending) → are_distinct gs ≡ true → Agree gs p rest) where
   -- what is no option

@@ -14,7 +14,7 @@ use Rattle.clap.proofs.OnLiterals.{clap_on_literals}
 use Rattle.option_words.specs.Command.{options_app}
 use Rattle.option_words.specs.Grammar.{name_of}
 use Rattle.option_words.specs.declared.options.Key.{Key}
-use Rattle.option_words.specs.declared.options.Key.TheVariants.{Load, Demo, Replay}
+use Rattle.option_words.specs.declared.options.Key.TheVariants.{Load, Demo, Replay, Workers}
 
 abbrev pub app : App
 app = built options_app
@@ -26,6 +26,7 @@ abbrev pub id_of : Key → Text
 id_of Load = codes "load"
 id_of Demo = codes "demo"
 id_of Replay = codes "replay"
+id_of Workers = codes "workers"
 
 pub simple_and_free : is_simple_and_free options_app ≡ true
 unfolding clap_on_literals
@@ -121,96 +122,142 @@ unfolding clap_on_literals
 settled_named Load rows = refl
 settled_named Demo rows = refl
 settled_named Replay rows = refl
+settled_named Workers rows = refl
 
 pub from_settled : (k : Key) (rows : List Row) → walked rules [] (settled_at rows) (name_of k) ≡ named k rows
 unfolding clap_on_literals
 from_settled Load rows = refl
 from_settled Demo rows = refl
 from_settled Replay rows = refl
+from_settled Workers rows = refl
 
 pub named_named : (k j : Key) (rows : List Row) → turn_fault app.top [] (named k rows) (name_of j) ≡ kind.InvalidValue ∷ []
 unfolding clap_on_literals
 named_named Load Load rows = refl
 named_named Load Demo rows = refl
 named_named Load Replay rows = refl
+named_named Load Workers rows = refl
 named_named Demo Load rows = refl
 named_named Demo Demo rows = refl
 named_named Demo Replay rows = refl
+named_named Demo Workers rows = refl
 named_named Replay Load rows = refl
 named_named Replay Demo rows = refl
 named_named Replay Replay rows = refl
+named_named Replay Workers rows = refl
+named_named Workers Load rows = refl
+named_named Workers Demo rows = refl
+named_named Workers Replay rows = refl
+named_named Workers Workers rows = refl
 
 pub named_attached : (k j : Key) (x : Text) (rows : List Row) → turn_fault app.top [] (named k rows) (attached j x) ≡ kind.InvalidValue ∷ []
 unfolding clap_on_literals
 named_attached Load Load x rows = refl
 named_attached Load Demo x rows = refl
 named_attached Load Replay x rows = refl
+named_attached Load Workers x rows = refl
 named_attached Demo Load x rows = refl
 named_attached Demo Demo x rows = refl
 named_attached Demo Replay x rows = refl
+named_attached Demo Workers x rows = refl
 named_attached Replay Load x rows = refl
 named_attached Replay Demo x rows = refl
 named_attached Replay Replay x rows = refl
+named_attached Replay Workers x rows = refl
+named_attached Workers Load x rows = refl
+named_attached Workers Demo x rows = refl
+named_attached Workers Replay x rows = refl
+named_attached Workers Workers x rows = refl
 
 pub holding_named : (k j : Key) (v : Text) (rows : List Row) → turn_fault app.top [] (holding k v rows) (name_of j) ≡ conflict (is_used k rows)
 unfolding clap_on_literals
 holding_named Load Load v rows = used_once (is_used Load rows)
 holding_named Load Demo v rows = used_once (is_used Load rows)
 holding_named Load Replay v rows = used_once (is_used Load rows)
+holding_named Load Workers v rows = used_once (is_used Load rows)
 holding_named Demo Load v rows = used_once (is_used Demo rows)
 holding_named Demo Demo v rows = used_once (is_used Demo rows)
 holding_named Demo Replay v rows = used_once (is_used Demo rows)
+holding_named Demo Workers v rows = used_once (is_used Demo rows)
 holding_named Replay Load v rows = used_once (is_used Replay rows)
 holding_named Replay Demo v rows = used_once (is_used Replay rows)
 holding_named Replay Replay v rows = used_once (is_used Replay rows)
+holding_named Replay Workers v rows = used_once (is_used Replay rows)
+holding_named Workers Load v rows = used_once (is_used Workers rows)
+holding_named Workers Demo v rows = used_once (is_used Workers rows)
+holding_named Workers Replay v rows = used_once (is_used Workers rows)
+holding_named Workers Workers v rows = used_once (is_used Workers rows)
 
 pub from_holding : (k j : Key) (v : Text) (rows : List Row) → walked rules [] (holding k v rows) (name_of j) ≡ named j (used k v rows)
 unfolding clap_on_literals
 from_holding Load Load v rows = refl
 from_holding Load Demo v rows = refl
 from_holding Load Replay v rows = refl
+from_holding Load Workers v rows = refl
 from_holding Demo Load v rows = refl
 from_holding Demo Demo v rows = refl
 from_holding Demo Replay v rows = refl
+from_holding Demo Workers v rows = refl
 from_holding Replay Load v rows = refl
 from_holding Replay Demo v rows = refl
 from_holding Replay Replay v rows = refl
+from_holding Replay Workers v rows = refl
+from_holding Workers Load v rows = refl
+from_holding Workers Demo v rows = refl
+from_holding Workers Replay v rows = refl
+from_holding Workers Workers v rows = refl
 
 pub settled_attached : (j : Key) (x : Text) (rows : List Row) → turn_fault app.top [] (settled_at rows) (attached j x) ≡ conflict (is_used j rows)
 unfolding clap_on_literals
 settled_attached Load x rows = used_once (is_used Load rows)
 settled_attached Demo x rows = used_once (is_used Demo rows)
 settled_attached Replay x rows = used_once (is_used Replay rows)
+settled_attached Workers x rows = used_once (is_used Workers rows)
 
 pub to_settled : (j : Key) (x : Text) (rows : List Row) → walked rules [] (settled_at rows) (attached j x) ≡ settled_at (used j x rows)
 unfolding clap_on_literals
 to_settled Load x rows = refl
 to_settled Demo x rows = refl
 to_settled Replay x rows = refl
+to_settled Workers x rows = refl
 
 pub holding_attached : (k j : Key) (v x : Text) (rows : List Row) → turn_fault app.top [] (holding k v rows) (attached j x) ≡ or_else (conflict (is_used k rows)) (conflict (is_used j (used k v rows)))
 unfolding clap_on_literals
 holding_attached Load Load v x rows = used_twice (is_used Load rows) (is_used Load (used Load v rows))
 holding_attached Load Demo v x rows = used_twice (is_used Load rows) (is_used Demo (used Load v rows))
 holding_attached Load Replay v x rows = used_twice (is_used Load rows) (is_used Replay (used Load v rows))
+holding_attached Load Workers v x rows = used_twice (is_used Load rows) (is_used Workers (used Load v rows))
 holding_attached Demo Load v x rows = used_twice (is_used Demo rows) (is_used Load (used Demo v rows))
 holding_attached Demo Demo v x rows = used_twice (is_used Demo rows) (is_used Demo (used Demo v rows))
 holding_attached Demo Replay v x rows = used_twice (is_used Demo rows) (is_used Replay (used Demo v rows))
+holding_attached Demo Workers v x rows = used_twice (is_used Demo rows) (is_used Workers (used Demo v rows))
 holding_attached Replay Load v x rows = used_twice (is_used Replay rows) (is_used Load (used Replay v rows))
 holding_attached Replay Demo v x rows = used_twice (is_used Replay rows) (is_used Demo (used Replay v rows))
 holding_attached Replay Replay v x rows = used_twice (is_used Replay rows) (is_used Replay (used Replay v rows))
+holding_attached Replay Workers v x rows = used_twice (is_used Replay rows) (is_used Workers (used Replay v rows))
+holding_attached Workers Load v x rows = used_twice (is_used Workers rows) (is_used Load (used Workers v rows))
+holding_attached Workers Demo v x rows = used_twice (is_used Workers rows) (is_used Demo (used Workers v rows))
+holding_attached Workers Replay v x rows = used_twice (is_used Workers rows) (is_used Replay (used Workers v rows))
+holding_attached Workers Workers v x rows = used_twice (is_used Workers rows) (is_used Workers (used Workers v rows))
 
 pub from_both : (k j : Key) (v x : Text) (rows : List Row) → walked rules [] (holding k v rows) (attached j x) ≡ settled_at (used j x (used k v rows))
 unfolding clap_on_literals
 from_both Load Load v x rows = refl
 from_both Load Demo v x rows = refl
 from_both Load Replay v x rows = refl
+from_both Load Workers v x rows = refl
 from_both Demo Load v x rows = refl
 from_both Demo Demo v x rows = refl
 from_both Demo Replay v x rows = refl
+from_both Demo Workers v x rows = refl
 from_both Replay Load v x rows = refl
 from_both Replay Demo v x rows = refl
 from_both Replay Replay v x rows = refl
+from_both Replay Workers v x rows = refl
+from_both Workers Load v x rows = refl
+from_both Workers Demo v x rows = refl
+from_both Workers Replay v x rows = refl
+from_both Workers Workers v x rows = refl
 
 -- ---- the end of the words; no option has a value of its own
 
@@ -229,8 +276,8 @@ passed k rows = cond (is_used k rows) rows rows
 still : (k : Key) (rows : List Row) → passed k rows ≡ rows
 still k rows = either_way (is_used k rows) rows
 
-all_finished : (rows : List Row) → passed Replay (passed Demo (passed Load rows)) ≡ rows
-all_finished rows = still Replay (passed Demo (passed Load rows)) ∙ still Demo (passed Load rows) ∙ still Load rows
+all_finished : (rows : List Row) → passed Workers (passed Replay (passed Demo (passed Load rows))) ≡ rows
+all_finished rows = still Workers (passed Replay (passed Demo (passed Load rows))) ∙ still Replay (passed Demo (passed Load rows)) ∙ still Demo (passed Load rows) ∙ still Load rows
 
 pub settled_finished : (rows : List Row) → finished rules (settled_at rows).held ≡ rows
 unfolding clap_on_literals
@@ -241,13 +288,15 @@ unfolding clap_on_literals
 holding_finished Load v rows = all_finished (used Load v rows)
 holding_finished Demo v rows = all_finished (used Demo v rows)
 holding_finished Replay v rows = all_finished (used Replay v rows)
+holding_finished Workers v rows = all_finished (used Workers v rows)
 
 -- no option has a value of its own
 no_defaults : (rows : List Row) → defaults_fault rows rules ≡ []
 unfolding clap_on_literals
 no_defaults rows =
     ap₂ or_else (anyway (is_used Load rows) [] _)
-    (ap₂ (λ (a b : Kinds). or_else a (or_else b [])) (anyway (is_used Demo (passed Load rows)) [] _) (anyway (is_used Replay (passed Demo (passed Load rows))) [] _))
+    (ap₂ or_else (anyway (is_used Demo (passed Load rows)) [] _)
+    (ap₂ (λ (a b : Kinds). or_else a (or_else b [])) (anyway (is_used Replay (passed Demo (passed Load rows))) [] _) (anyway (is_used Workers (passed Replay (passed Demo (passed Load rows)))) [] _)))
 
 pub settled_end : (rows : List Row) → rest_fault (settled_at rows) [] ≡ []
 unfolding clap_on_literals
@@ -258,9 +307,11 @@ unfolding clap_on_literals
 holding_end Load v rows = ap (λ (kinds : Kinds). or_else (one_use (is_used Load rows)) (or_else kinds [])) (no_defaults (used Load v rows)) ∙ used_once (is_used Load rows)
 holding_end Demo v rows = ap (λ (kinds : Kinds). or_else (one_use (is_used Demo rows)) (or_else kinds [])) (no_defaults (used Demo v rows)) ∙ used_once (is_used Demo rows)
 holding_end Replay v rows = ap (λ (kinds : Kinds). or_else (one_use (is_used Replay rows)) (or_else kinds [])) (no_defaults (used Replay v rows)) ∙ used_once (is_used Replay rows)
+holding_end Workers v rows = ap (λ (kinds : Kinds). or_else (one_use (is_used Workers rows)) (or_else kinds [])) (no_defaults (used Workers v rows)) ∙ used_once (is_used Workers rows)
 
 pub named_end : (k : Key) (rows : List Row) → rest_fault (named k rows) [] ≡ kind.InvalidValue ∷ []
 unfolding clap_on_literals
 named_end Load rows = refl
 named_end Demo rows = refl
 named_end Replay rows = refl
+named_end Workers rows = refl

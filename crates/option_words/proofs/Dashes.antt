@@ -6,11 +6,11 @@ use Rattle.std.proofs.lemmas.Bool.Decides.{nat_tests}
 use Rattle.name_core.specs.NameText.{read_with}
 use Rattle.name_core.specs.declared.name.NameFault.{NameFault}
 use Rattle.name_core.specs.declared.name.NameFault.TheVariants.{Empty, Long}
-use Rattle.std.specs.Option.{option_map}
-use Rattle.option_words.specs.Numbers.{value}
-use Rattle.option_words.specs.Grammar.{Given, are_distinct, asked_by, asked_with, begins_with_dash, demo_asked, file_asked, is_among, is_same, name_asked, options_for, replay_asked, value_of}
+use Rattle.std.specs.Option.{option_and_then, option_map}
+use Rattle.option_words.specs.Numbers.{number_of, value}
+use Rattle.option_words.specs.Grammar.{Given, allowed_workers, are_distinct, asked_by, asked_with, begins_with_dash, demo_asked, file_asked, is_among, is_same, name_asked, options_for, replay_asked, value_of, workers_asked}
 use Rattle.option_words.specs.declared.options.Key.{Key}
-use Rattle.option_words.specs.declared.options.Key.TheVariants.{Load, Demo, Replay}
+use Rattle.option_words.specs.declared.options.Key.TheVariants.{Load, Demo, Replay, Workers}
 use Rattle.option_words.specs.declared.options.Model.{Model}
 use Rattle.option_words.specs.declared.options.Model.TheVariants.{OfDemo, OfFile}
 use Rattle.option_words.proofs.Rows.{same_itself, same_key}
@@ -37,14 +37,20 @@ no_file value dash = ap (option_map OfFile) (no_name value dash)
 no_replay : (value : List ℕ) → begins_with_dash value ≡ true → replay_asked (Some value) ≡ None
 no_replay value dash = ap (option_map (λ (n : List ℕ). Some n)) (no_name value dash)
 
-no_number : (value : List ℕ) → begins_with_dash value ≡ true → demo_asked value ≡ None
+no_number : (value : List ℕ) → begins_with_dash value ≡ true → number_of value ≡ None
 no_number [] e = cc
-no_number (x ∷ xs) e = let same : x ≡ 45 = grind (arith, nat_tests) in ap (λ (b : ℕ). demo_asked (b ∷ xs)) same ∙ tried (nat_lt 0 (length (45 ∷ xs))) (nat_le (length (45 ∷ xs)) 9)
+no_number (x ∷ xs) e = let same : x ≡ 45 = grind (arith, nat_tests) in ap (λ (b : ℕ). number_of (b ∷ xs)) same ∙ tried (nat_lt 0 (length (45 ∷ xs))) (nat_le (length (45 ∷ xs)) 9)
   where
-    tried : (some few : Bool) → option_map OfDemo (cond (some && (few && false)) (Some (value (45 ∷ xs))) None) ≡ None
+    tried : (some few : Bool) → cond (some && (few && false)) (Some (value (45 ∷ xs))) None ≡ None
     tried true true = refl
     tried true false = refl
     tried false few = refl
+
+no_demo : (value : List ℕ) → begins_with_dash value ≡ true → demo_asked value ≡ None
+no_demo value dash = ap (option_map OfDemo) (no_number value dash)
+
+no_workers : (value : List ℕ) → begins_with_dash value ≡ true → workers_asked (Some value) ≡ None
+no_workers value dash = ap (option_and_then allowed_workers) (no_number value dash)
 
 -- an option whose value begins so
 record Dashed (gs : List Given) : Type 0 where
@@ -86,12 +92,17 @@ dash_asks_nothing gs distinct some = by (dashed gs distinct some)
     with_file v dash (Some number) = refl
 
     with_demo : (v : List ℕ) → begins_with_dash v ≡ true → (file : Option (List ℕ)) → asked_with file (Some v) ≡ None
-    with_demo v dash None = no_number v dash
+    with_demo v dash None = no_demo v dash
     with_demo v dash (Some name) = refl
 
-    without_replay : (model : Option Model) → options_for model None ≡ None
-    without_replay None = refl
-    without_replay (Some m) = refl
+    without_replay : (model : Option Model) (workers : Option ℕ) → options_for model None workers ≡ None
+    without_replay None workers = refl
+    without_replay (Some m) workers = refl
+
+    without_workers : (model : Option Model) (replay : Option (Option (List ℕ))) → options_for model replay None ≡ None
+    without_workers None replay = refl
+    without_workers (Some m) None = refl
+    without_workers (Some m) (Some r) = refl
 
     model : Option Model
     model = asked_with (value_of Load gs) (value_of Demo gs)
@@ -99,10 +110,14 @@ dash_asks_nothing gs distinct some = by (dashed gs distinct some)
     replay : Option (Option (List ℕ))
     replay = replay_asked (value_of Replay gs)
 
+    workers : Option ℕ
+    workers = workers_asked (value_of Workers gs)
+
     by_key : (k : Key) (v : List ℕ) → value_of k gs ≡ Some v → begins_with_dash v ≡ true → asked_by gs ≡ None
-    by_key Load v is dash = ap (λ (m : Option Model). options_for m replay) (ap (λ (o : Option (List ℕ)). asked_with o (value_of Demo gs)) is ∙ with_file v dash (value_of Demo gs))
-    by_key Demo v is dash = ap (λ (m : Option Model). options_for m replay) (ap (asked_with (value_of Load gs)) is ∙ with_demo v dash (value_of Load gs))
-    by_key Replay v is dash = ap (options_for model) (ap replay_asked is ∙ no_replay v dash) ∙ without_replay model
+    by_key Load v is dash = ap (λ (m : Option Model). options_for m replay workers) (ap (λ (o : Option (List ℕ)). asked_with o (value_of Demo gs)) is ∙ with_file v dash (value_of Demo gs))
+    by_key Demo v is dash = ap (λ (m : Option Model). options_for m replay workers) (ap (asked_with (value_of Load gs)) is ∙ with_demo v dash (value_of Load gs))
+    by_key Replay v is dash = ap (λ (r : Option (Option (List ℕ))). options_for model r workers) (ap replay_asked is ∙ no_replay v dash) ∙ without_replay model workers
+    by_key Workers v is dash = ap (options_for model replay) (ap workers_asked is ∙ no_workers v dash) ∙ without_workers model replay
 
     by : Dashed gs → asked_by gs ≡ None
     by d = by_key d.key d.value d.is d.dash

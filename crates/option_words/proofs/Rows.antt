@@ -8,7 +8,7 @@ use Rattle.clap.specs.declared.parser.matches.ValueSource.TheVariants.{CommandLi
 use Rattle.clap.specs.declared.builder.value_parser.Reading.TheVariants.{AsWritten}
 use Rattle.option_words.specs.Grammar.{Given, are_distinct, given, is_among, is_same, value_of}
 use Rattle.option_words.specs.declared.options.Key.{Key}
-use Rattle.option_words.specs.declared.options.Key.TheVariants.{Load, Demo, Replay}
+use Rattle.option_words.specs.declared.options.Key.TheVariants.{Load, Demo, Replay, Workers}
 use Rattle.option_words.proofs.ClapSteps.{id_of, is_used, used}
 
 abbrev pub row : Given → Row
@@ -22,39 +22,61 @@ same_id : (k j : Key) → bytes_eq (id_of j) (id_of k) ≡ is_same k j
 same_id Load Load = refl
 same_id Load Demo = refl
 same_id Load Replay = refl
+same_id Load Workers = refl
 same_id Demo Load = refl
 same_id Demo Demo = refl
 same_id Demo Replay = refl
+same_id Demo Workers = refl
 same_id Replay Load = refl
 same_id Replay Demo = refl
 same_id Replay Replay = refl
+same_id Replay Workers = refl
+same_id Workers Load = refl
+same_id Workers Demo = refl
+same_id Workers Replay = refl
+same_id Workers Workers = refl
 
 same_back : (k j : Key) → is_same k j ≡ is_same j k
 same_back Load Load = refl
 same_back Load Demo = refl
 same_back Load Replay = refl
+same_back Load Workers = refl
 same_back Demo Load = refl
 same_back Demo Demo = refl
 same_back Demo Replay = refl
+same_back Demo Workers = refl
 same_back Replay Load = refl
 same_back Replay Demo = refl
 same_back Replay Replay = refl
+same_back Replay Workers = refl
+same_back Workers Load = refl
+same_back Workers Demo = refl
+same_back Workers Replay = refl
+same_back Workers Workers = refl
 
 pub same_itself : (k : Key) → is_same k k ≡ true
 same_itself Load = refl
 same_itself Demo = refl
 same_itself Replay = refl
+same_itself Workers = refl
 
 pub same_key : (k j : Key) → is_same k j ≡ true → k ≡ j
 same_key Load Load e = refl
 same_key Load Demo e = cc
 same_key Load Replay e = cc
+same_key Load Workers e = cc
 same_key Demo Load e = cc
 same_key Demo Demo e = refl
 same_key Demo Replay e = cc
+same_key Demo Workers e = cc
 same_key Replay Load e = cc
 same_key Replay Demo e = cc
 same_key Replay Replay e = refl
+same_key Replay Workers e = cc
+same_key Workers Load e = cc
+same_key Workers Demo e = cc
+same_key Workers Replay e = cc
+same_key Workers Workers e = refl
 
 pub used_is : (k : Key) (gs : List Given) → is_used k (rows_of gs) ≡ is_among k gs
 used_is k [] = refl

@@ -10,7 +10,7 @@ use Rattle.clap.specs.Words.{Text}
 use Rattle.clap.specs.Lexer.{has_byte, long_of, long_of_rest, name_and_value, short_of, short_of_rest, strip_byte}
 use Rattle.option_words.specs.Grammar.{as_option, begins_with, begins_with_dash, either_of, name_of, option_of}
 use Rattle.option_words.specs.declared.options.Key.{Key}
-use Rattle.option_words.specs.declared.options.Key.TheVariants.{Load, Demo, Replay}
+use Rattle.option_words.specs.declared.options.Key.TheVariants.{Load, Demo, Replay, Workers}
 use Rattle.option_words.proofs.ClapSteps.{id_of, attached}
 use Rattle.option_words.proofs.WordKinds.{IsLoose, IsUnknown, unknown_long, unknown_short, loose_flags, loose_plain}
 
@@ -75,11 +75,13 @@ long_of_name : (k : Key) → long_of (name_of k) ≡ Some (id_of k, None)
 long_of_name Load = refl
 long_of_name Demo = refl
 long_of_name Replay = refl
+long_of_name Workers = refl
 
 long_of_attached : (k : Key) (value : Text) → long_of (attached k value) ≡ Some (id_of k, Some value)
 long_of_attached Load value = refl
 long_of_attached Demo value = refl
 long_of_attached Replay value = refl
+long_of_attached Workers value = refl
 
 -- what is no long flag with an option's name is no option
 no_long : (word : Text) (k : Key) → ((value : Option Text) → long_of word ≡ Some (id_of k, value) → ⊥) → as_option k word ≡ None
@@ -98,7 +100,7 @@ no_long word k other = by (bytes_eq word (name_of k)) refl (begins_with (name_of
     by false _ false _ = refl
 
 none_of : (word : Text) → ((k : Key) (value : Option Text) → long_of word ≡ Some (id_of k, value) → ⊥) → option_of word ≡ None
-none_of word other = ap₂ either_of (no_long word Load (other Load)) (ap₂ either_of (no_long word Demo (other Demo)) (no_long word Replay (other Replay)))
+none_of word other = ap₂ either_of (no_long word Load (other Load)) (ap₂ either_of (no_long word Demo (other Demo)) (ap₂ either_of (no_long word Replay (other Replay)) (no_long word Workers (other Workers))))
 
 -- a word is an option's name, its name and a value, a word that clap refuses, or one that it takes for a value
 pub data IsWord (word : Text) : Type 0 where
@@ -111,6 +113,7 @@ long_name : (k : Key) → 45 ∷ 45 ∷ id_of k ≡ name_of k
 long_name Load = refl
 long_name Demo = refl
 long_name Replay = refl
+long_name Workers = refl
 
 pub classify : (word : Text) → bytes_eq word (codes "--") ≡ false → IsWord word
 classify word other = on_long (long_of word) refl
@@ -129,11 +132,12 @@ classify word other = on_long (long_of word) refl
     on_key k name (Some value) is same = is_attached k value (long_spelled word name (Some value) is ∙ spelled_out k name same (61 ∷ value))
 
     on_name : (name : Text) (value : Option Text) → long_of word ≡ Some (name, value) → (a : Bool) → bytes_eq (id_of Load) name ≡ a → (b : Bool) → bytes_eq (id_of Demo) name ≡ b
-        → (c : Bool) → bytes_eq (id_of Replay) name ≡ c → IsWord word
-    on_name name value is true same b _ c _ = on_key Load name value is same
-    on_name name value is false _ true same c _ = on_key Demo name value is same
-    on_name name value is false _ false _ true same = on_key Replay name value is same
-    on_name name value is false no_load false no_demo false no_replay =
+        → (c : Bool) → bytes_eq (id_of Replay) name ≡ c → (d : Bool) → bytes_eq (id_of Workers) name ≡ d → IsWord word
+    on_name name value is true same b _ c _ d _ = on_key Load name value is same
+    on_name name value is false _ true same c _ d _ = on_key Demo name value is same
+    on_name name value is false _ false _ true same d _ = on_key Replay name value is same
+    on_name name value is false _ false _ false _ true same = on_key Workers name value is same
+    on_name name value is false no_load false no_demo false no_replay false no_workers =
         is_unknown (unknown_long word name value other is differ)
         (none_of word (λ k v at. not_key k name value is (differ k) v at))
         (long_dash word name value is)
@@ -142,6 +146,7 @@ classify word other = on_long (long_of word) refl
         differ Load = no_load
         differ Demo = no_demo
         differ Replay = no_replay
+        differ Workers = no_workers
 
     no_option : long_of word ≡ None → option_of word ≡ None
     no_option none = none_of word (λ k v at. cc)
@@ -156,4 +161,4 @@ classify word other = on_long (long_of word) refl
 
     on_long : (p : Option (Text × Option Text)) → long_of word ≡ p → IsWord word
     on_long None is = on_short is (short_of word) refl
-    on_long (Some (name, value)) is = on_name name value is (bytes_eq (id_of Load) name) refl (bytes_eq (id_of Demo) name) refl (bytes_eq (id_of Replay) name) refl
+    on_long (Some (name, value)) is = on_name name value is (bytes_eq (id_of Load) name) refl (bytes_eq (id_of Demo) name) refl (bytes_eq (id_of Replay) name) refl (bytes_eq (id_of Workers) name) refl

@@ -4,9 +4,10 @@ use Rattle.clap.specs.Words.{App, Row, Text, IsAmong, fault_of, first_of, is_sim
 use Rattle.clap.specs.declared.error.kind.ErrorKind.{ErrorKind}
 use Rattle.clap.specs.declared.error.kind.ErrorKind.TheVariants.{OutOfMemory}
 use Rattle.option_words.specs.Command.{options_app}
-use Rattle.option_words.specs.Grammar.{Given, are_distinct, asked_by, asked_of, asked_with, given_from, if_distinct, options_for, replay_asked}
+use Rattle.option_words.specs.Grammar.{Given, are_distinct, asked_by, asked_of, asked_with, given_from, if_distinct, options_for, replay_asked, value_of, workers_asked}
 use Rattle.option_words.specs.Reading.{NoneEnds}
-use Rattle.option_words.specs.declared.options.Key.TheVariants.{Load, Demo, Replay}
+use Rattle.option_words.specs.declared.options.Key.TheVariants.{Load, Demo, Replay, Workers}
+use Rattle.option_words.specs.declared.options.Model.{Model}
 use Rattle.option_words.proofs.ClapSteps.{id_of, settled_at, simple, simple_and_free, whole_fault, whole_rows}
 use Rattle.option_words.proofs.Dashes.{dash_asks_nothing}
 use Rattle.option_words.proofs.Rows.{first_is, rows_of}
@@ -20,11 +21,11 @@ none_asked : (said : Option (List Given)) → IsUnsaid [] said → if_distinct s
 none_asked None unsaid = refl
 none_asked (Some hs) twice = ap (λ (t : Bool). cond t (asked_by hs) None) twice
 
-pub taken_texts : (app : App) (words : List Text) (rows : List Row) (load demo replay : Option Text) → app ≡ options_app → NoneEnds words
+pub taken_texts : (app : App) (words : List Text) (rows : List Row) (load demo replay workers : Option Text) → app ≡ options_app → NoneEnds words
     → (is_simple_and_free app ≡ true → fault_of app words ≡ []) → (is_simple app ≡ true → rows ≡ matches_of app words)
-    → load ≡ first_of (id_of Load) rows → demo ≡ first_of (id_of Demo) rows → replay ≡ first_of (id_of Replay) rows
-    → asked_of words ≡ options_for (asked_with load demo) (replay_asked replay)
-taken_texts app words rows load demo replay is none fine read at_load at_demo at_replay = by (agrees words none)
+    → load ≡ first_of (id_of Load) rows → demo ≡ first_of (id_of Demo) rows → replay ≡ first_of (id_of Replay) rows → workers ≡ first_of (id_of Workers) rows
+    → asked_of words ≡ options_for (asked_with load demo) (replay_asked replay) (workers_asked workers)
+taken_texts app words rows load demo replay workers is none fine read at_load at_demo at_replay at_workers = by (agrees words none)
   where
     no_fault : fault_of options_app words ≡ []
     no_fault = ap (λ (a : App). fault_of a words) (sym is) ∙ fine (ap is_simple_and_free is ∙ simple_and_free)
@@ -32,13 +33,14 @@ taken_texts app words rows load demo replay is none fine read at_load at_demo at
     same_rows : rows ≡ matches_of options_app words
     same_rows = read (ap is_simple is ∙ simple) ∙ ap (λ (a : App). matches_of a words) is
 
-    by : Agrees (settled_at []) [] None words → asked_of words ≡ options_for (asked_with load demo) (replay_asked replay)
+    by : Agrees (settled_at []) [] None words → asked_of words ≡ options_for (asked_with load demo) (replay_asked replay) (workers_asked workers)
     by (taken hs _ finished distinct said) =
         let found : rows ≡ rows_of hs = same_rows ∙ whole_rows words ∙ finished in
         asked_is hs (given_from words None) distinct said
-        ∙ sym (ap₂ options_for
+        ∙ sym (ap₂ (λ (m : Option Model) (r : Option (Option Text)). options_for m r (workers_asked workers))
         (ap₂ asked_with (at_load ∙ ap (first_of (id_of Load)) found ∙ first_is Load hs) (at_demo ∙ ap (first_of (id_of Demo)) found ∙ first_is Demo hs))
-        (ap replay_asked (at_replay ∙ ap (first_of (id_of Replay)) found ∙ first_is Replay hs)))
+        (ap replay_asked (at_replay ∙ ap (first_of (id_of Replay)) found ∙ first_is Replay hs))
+        ∙ ap (λ (w : Option Text). options_for (asked_with (value_of Load hs) (value_of Demo hs)) (replay_asked (value_of Replay hs)) (workers_asked w)) (at_workers ∙ ap (first_of (id_of Workers)) found ∙ first_is Workers hs))
     by (refused comes _) = absurd (subst Comes (sym (whole_fault words) ∙ no_fault) comes)
 
 pub refused_texts : (app : App) (words : List Text) (k : ErrorKind) → app ≡ options_app → NoneEnds words

@@ -11,9 +11,9 @@ use Rattle.clap.specs.Simple.{filled}
 use Rattle.clap.specs.Walk.{Held, Outcome, Step, Waiting, idle, option, positional, plain, plain_word, subcommand_met, subcommand_or_other, long_or_other, short_or_plain, trailing, walked, word_met, after_step, after_flag, bundle_step, bundle_met}
 use Rattle.clap.specs.declared.error.kind.ErrorKind.TheVariants as kind
 use Rattle.clap.proofs.OnLiterals.{clap_on_literals}
-use Rattle.option_words.specs.Command.{load_rule, demo_rule, replay_rule}
+use Rattle.option_words.specs.Command.{load_rule, demo_rule, replay_rule, workers_rule}
 use Rattle.option_words.specs.declared.options.Key.{Key}
-use Rattle.option_words.specs.declared.options.Key.TheVariants.{Load, Demo, Replay}
+use Rattle.option_words.specs.declared.options.Key.TheVariants.{Load, Demo, Replay, Workers}
 use Rattle.option_words.proofs.ClapSteps.{app, rules, id_of, at, named, holding}
 
 abbrev pub held : List Row → Option (Text × List Text) → Held
@@ -53,12 +53,14 @@ pub unknown_long : (word name : Text) (value : Option Text) → bytes_eq word (c
 unknown_long word name value other is no_option = unknown_by word (λ rows pending waiting.
     as_flag word other waiting (held rows pending)
     ∙ ap (λ (l : Option (Text × Option Text)). flag_word_fault rules false l word (held rows pending)) is
-    ∙ ap₂ (λ (a b : Bool). found rows pending a b (bytes_eq (id_of Replay) name)) (no_option Load) (no_option Demo)
-    ∙ ap (found rows pending false false) (no_option Replay))
+    ∙ ap₂ (λ (a b : Bool). found rows pending a b (bytes_eq (id_of Replay) name) (bytes_eq (id_of Workers) name)) (no_option Load) (no_option Demo)
+    ∙ ap₂ (found rows pending false false) (no_option Replay) (no_option Workers))
   where
-    found : List Row → Option (Text × List Text) → Bool → Bool → Bool → Kinds
-    found rows pending a b c =
-        long_fault rules false (cond (a || false) (Some (filled load_rule)) (cond (b || false) (Some (filled demo_rule)) (cond (c || false) (Some (filled replay_rule)) None))) value (held rows pending)
+    found : List Row → Option (Text × List Text) → Bool → Bool → Bool → Bool → Kinds
+    found rows pending a b c d =
+        long_fault rules false
+        (cond (a || false) (Some (filled load_rule)) (cond (b || false) (Some (filled demo_rule)) (cond (c || false) (Some (filled replay_rule)) (cond (d || false) (Some (filled workers_rule)) None))))
+        value (held rows pending)
 
 flags_unknown : (flags : Text) (x : ℕ) (h : Held) → slice_get (chars flags) 0 ≡ Some x → flags_fault rules false (length flags) flags 0 h ≡ kind.UnknownArgument ∷ []
 unfolding clap_on_literals
@@ -114,9 +116,11 @@ pub loose_named : (word : Text) → IsLoose word → (k : Key) (rows : List Row)
 loose_named word is Load rows = ap₂ (λ (f : Kinds) (m : Held × Step). or_else f (step_fault app.top 1 m.0 m.1)) (is rows (Some (id_of Load, [])) (option (id_of Load))).0 (is rows (Some (id_of Load, [])) (option (id_of Load))).1
 loose_named word is Demo rows = ap₂ (λ (f : Kinds) (m : Held × Step). or_else f (step_fault app.top 1 m.0 m.1)) (is rows (Some (id_of Demo, [])) (option (id_of Demo))).0 (is rows (Some (id_of Demo, [])) (option (id_of Demo))).1
 loose_named word is Replay rows = ap₂ (λ (f : Kinds) (m : Held × Step). or_else f (step_fault app.top 1 m.0 m.1)) (is rows (Some (id_of Replay, [])) (option (id_of Replay))).0 (is rows (Some (id_of Replay, [])) (option (id_of Replay))).1
+loose_named word is Workers rows = ap₂ (λ (f : Kinds) (m : Held × Step). or_else f (step_fault app.top 1 m.0 m.1)) (is rows (Some (id_of Workers, [])) (option (id_of Workers))).0 (is rows (Some (id_of Workers, [])) (option (id_of Workers))).1
 
 pub loose_held : (word : Text) → IsLoose word → (k : Key) (rows : List Row) → walked rules [] (named k rows) word ≡ holding k word rows
 unfolding clap_on_literals
 loose_held word is Load rows = ap (λ (m : Held × Step). after_step rules word (named Load rows) m.0 m.1) (is rows (Some (id_of Load, [])) (option (id_of Load))).1
 loose_held word is Demo rows = ap (λ (m : Held × Step). after_step rules word (named Demo rows) m.0 m.1) (is rows (Some (id_of Demo, [])) (option (id_of Demo))).1
 loose_held word is Replay rows = ap (λ (m : Held × Step). after_step rules word (named Replay rows) m.0 m.1) (is rows (Some (id_of Replay, [])) (option (id_of Replay))).1
+loose_held word is Workers rows = ap (λ (m : Held × Step). after_step rules word (named Workers rows) m.0 m.1) (is rows (Some (id_of Workers, [])) (option (id_of Workers))).1

@@ -1,4 +1,4 @@
--- The command that reads the words: three options, with one value each.
+-- The command that reads the words: four options, with one value each.
 use Rattle.std.specs.Prelude.{true, Some, codes}
 use Rattle.clap.specs.Words.{App, Rule, new_app, new_rule, with_rule}
 use Rattle.clap.specs.Simple.{on_top}
@@ -16,10 +16,14 @@ demo_rule = record (new_rule (codes "demo")) { long = Some (codes "demo"); actio
 abbrev pub replay_rule : Rule
 replay_rule = record (new_rule (codes "replay")) { long = Some (codes "replay"); action = Some Set }
 
+-- the option `--workers`
+abbrev pub workers_rule : Rule
+workers_rule = record (new_rule (codes "workers")) { long = Some (codes "workers"); action = Some Set }
+
 -- the first word is no program's name, and there is no help and no version to ask for
 abbrev pub bare_app : App
 bare_app = on_top (λ s. record s { no_binary_name = true; disable_help_flag = true; disable_version_flag = true }) (new_app (codes "mgedrt"))
 
 -- the command of the program's options
 abbrev pub options_app : App
-options_app = with_rule (with_rule (with_rule bare_app load_rule) demo_rule) replay_rule
+options_app = with_rule (with_rule (with_rule (with_rule bare_app load_rule) demo_rule) replay_rule) workers_rule

@@ -1,12 +1,12 @@
 -- The words after the program's name: options with a value each, in any order, each at most once. A file and a demo
--- exclude each other; the order of a run goes with either of them and with none.
-use Rattle.std.specs.Prelude.{ℕ, Bool, true, false, not, ◌&&◌, ◌==◌, ◌+◌, List, [], ◌∷◌, ◌++◌, length, take, drop, Option, None, Some, is_ok, codes, bytes_eq, slice_index_or, if◌then◌else◌}
+-- exclude each other; the order of a run and the number of workers go with either of them, with one another and alone.
+use Rattle.std.specs.Prelude.{ℕ, Bool, true, false, not, ◌&&◌, ◌==◌, ◌+◌, nat_le, List, [], ◌∷◌, ◌++◌, length, take, drop, Option, None, Some, is_ok, codes, bytes_eq, slice_index_or, if◌then◌else◌}
 use Rattle.std.specs.List.{list_any}
-use Rattle.std.specs.Option.{option_map}
+use Rattle.std.specs.Option.{option_and_then, option_map}
 use Rattle.name_core.specs.NameText.{read_name}
 use Rattle.option_words.specs.Numbers.{number_of}
 use Rattle.option_words.specs.declared.options.Key.{Key}
-use Rattle.option_words.specs.declared.options.Key.TheVariants.{Load, Demo, Replay}
+use Rattle.option_words.specs.declared.options.Key.TheVariants.{Load, Demo, Replay, Workers}
 use Rattle.option_words.specs.declared.options.Model.{Model}
 use Rattle.option_words.specs.declared.options.Model.TheVariants.{Empty, OfFile, OfDemo}
 use Rattle.option_words.specs.declared.options.Options.{Options}
@@ -26,6 +26,7 @@ abbrev pub name_of : Key → List ℕ
 name_of Load = codes "--load"
 name_of Demo = codes "--demo"
 name_of Replay = codes "--replay"
+name_of Workers = codes "--workers"
 
 -- whether a word is this option: its name alone, so that the next word is its value, or its name, `=` and its value
 abbrev pub as_option : Key → List ℕ → Option (Key × Option (List ℕ))
@@ -40,7 +41,7 @@ either_of (Some found) other = Some found
 
 -- which option a word is
 abbrev pub option_of : List ℕ → Option (Key × Option (List ℕ))
-option_of word = either_of (as_option Load word) (either_of (as_option Demo word) (as_option Replay word))
+option_of word = either_of (as_option Load word) (either_of (as_option Demo word) (either_of (as_option Replay word) (as_option Workers word)))
 
 -- a value in a word of its own does not begin with `-`
 abbrev pub begins_with_dash : List ℕ → Bool
@@ -68,6 +69,7 @@ abbrev pub is_same : Key → Key → Bool
 is_same Load Load = true
 is_same Demo Demo = true
 is_same Replay Replay = true
+is_same Workers Workers = true
 is_same _ _ = false
 
 -- whether an option is among those that are given
@@ -107,15 +109,29 @@ abbrev pub replay_asked : Option (List ℕ) → Option (Option (List ℕ))
 replay_asked None = Some None
 replay_asked (Some name) = option_map (λ n. Some n) (name_asked name)
 
--- a model and the file that names the order of the run, none where one of them cannot be asked for
-abbrev pub options_for : Option Model → Option (Option (List ℕ)) → Option Options
-options_for None replay = None
-options_for (Some model) None = None
-options_for (Some model) (Some replay) = Some (record { model = model; replay = replay })
+-- how many workers there are where the words do not say
+abbrev pub usual_workers : ℕ
+usual_workers = 4
+
+-- how many workers there may be: 1 to 16
+abbrev pub allowed_workers : ℕ → Option ℕ
+allowed_workers count = if nat_le 1 count && nat_le count 16 then Some count else None
+
+-- how many workers by the value of `--workers`, where it is given; none where this is no number from 1 to 16
+abbrev pub workers_asked : Option (List ℕ) → Option ℕ
+workers_asked None = Some usual_workers
+workers_asked (Some count) = option_and_then allowed_workers (number_of count)
+
+-- a model, the file that names the order of the run and how many workers, none where one of them cannot be asked for
+abbrev pub options_for : Option Model → Option (Option (List ℕ)) → Option ℕ → Option Options
+options_for None replay workers = None
+options_for (Some model) None workers = None
+options_for (Some model) (Some replay) None = None
+options_for (Some model) (Some replay) (Some workers) = Some (record { model = model; replay = replay; workers = workers })
 
 -- what the given options ask for
 abbrev pub asked_by : List Given → Option Options
-asked_by options = options_for (asked_with (value_of Load options) (value_of Demo options)) (replay_asked (value_of Replay options))
+asked_by options = options_for (asked_with (value_of Load options) (value_of Demo options)) (replay_asked (value_of Replay options)) (workers_asked (value_of Workers options))
 
 abbrev pub if_distinct : Option (List Given) → Option Options
 if_distinct None = None

@@ -1,4 +1,4 @@
--- The number of a demo: one to nine decimal digits, leading zeros among them.
+-- The number of a demo, and of workers: one to nine decimal digits, leading zeros among them.
 use Rattle.std.specs.Prelude.{◌≡◌, ◌<◌, ◌+◌, ◌-◌, ◌*◌, ◌&&◌, ℕ, Bool, true, nat_lt, nat_le, List, length, Option, Some, None, fold, slice_index, if◌then◌else◌}
 use Rattle.std.specs.List.{list_all}
 use Rattle.std.specs.Char.{is_ascii_digit}

@@ -1,7 +1,7 @@
 -- What a call that reads the words of the command line answers.
 use Rattle.std.specs.Prelude.{◌≡◌, ◌<◌, ◌^◌, ℕ, false, List, [], ◌∷◌, Option, Some, None, option_map, Result, Ok, Err, bytes_eq, codes}
 use Rattle.std.specs.Borrow.{Bor}
-use Rattle.option_words.specs.Grammar.{asked_of, asked_with, options_for, replay_asked}
+use Rattle.option_words.specs.Grammar.{asked_of, asked_with, options_for, replay_asked, workers_asked}
 use Rattle.option_words.specs.declared.command.Texts.{Texts}
 use Rattle.option_words.specs.declared.fault.OptionsFault.{OptionsFault}
 use Rattle.option_words.specs.declared.fault.OptionsFault.TheVariants.{Usage, Memory}
@@ -35,5 +35,5 @@ behind text = option_map (λ t. t.now) text
 
 -- the texts behind the options, where the words ask for no more and no less than these stand for
 abbrev pub AreTexts : Result Texts OptionsFault → List (List ℕ) → Type 0
-AreTexts (Ok texts) words = asked_of words ≡ options_for (asked_with (behind texts.load) (behind texts.demo)) (replay_asked (behind texts.replay))
+AreTexts (Ok texts) words = asked_of words ≡ options_for (asked_with (behind texts.load) (behind texts.demo)) (replay_asked (behind texts.replay)) (workers_asked (behind texts.workers))
 AreTexts (Err fault) words = IsOptions (Err fault) words

@@ -1,7 +1,7 @@
 //! The command by which the words are read.
 ghost use Rattle.std.specs.Prelude.{◌≡◌, IfOk, false, map, string_bytes};
 ghost use Rattle.clap.specs.Words.{app_of, rule_of};
-ghost use Rattle.option_words.specs.Command.{bare_app, demo_rule, load_rule, options_app, replay_rule};
+ghost use Rattle.option_words.specs.Command.{bare_app, demo_rule, load_rule, options_app, replay_rule, workers_rule};
 ghost use Rattle.option_words.specs.Reading.{AreTexts, NoneEnds};
 
 use crate::fault::OptionsFault;
@@ -16,6 +16,7 @@ pub(crate) struct Texts<'a> {
     pub(crate) load: Option<&'a str>,
     pub(crate) demo: Option<&'a str>,
     pub(crate) replay: Option<&'a str>,
+    pub(crate) workers: Option<&'a str>,
 }
 
 /// The option `--load NAME`. Its value is text, which is read as a name afterwards.
@@ -44,6 +45,16 @@ fn replay_option<'a>(alloc: Global) -> Arg<'a>
         .action(ArgAction::Set)
 }
 
+/// The option `--workers N`. Its value is text, which is read as a number afterwards.
+fn workers_option<'a>(alloc: Global) -> Arg<'a>
+    ensures rule { rule_of result ≡ workers_rule }
+    ensures local { result.global ≡ false }
+{
+    Arg::new(alloc, "workers")
+        .long("workers")
+        .action(ArgAction::Set)
+}
+
 /// A command with no option, not even for help, whose words begin behind the program's name.
 fn bare_command<'a>(alloc: Global) -> Command<'a>
     ensures { app_of result ≡ bare_app }
@@ -61,6 +72,7 @@ fn options_command<'a>(alloc: Global) -> Result<Command<'a>, Memory>
     let command = bare_command(alloc).arg(load_option(alloc))?;
     let command = command.arg(demo_option(alloc))?;
     let command = command.arg(replay_option(alloc))?;
+    let command = command.arg(workers_option(alloc))?;
     Ok(command)
 }
 
@@ -77,6 +89,7 @@ pub(crate) fn option_texts<'a>(
             load: matches.get_str("load"),
             demo: matches.get_str("demo"),
             replay: matches.get_str("replay"),
+            workers: matches.get_str("workers"),
         }),
         Err(error) if error.kind() == ErrorKind::OutOfMemory => Err(OptionsFault::Memory),
         Err(_) => Err(OptionsFault::Usage),

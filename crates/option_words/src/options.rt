@@ -10,6 +10,8 @@ pub enum Key {
     Demo,
     /// `--replay NAME`: the file that names the order of the run.
     Replay,
+    /// `--workers N`: how many threads may shoot the tiles of one picture or check.
+    Workers,
 }
 
 /// The model that there is at the start.
@@ -30,4 +32,6 @@ pub struct Options {
     pub model: Model,
     /// The file that names the order of the run, where one is asked for.
     pub replay: Option<Name>,
+    /// How many threads may shoot the tiles of one picture or check: from 1 to 16, and 4 where the words do not say.
+    pub workers: u8,
 }

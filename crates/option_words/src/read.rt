@@ -1,7 +1,7 @@
 //! Words are read as options.
-ghost use Rattle.std.specs.Prelude.{◌≡◌, IfOk, IfSome, bytes_eq, codes, map, string_bytes};
+ghost use Rattle.std.specs.Prelude.{◌≡◌, ◌≤◌, IfOk, IfSome, bytes_eq, codes, map, string_bytes};
 ghost use Rattle.std.specs.List.{list_any};
-ghost use Rattle.option_words.specs.Grammar.{asked_with, demo_asked, file_asked, name_asked, options_for, replay_asked};
+ghost use Rattle.option_words.specs.Grammar.{asked_with, demo_asked, file_asked, name_asked, options_for, replay_asked, workers_asked};
 ghost use Rattle.option_words.specs.Reading.{HasNumber, IsAnswer, IsOptions, behind};
 
 use crate::command::{Texts, option_texts};
@@ -10,6 +10,9 @@ use crate::number::read_number;
 use crate::options::{Model, Options};
 use name_core::Name;
 use std::alloc::Global;
+
+/// How many workers there are where the words do not say.
+const USUAL_WORKERS: u8 = 4;
 
 /// Whether one of the words is `--`. Behind it `clap` takes no word for an option.
 fn has_end(words: &[String]) -> bool
@@ -71,23 +74,51 @@ fn replay_with(texts: Texts) -> Option<Option<Name>>
     }
 }
 
+/// The number of workers that a text is, from 1 to 16.
+fn workers_in(text: &str) -> Option<u8>
+    ensures workers { result ≡ workers_asked (Some text.now) }
+    ensures few { IfSome result (λ workers. (1 ≤ workers) × (workers ≤ 16)) }
+{
+    match read_number(text.as_bytes()) {
+        Some(count) if 1 <= count && count <= 16 => Some(count as u8),
+        _ => None,
+    }
+}
+
+/// How many workers a command line with these texts behind its options asks for; none where this is no number from 1 to 16.
+fn workers_with(texts: Texts) -> Option<u8>
+    ensures workers { result ≡ workers_asked (behind texts.entry.workers) }
+    ensures few { IfSome result (λ workers. (1 ≤ workers) × (workers ≤ 16)) }
+{
+    match texts.workers {
+        Some(text) => workers_in(text),
+        None => Some(USUAL_WORKERS),
+    }
+}
+
 /// The options of a command line with these texts.
 fn options_with(texts: Texts) -> Result<Options, OptionsFault>
-    ensures options { IsAnswer result (options_for (asked_with (behind texts.entry.load) (behind texts.entry.demo)) (replay_asked (behind texts.entry.replay))) }
+    ensures options { IsAnswer result (options_for (asked_with (behind texts.entry.load) (behind texts.entry.demo)) (replay_asked (behind texts.entry.replay)) (workers_asked (behind texts.entry.workers))) }
     ensures number { IfOk result (λ options. HasNumber options.model) }
+    ensures workers { IfOk result (λ options. (1 ≤ options.workers) × (options.workers ≤ 16)) }
 {
-    match (model_with(texts), replay_with(texts)) {
-        (Some(model), Some(replay)) => Ok(Options { model, replay }),
+    match (model_with(texts), replay_with(texts), workers_with(texts)) {
+        (Some(model), Some(replay), Some(workers)) => Ok(Options {
+            model,
+            replay,
+            workers,
+        }),
         _ => Err(OptionsFault::Usage),
     }
 }
 
-/// Reads the words after the program's name: `--load NAME` or `--demo N`, and `--replay NAME`, or these with `=` in place of
-/// the blank, each at most once and in any order, and no other word. A value in a word of its own does not begin with `-`.
-/// `N` is one to nine digits.
+/// Reads the words after the program's name: `--load NAME` or `--demo N`, `--replay NAME`, and `--workers N`, or these with
+/// `=` in place of the blank, each at most once and in any order, and no other word. A value in a word of its own does not
+/// begin with `-`. `N` is one to nine digits; the number of workers is from 1 to 16, and 4 where it is not given.
 pub fn read_options(alloc: Global, words: &Vec<String>) -> Result<Options, OptionsFault>
     ensures options { IsOptions result (map string_bytes words.now.items) }
     ensures number { IfOk result (λ options. HasNumber options.model) }
+    ensures workers { IfOk result (λ options. (1 ≤ options.workers) × (options.workers ≤ 16)) }
 {
     let words = words.as_slice();
     if has_end(words) {

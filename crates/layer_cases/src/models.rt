@@ -111,16 +111,22 @@ fn put_model(model: Model, out: &mut Shown) {
     }
 }
 
-/// Puts in what the words ask for: the model, and behind it ` replay NAME` where the order of a run is asked for.
+/// Puts in what the words ask for: the model, behind it ` replay NAME` where the order of a run is asked for, and
+/// ` workers N` where these are not 4.
 fn put_options(options: &Options, out: &mut Shown) {
     put_model(options.model, out);
     if let Some(name) = options.replay {
         out.put(b" replay ");
         out.put(name.bytes());
     }
+    if options.workers != 4 {
+        out.put(b" workers ");
+        out.put_number(options.workers);
+    }
 }
 
-/// `options WORD .. => load NAME`, `demo N`, or `nothing`, with ` replay NAME` where it is asked for; or `usage`
+/// `options WORD .. => load NAME`, `demo N`, or `nothing`, with ` replay NAME` where it is asked for, and ` workers N` where
+/// these are not 4; or `usage`
 pub fn answer_options(alloc: Global, given: &[u8], out: &mut Shown) -> Result<(), CaseFault> {
     let words = strings_of(alloc, given)?;
     match read_options(alloc, &words) {

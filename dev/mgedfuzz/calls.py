@@ -28,9 +28,13 @@ BAD_WORDS = (
     ["--load", "NAME", "--"], ["--", "--load", "NAME"], ["--"], ["-"], [""], ["--load", "NAME", ""], ["NAME"], ["NAME", "--load"], ["load", "NAME"], ["-load", "NAME"],
     ["--loa", "NAME"], ["--l=NAME"], ["--loads", "NAME"], ["-l", "NAME"], ["-lNAME"], ["--LOAD", "NAME"], ["--no-load"], ["--file", "NAME"], ["--help"], ["-h"], ["--version"], ["-V"], ["help"],
     ["--demo"], ["--demo="], ["--demo", ""], ["--demo", "-1"], ["--demo=-1"], ["--demo=+1"], ["--demo=1.0"], ["--demo", "NAME"], ["--demo=0000000007"], ["--demo=1000000000"], ["--demo", "7", "--demo", "7"],
+    ["--workers"], ["--workers="], ["--workers", ""], ["--workers", "0"], ["--workers=000"], ["--workers", "17"], ["--workers=17"], ["--workers=0000000004"], ["--workers", "4294967300"], ["--workers=260"], ["--workers", "-4"],
+    ["--workers=-4"], ["--workers=+4"], ["--workers=4.0"], ["--workers", "NAME"], ["--workers", "4", "--workers", "4"], ["--workers=4", "--workers", "4"], ["--workers", "--workers=4"], ["--workers", "4", "4"], ["--workers4"],
+    ["--work=4"], ["-w", "4"], ["--workers=4 "], ["--workers=\u0664"], ["--workers", "4", "--"], ["--workers", "--load=NAME"], ["--load", "--workers=4"], ["--workers", "0", "--load=NAME"], ["--load", "NAME", "--workers=17"],
     ["--demo=7", "--load=NAME"], ["--load", "NAME", "--demo", "7"], ["--demo", "--load=NAME"], ["--load", "--demo=7"], ["--demo", "7", "NAME"], ["--demo7"], ["--dem=7"], ["--demo=7 "], ["--demo=\u0667"],
 )  # fmt: skip
 BAD_WORDS += tuple([word.replace("load", "replay") for word in words] for words in BAD_WORDS if any("load" in word for word in words))
+WORKERS = ("1", "1", "3", "3", "16", "16", "2", "4", "5", "8", "15", "007", "000000016")
 MOST_USED = 2**26  # bytes of the bodies and files of one session
 
 
@@ -52,7 +56,14 @@ def call(rng):
     lines = script(maker, (file, *OTHERS, "a"))
     text = mutated(rng, lines) if rng.random() < 0.5 else "".join(line + "\n" for line in lines).encode()
     merge, broken = (rng.getrandbits(32) if rng.random() < share else None for share in (0.5, 0.3))
-    return Call(words, files, text, merge, broken)
+    return Call(with_workers(rng, words), files, text, merge, broken)
+
+
+def with_workers(rng, words):
+    """The words, in most calls with a number of workers before them or behind them. Nothing that comes depends on it."""
+    number = rng.choice(WORKERS)
+    asked = rng.choice(([], ["--workers", number], [f"--workers={number}"]))
+    return asked + words if rng.random() < 0.5 else words + asked
 
 
 def model_and_directory(rng):

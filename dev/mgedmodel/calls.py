@@ -14,8 +14,12 @@ from .words import name
 MOST_OF_A_MODEL = 16_777_216  # bytes
 MOST_OF_AN_ORDER = 131_078  # bytes that are asked for: the longest line of an order has one less, with its line feed as many
 
-# What words ask for: the name of a file to load, the number of a demo, and the name of a file with an order, or None.
-Asked = namedtuple("Asked", "load demo replay", defaults=[None] * 3)
+USUAL_WORKERS = 4
+MOST_WORKERS = 16
+
+# What words ask for: the name of a file to load, the number of a demo, and the name of a file with an order, or None; and how
+# many workers, on which nothing that comes depends.
+Asked = namedtuple("Asked", "load demo replay workers", defaults=[None] * 3 + [USUAL_WORKERS])
 
 
 class Ended(Exception):
@@ -41,8 +45,8 @@ def call(words, get, script, order=None, marks=frozenset()):
 
 
 def asked_by(words):
-    """What words ask for: `--load NAME`, `--demo N` and `--replay NAME`, each also with `=`, and at most once. No other words
-    are allowed, nor a demo beside a file to load."""
+    """What words ask for: `--load NAME`, `--demo N`, `--replay NAME` and `--workers N`, each also with `=`, and at most once.
+    No other words are allowed, nor a demo beside a file to load."""
     given, words = {}, iter(words)
     for word in words:
         option, sign, value = word.partition("=")
@@ -64,7 +68,12 @@ def number_of(value):
     return int(value) if re.fullmatch("[0-9]{1,9}", value) else None
 
 
-READERS = {"--load": name_of, "--demo": number_of, "--replay": name_of}
+def workers_of(value):
+    number = number_of(value)
+    return number if number is not None and 1 <= number <= MOST_WORKERS else None
+
+
+READERS = {"--load": name_of, "--demo": number_of, "--replay": name_of, "--workers": workers_of}
 
 
 def directory_of(asked, get):

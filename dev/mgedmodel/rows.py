@@ -1,10 +1,11 @@
 """Rows of models, as `load TEXT => saved WRITTEN` and `load TEXT => line L KIND`, and of words, as `options WORD .. => load
-NAME`, `.. => demo N`, `.. => nothing` and each of these with ` replay NAME`, with texts as docs/CASES.md escapes them."""
+NAME`, `.. => demo N`, `.. => nothing` and each of these with ` replay NAME`, and with ` workers N` where these are not the
+usual number, with texts as docs/CASES.md escapes them."""
 
 import os
 import re
 
-from .calls import Ended, asked_by
+from .calls import USUAL_WORKERS, Ended, asked_by
 from .models import read_model
 from .refused import Refused
 from .written import text_of
@@ -31,7 +32,8 @@ def asked_of(words):
         asked = asked_by([os.fsdecode(word) for word in words])
     except Ended:
         return b"usage"
-    told = [f"{what} {value}" for what, value in asked._asdict().items() if value is not None]
+    values = dict(asked._asdict(), workers=asked.workers if asked.workers != USUAL_WORKERS else None)
+    told = [f"{what} {value}" for what, value in values.items() if value is not None]
     return " ".join(told if asked.load or asked.demo is not None else ["nothing", *told]).encode()
 
 

@@ -1,5 +1,5 @@
 //! Runs all sessions of a script at the same time, and writes the transcript.
-ghost use Rattle.std.specs.Prelude.{◌≡◌, ◌<◌, ◌+◌, ◌==◌, [], ◌^◌, All, IfOk, ℕ, cond, length, map, vec_len, slice_index_or};
+ghost use Rattle.std.specs.Prelude.{◌≡◌, ◌≤◌, ◌<◌, ◌+◌, ◌==◌, [], ◌^◌, All, IfOk, ℕ, cond, length, map, vec_len, slice_index_or};
 ghost use mathlib.Core.List.{IsPrefix};
 ghost use Rattle.transcript.specs.Merge.{order_of};
 ghost use Rattle.version_table.specs.Entries.{noted};
@@ -42,14 +42,16 @@ pub struct Finished {
 }
 
 /// Runs one session.
-fn run_task<R: Wait, G: Gate>(
+fn run_task<R: Threads + Wait + Sync, G: Gate + Sync>(
     rt: &R,
     alloc: Global,
     table: &VersionTable<Modeller>,
+    workers: u8,
     gate: &G,
     task: Task,
 ) -> Finished
-    requires { CanRun table.now.id task }
+    requires ready { CanRun table.now.id task }
+    requires workers { (1 ≤ workers) × (workers ≤ 16) }
     ensures { IsRunOf table.now.told.state task result }
 {
     let Task {
@@ -57,7 +59,7 @@ fn run_task<R: Wait, G: Gate>(
         session,
         mut pass,
     } = task;
-    let answers = session.run(rt, alloc, table, &mut pass, 1, gate);
+    let answers = session.run(rt, alloc, table, &mut pass, workers, gate);
     Finished {
         number,
         pass,
@@ -70,10 +72,12 @@ fn run_tasks<R: Threads + Wait + Sync, G: Gate + Sync>(
     rt: &R,
     alloc: Global,
     table: &VersionTable<Modeller>,
+    workers: u8,
     gate: &G,
     tasks: Vec<Task>,
 ) -> Result<Vec<Finished>, Memory>
     requires ready { All (CanRun table.now.id) tasks.items }
+    requires workers { (1 ≤ workers) × (workers ≤ 16) }
     ensures len { IfOk result (λ finished. vec_len finished ≡ vec_len tasks) }
     ensures ran { IfOk result (λ finished. (i : ℕ) (t : TheTask) (f : TheFinished) → i < vec_len tasks → IsRunOf table.now.told.state (slice_index_or tasks.items i t) (slice_index_or finished.items i f)) }
 {
@@ -81,9 +85,10 @@ fn run_tasks<R: Threads + Wait + Sync, G: Gate + Sync>(
         rt,
         tasks,
         &|task: Task| -> Finished
-            requires { CanRun table.now.id task }
+            requires ready { CanRun table.now.id task }
+            requires workers { (1 ≤ workers) × (workers ≤ 16) }
             ensures { IsRunOf table.entry.now.told.state task result }
-        { run_task(rt, alloc, table, gate, task) },
+        { run_task(rt, alloc, table, workers, gate, task) },
     )?;
     Ok(finished)
 }
@@ -142,16 +147,18 @@ fn run_sessions<R: Threads + Wait + Sync, G: Gate + Sync>(
     table: &VersionTable<Modeller>,
     pass: &mut Pass<Modeller>,
     script: &[ScriptCommand],
+    workers: u8,
     gate: &G,
 ) -> Result<Vec<Items<Answer>>, Memory>
     requires sessions { All HasSession (map command_entry script.now) }
     requires few { length script.now + 1 < 2 ^ 32 }
     requires pass { pass.old ≡ pass_of table.now.id 0 [] [] (length script.now) }
+    requires workers { (1 ≤ workers) × (workers ≤ 16) }
     ensures run { IfOk result (λ lists. AreAllRun table.now.told.state table.now.id (map command_entry script.now) pass.new lists.items) }
     ensures eight { IfOk result (λ lists. vec_len lists ≡ 8) }
 {
     let tasks = tasks_of(alloc, table, pass, script)?;
-    let finished = run_tasks(rt, alloc, table, gate, tasks)?;
+    let finished = run_tasks(rt, alloc, table, workers, gate, tasks)?;
     let mut lists = no_answers(alloc)?;
     join_all(table, pass, finished, &mut lists);
     Ok(lists)
@@ -169,24 +176,28 @@ fn history_order(alloc: Global, entries: &[Entry<Command>]) -> Result<Vec<u8>, M
 }
 
 /// Runs all sessions of a script at the same time, from a directory. Each session runs its own commands in sequence, and
-/// all share one history of versions, whose order the transcript prints.
+/// all share one history of versions, whose order the transcript prints. The tiles of each picture and check may be shot by
+/// `workers` threads, from 1 to 16. In one order of the history, and with memory for all, the answers are the same, however
+/// many these are.
 pub fn run_at_once<R: Threads + Wait + Sync, G: Gate + Sync>(
     rt: &R,
     alloc: Global,
     directory: Directory,
     script: &[ScriptCommand],
+    workers: u8,
     gate: &G,
 ) -> Result<Run, Memory>
     requires sessions { All HasSession (map command_entry script.now) }
     requires readable { All IsReadable (map command_entry script.now) }
     requires few { length script.now + 1 < 2 ^ 32 }
+    requires workers { (1 ≤ workers) × (workers ≤ 16) }
     ensures run { IfOk result (λ r. IsRun directory (map command_entry script.now) r.text.items r.order.items r.answers.items r.some_refused) }
     ensures eight { IfOk result (λ r. vec_len r.answers ≡ 8) }
 {
     recall_entries(&directory);
     let opening = Arc::new(alloc, directory)?;
     let (table, mut pass) = VersionTable::open(alloc, opening, script.len() as u32)?;
-    let answers = run_sessions(rt, alloc, &table, &mut pass, script, gate)?;
+    let answers = run_sessions(rt, alloc, &table, &mut pass, script, workers, gate)?;
     let closed = table.close(pass);
     let order = history_order(alloc, &closed.entries)?;
     Run::written(alloc, order, answers)

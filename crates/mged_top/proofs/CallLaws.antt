@@ -59,14 +59,14 @@ usage_refused words before after none unwritten quiet = record {
 }
 
 -- the course where the words ask for this model and this order
-course_by : (words : List (List ℕ)) (model : Model) (replay : Option Name) (own : Option (List ℕ)) (files later : List File) (script : List ℕ) (start : Result Listing LoadFault)
-    → asked_of words ≡ Some (record { model = model; replay = replay }) → own_script model ≡ own → loaded model files ≡ start → course_of words files later script ≡ course_with replay later start (script_run own script)
-course_by words model replay own files later script start asked is loads =
+course_by : (words : List (List ℕ)) (model : Model) (replay : Option Name) (workers : ℕ) (own : Option (List ℕ)) (files later : List File) (script : List ℕ) (start : Result Listing LoadFault)
+    → asked_of words ≡ Some (record { model = model; replay = replay; workers = workers }) → own_script model ≡ own → loaded model files ≡ start → course_of words files later script ≡ course_with replay later start (script_run own script)
+course_by words model replay workers own files later script start asked is loads =
     ap (λ (a : Option Options). course_asked a files later script) asked ∙ ap₂ (λ (s : Result Listing LoadFault) (o : Option (List ℕ)). course_with replay later s (script_run o script)) loads is
 
 -- and whether they ask for a script with it
-scripted : (words : List (List ℕ)) (model : Model) (replay : Option Name) (own : Option (List ℕ)) → asked_of words ≡ Some (record { model = model; replay = replay }) → own_script model ≡ own → has_own_script words ≡ is_some own
-scripted words model replay own asked is = ap (λ (a : Option Options). is_some (option_and_then (λ (options : Options). own_script options.model) a)) asked ∙ ap is_some is
+scripted : (words : List (List ℕ)) (model : Model) (replay : Option Name) (workers : ℕ) (own : Option (List ℕ)) → asked_of words ≡ Some (record { model = model; replay = replay; workers = workers }) → own_script model ≡ own → has_own_script words ≡ is_some own
+scripted words model replay workers own asked is = ap (λ (a : Option Options). is_some (option_and_then (λ (options : Options). own_script options.model) a)) asked ∙ ap is_some is
 
 -- and whether they ask for an order
 pub replayed : (words : List (List ℕ)) (options : Options) → asked_of words ≡ Some options → has_replay words ≡ is_some options.replay
@@ -79,54 +79,54 @@ none_asked (Some name) is = absurd cc
 pub not_replayed : (words : List (List ℕ)) → asked_of words ≡ None → has_replay words ≡ false
 not_replayed words none = ap (λ (a : Option Options). is_some (option_and_then (λ (o : Options). o.replay) a)) none
 
-pub load_refused : (words : List (List ℕ)) (before after : Outside) (model : Model) (replay : Option Name) (fault : LoadFault) → asked_of words ≡ Some (record { model = model; replay = replay })
+pub load_refused : (words : List (List ℕ)) (before after : Outside) (model : Model) (replay : Option Name) (workers : ℕ) (fault : LoadFault) → asked_of words ≡ Some (record { model = model; replay = replay; workers = workers })
     → CanLoad before.files model (Err fault) → IsUnwritten before after → IsQuiet before after → IsRefused words before after (LoadRefused fault)
-load_refused words before after model replay fault asked can unwritten quiet = record {
+load_refused words before after model replay workers fault asked can unwritten quiet = record {
   files = can.files;
   later = can.files;
   script = known [] before.left;
   told = record { files_told = can.as_told; later_told = can.as_told; script_told = known_told [] before.left };
-  course = course_by words model replay (own_script model) can.files can.files (known [] before.left) (Err fault) asked refl can.gives;
+  course = course_by words model replay workers (own_script model) can.files can.files (known [] before.left) (Err fault) asked refl can.gives;
   unwritten = unwritten;
   quiet = quiet;
 }
 
-pub script_refused : (words : List (List ℕ)) (before after : Outside) (model : Model) (replay : Option Name) (start : Listing) (flaw : ScriptFlaw) → asked_of words ≡ Some (record { model = model; replay = replay }) → own_script model ≡ None
+pub script_refused : (words : List (List ℕ)) (before after : Outside) (model : Model) (replay : Option Name) (workers : ℕ) (start : Listing) (flaw : ScriptFlaw) → asked_of words ≡ Some (record { model = model; replay = replay; workers = workers }) → own_script model ≡ None
     → CanLoad before.files model (Ok start) → CanRead before.left (Err flaw) → IsUnwritten before after → IsQuiet before after → IsRefused words before after (ScriptRefused flaw)
-script_refused words before after model replay start flaw asked none can read unwritten quiet = record {
+script_refused words before after model replay workers start flaw asked none can read unwritten quiet = record {
   files = can.files;
   later = can.files;
   script = read.script;
   told = record { files_told = can.as_told; later_told = can.as_told; script_told = read.as_told };
-  course = course_by words model replay None can.files can.files read.script (Ok start) asked none can.gives ∙ ap (course_from replay can.files start) read.gives;
+  course = course_by words model replay workers None can.files can.files read.script (Ok start) asked none can.gives ∙ ap (course_from replay can.files start) read.gives;
   unwritten = unwritten;
   quiet = quiet;
 }
 
-pub own_refused : (words : List (List ℕ)) (before after : Outside) (model : Model) (replay : Option Name) (own : List ℕ) (start : Listing) (flaw : ScriptFlaw) → asked_of words ≡ Some (record { model = model; replay = replay }) → own_script model ≡ Some own
+pub own_refused : (words : List (List ℕ)) (before after : Outside) (model : Model) (replay : Option Name) (workers : ℕ) (own : List ℕ) (start : Listing) (flaw : ScriptFlaw) → asked_of words ≡ Some (record { model = model; replay = replay; workers = workers }) → own_script model ≡ Some own
     → CanLoad before.files model (Ok start) → script_of own ≡ Err flaw → IsUnwritten before after → IsQuiet before after → IsRefused words before after (ScriptRefused flaw)
-own_refused words before after model replay own start flaw asked some can read unwritten quiet = record {
+own_refused words before after model replay workers own start flaw asked some can read unwritten quiet = record {
   files = can.files;
   later = can.files;
   script = known [] before.left;
   told = record { files_told = can.as_told; later_told = can.as_told; script_told = known_told [] before.left };
-  course = course_by words model replay (Some own) can.files can.files (known [] before.left) (Ok start) asked some can.gives ∙ ap (course_from replay can.files start) read;
+  course = course_by words model replay workers (Some own) can.files can.files (known [] before.left) (Ok start) asked some can.gives ∙ ap (course_from replay can.files start) read;
   unwritten = unwritten;
   quiet = quiet;
 }
 
-pub source_failed : (words : List (List ℕ)) (before after : Outside) (model : Model) (replay : Option Name) (start : Listing) → asked_of words ≡ Some (record { model = model; replay = replay }) → own_script model ≡ None → CanLoad before.files model (Ok start) → Rose before.reads after.reads → after.calls ≡ before.calls → after.writes ≡ before.writes
+pub source_failed : (words : List (List ℕ)) (before after : Outside) (model : Model) (replay : Option Name) (workers : ℕ) (start : Listing) → asked_of words ≡ Some (record { model = model; replay = replay; workers = workers }) → own_script model ≡ None → CanLoad before.files model (Ok start) → Rose before.reads after.reads → after.calls ≡ before.calls → after.writes ≡ before.writes
     → IsUnwritten before after → IsReadFault words before after
-source_failed words before after model replay start is none can rose calls writes unwritten =
+source_failed words before after model replay workers start is none can rose calls writes unwritten =
     record {
-      cause = inl (record { asked = record { model = model; replay = replay }; understood = is; unscripted = scripted words model replay None is none; files = can.files; told = can.as_told; start = start; loads = can.gives; rose = rose; calls = calls });
+      cause = inl (record { asked = record { model = model; replay = replay; workers = workers }; understood = is; unscripted = scripted words model replay workers None is none; files = can.files; told = can.as_told; start = start; loads = can.gives; rose = rose; calls = calls });
       writes = writes;
       unwritten = unwritten;
     }
 
-pub loading_failed : (words : List (List ℕ)) (before after : Outside) (model : Model) (replay : Option Name) → asked_of words ≡ Some (record { model = model; replay = replay }) → is_of_file model ≡ true → Rose before.calls after.calls
+pub loading_failed : (words : List (List ℕ)) (before after : Outside) (model : Model) (replay : Option Name) (workers : ℕ) → asked_of words ≡ Some (record { model = model; replay = replay; workers = workers }) → is_of_file model ≡ true → Rose before.calls after.calls
     → Keeps before.left after.left → after.reads ≡ before.reads → after.writes ≡ before.writes → IsUnwritten before after → IsReadFault words before after
-loading_failed words before after model replay is some rose unread reads writes unwritten =
+loading_failed words before after model replay workers is some rose unread reads writes unwritten =
     record {
       cause = inr (inl (record { asked = ap (λ (a : Option Options). option_map_or (λ (options : Options). is_of_file options.model) a false) is ∙ some; unread = unread; rose = rose; reads = reads }));
       writes = writes;
@@ -152,30 +152,30 @@ no_options words left held files puts reads writes calls none =
     usage_refused words _ _ none (record { left = advances_none left; held = keeps_none held; files = stays_none files; puts = stays_none puts }) (record { reads = refl; writes = refl; calls = refl })
 
 -- a call that ends at its model
-pub load_stopped : (stop : LoadStop) (words : List (List ℕ)) (left held : Option (List ℕ)) (files files' puts puts' : Option (List File)) (reads writes calls calls' : ℕ) (model : Model) (replay : Option Name)
-    → asked_of words ≡ Some (record { model = model; replay = replay }) → IsLoad (Err stop) model files → Stays files files' → Stays puts puts'
+pub load_stopped : (stop : LoadStop) (words : List (List ℕ)) (left held : Option (List ℕ)) (files files' puts puts' : Option (List File)) (reads writes calls calls' : ℕ) (model : Model) (replay : Option Name) (workers : ℕ)
+    → asked_of words ≡ Some (record { model = model; replay = replay; workers = workers }) → IsLoad (Err stop) model files → Stays files files' → Stays puts puts'
     → (◌≢◌ {A = Result Start LoadStop} (Err stop) (Err load.Failed) → calls' ≡ calls) → (◌≡◌ {A = Result Start LoadStop} (Err stop) (Err load.Failed) → Rose calls calls')
     → Explains (load_status stop) words (outside left held files puts reads writes calls) (outside left held files' puts' reads writes calls')
-load_stopped (load.Refused fault) words left held files files' puts puts' reads writes calls calls' model replay asked is f p steady rose =
-    load_refused words _ _ model replay fault asked is (record { left = advances_none left; held = keeps_none held; files = f; puts = p }) (record { reads = refl; writes = refl; calls = steady (λ e. absurd cc) })
-load_stopped load.Failed words left held files files' puts puts' reads writes calls calls' model replay asked is f p steady rose =
-    loading_failed words _ _ model replay asked is (rose refl) (keeps_none left) refl refl (record { left = advances_none left; held = keeps_none held; files = f; puts = p })
-load_stopped LoadStop.Memory words left held files files' puts puts' reads writes calls calls' model replay asked is f p steady rose =
+load_stopped (load.Refused fault) words left held files files' puts puts' reads writes calls calls' model replay workers asked is f p steady rose =
+    load_refused words _ _ model replay workers fault asked is (record { left = advances_none left; held = keeps_none held; files = f; puts = p }) (record { reads = refl; writes = refl; calls = steady (λ e. absurd cc) })
+load_stopped load.Failed words left held files files' puts puts' reads writes calls calls' model replay workers asked is f p steady rose =
+    loading_failed words _ _ model replay workers asked is (rose refl) (keeps_none left) refl refl (record { left = advances_none left; held = keeps_none held; files = f; puts = p })
+load_stopped LoadStop.Memory words left held files files' puts puts' reads writes calls calls' model replay workers asked is f p steady rose =
     (record { reads = refl; writes = refl; calls = steady (λ e. absurd cc) }, inl (record { left = advances_none left; held = keeps_none held; files = f; puts = p }))
 
 -- a call that ends at its script
-pub script_stopped : (stop : ScriptStop) (words : List (List ℕ)) (left left' held : Option (List ℕ)) (files files' puts puts' : Option (List File)) (reads reads' writes calls calls' : ℕ) (model : Model) (replay : Option Name) (own : Option (List ℕ)) (start : Listing)
-    → asked_of words ≡ Some (record { model = model; replay = replay }) → own_script model ≡ own → CanLoad files model (Ok start) → IsReadBy (Err stop) own left left' → Advances left left' → Stays files files' → Stays puts puts' → calls' ≡ calls
+pub script_stopped : (stop : ScriptStop) (words : List (List ℕ)) (left left' held : Option (List ℕ)) (files files' puts puts' : Option (List File)) (reads reads' writes calls calls' : ℕ) (model : Model) (replay : Option Name) (workers : ℕ) (own : Option (List ℕ)) (start : Listing)
+    → asked_of words ≡ Some (record { model = model; replay = replay; workers = workers }) → own_script model ≡ own → CanLoad files model (Ok start) → IsReadBy (Err stop) own left left' → Advances left left' → Stays files files' → Stays puts puts' → calls' ≡ calls
     → (◌≢◌ {A = Result (List ScriptCommand) ScriptStop} (Err stop) (Err script.Failed) → reads' ≡ reads) → (◌≡◌ {A = Result (List ScriptCommand) ScriptStop} (Err stop) (Err script.Failed) → Rose reads reads')
     → Explains (script_status stop) words (outside left held files puts reads writes calls) (outside left' held files' puts' reads' writes calls')
-script_stopped (script.Refused flaw) words left left' held files files' puts puts' reads reads' writes calls calls' model replay None start asked own can is advances f p same steady rose =
-    script_refused words _ _ model replay start flaw asked own can is (record { left = advances; held = keeps_none held; files = f; puts = p }) (record { reads = steady (λ e. absurd cc); writes = refl; calls = same })
-script_stopped (script.Refused flaw) words left left' held files files' puts puts' reads reads' writes calls calls' model replay (Some text) start asked own can is advances f p same steady rose =
-    own_refused words _ _ model replay text start flaw asked own can is.0 (record { left = advances; held = keeps_none held; files = f; puts = p }) (record { reads = steady (λ e. absurd cc); writes = refl; calls = same })
-script_stopped script.Failed words left left' held files files' puts puts' reads reads' writes calls calls' model replay None start asked own can is advances f p same steady rose =
-    source_failed words _ _ model replay start asked own can (rose refl) same refl (record { left = advances; held = keeps_none held; files = f; puts = p })
-script_stopped script.Failed words left left' held files files' puts puts' reads reads' writes calls calls' model replay (Some text) start asked own can is advances f p same steady rose = absurd is.0
-script_stopped ScriptStop.Memory words left left' held files files' puts puts' reads reads' writes calls calls' model replay own start asked is_own can is advances f p same steady rose =
+script_stopped (script.Refused flaw) words left left' held files files' puts puts' reads reads' writes calls calls' model replay workers None start asked own can is advances f p same steady rose =
+    script_refused words _ _ model replay workers start flaw asked own can is (record { left = advances; held = keeps_none held; files = f; puts = p }) (record { reads = steady (λ e. absurd cc); writes = refl; calls = same })
+script_stopped (script.Refused flaw) words left left' held files files' puts puts' reads reads' writes calls calls' model replay workers (Some text) start asked own can is advances f p same steady rose =
+    own_refused words _ _ model replay workers text start flaw asked own can is.0 (record { left = advances; held = keeps_none held; files = f; puts = p }) (record { reads = steady (λ e. absurd cc); writes = refl; calls = same })
+script_stopped script.Failed words left left' held files files' puts puts' reads reads' writes calls calls' model replay workers None start asked own can is advances f p same steady rose =
+    source_failed words _ _ model replay workers start asked own can (rose refl) same refl (record { left = advances; held = keeps_none held; files = f; puts = p })
+script_stopped script.Failed words left left' held files files' puts puts' reads reads' writes calls calls' model replay workers (Some text) start asked own can is advances f p same steady rose = absurd is.0
+script_stopped ScriptStop.Memory words left left' held files files' puts puts' reads reads' writes calls calls' model replay workers own start asked is_own can is advances f p same steady rose =
     (record { reads = steady (λ e. absurd cc); writes = refl; calls = same }, inl (record { left = advances; held = keeps_none held; files = f; puts = p }))
 
 -- what a call has read
@@ -218,34 +218,34 @@ stays_both None b c h k = tt
 stays_both (Some told) b c h k = subst (λ m. Stays m c → c ≡ Some told) (sym h) (λ e. e) k
 
 -- the course of what was read, by the order that it comes to
-course_read : (words : List (List ℕ)) (model : Model) (replay : Option Name) (told : Option (List File)) (left left' : Option (List ℕ)) (start : Listing) (commands : List (Entry Command)) (later : List File) (due : Result (Option (List ℕ)) ReplayFault)
-    → asked_of words ≡ Some (record { model = model; replay = replay }) → (r : HasRead model told left left' start commands) → ordered replay later commands ≡ due → course_of words r.files later r.script ≡ course_in start commands due
-course_read words model replay told left left' start commands later due asked r is =
-    course_by words model replay (own_script model) r.files later r.script (Ok start) asked refl r.loads ∙ ap (course_from replay later start) r.reads ∙ ap (course_in start commands) is
+course_read : (words : List (List ℕ)) (model : Model) (replay : Option Name) (workers : ℕ) (told : Option (List File)) (left left' : Option (List ℕ)) (start : Listing) (commands : List (Entry Command)) (later : List File) (due : Result (Option (List ℕ)) ReplayFault)
+    → asked_of words ≡ Some (record { model = model; replay = replay; workers = workers }) → (r : HasRead model told left left' start commands) → ordered replay later commands ≡ due → course_of words r.files later r.script ≡ course_in start commands due
+course_read words model replay workers told left left' start commands later due asked r is =
+    course_by words model replay workers (own_script model) r.files later r.script (Ok start) asked refl r.loads ∙ ap (course_from replay later start) r.reads ∙ ap (course_in start commands) is
 
 -- the source was read as the words ask for it
-source_read : (words : List (List ℕ)) (model : Model) (replay : Option Name) (left left' : Option (List ℕ)) (text : List ℕ) → asked_of words ≡ Some (record { model = model; replay = replay })
+source_read : (words : List (List ℕ)) (model : Model) (replay : Option Name) (workers : ℕ) (left left' : Option (List ℕ)) (text : List ℕ) → asked_of words ≡ Some (record { model = model; replay = replay; workers = workers })
     → IsSourceRead (is_some (own_script model)) left left' text → IsSourceRead (has_own_script words) left left' text
-source_read words model replay left left' text asked h = subst (λ (t : Bool). IsSourceRead t left left' text) (sym (scripted words model replay (own_script model) asked refl)) h
+source_read words model replay workers left left' text asked h = subst (λ (t : Bool). IsSourceRead t left left' text) (sym (scripted words model replay workers (own_script model) asked refl)) h
 
 -- a call that ends at its order
-pub order_stopped : (stop : OrderStop) (words : List (List ℕ)) (left left' held : Option (List ℕ)) (files loaded_files files' puts loaded_puts puts' : Option (List File)) (reads reads' writes calls loaded_calls calls' : ℕ) (model : Model) (name : Name) (start : Listing) (commands : List (Entry Command))
-    → asked_of words ≡ Some (record { model = model; replay = Some name }) → HasRead model files left left' start commands → IsOrderStop stop loaded_files name commands
+pub order_stopped : (stop : OrderStop) (words : List (List ℕ)) (left left' held : Option (List ℕ)) (files loaded_files files' puts loaded_puts puts' : Option (List File)) (reads reads' writes calls loaded_calls calls' : ℕ) (model : Model) (name : Name) (workers : ℕ) (start : Listing) (commands : List (Entry Command))
+    → asked_of words ≡ Some (record { model = model; replay = Some name; workers = workers }) → HasRead model files left left' start commands → IsOrderStop stop loaded_files name commands
     → Advances left left' → Stays files loaded_files → Stays loaded_files files' → Stays puts loaded_puts → Stays loaded_puts puts' → reads' ≡ reads → loaded_calls ≡ calls
     → (◌≢◌ {A = Result (Vec ℕ Global) OrderStop} (Err stop) (Err order.Failed) → calls' ≡ loaded_calls) → (◌≡◌ {A = Result (Vec ℕ Global) OrderStop} (Err stop) (Err order.Failed) → Rose loaded_calls calls')
     → Explains (order_status stop) words (outside left held files puts reads writes calls) (outside left' held files' puts' reads' writes calls')
-order_stopped (order.Refused fault) words left left' held files loaded_files files' puts loaded_puts puts' reads reads' writes calls loaded_calls calls' model name start commands asked r is advances f f' p p' same_reads same steady rose = record {
+order_stopped (order.Refused fault) words left left' held files loaded_files files' puts loaded_puts puts' reads reads' writes calls loaded_calls calls' model name workers start commands asked r is advances f f' p p' same_reads same steady rose = record {
   files = r.files;
   later = is.later;
   script = r.script;
   told = record { files_told = r.files_told; later_told = told_first files loaded_files is.later f is.as_told; script_told = r.script_told };
-  course = course_read words model (Some name) files left left' start commands is.later (Err fault) asked r is.gives;
+  course = course_read words model (Some name) workers files left left' start commands is.later (Err fault) asked r is.gives;
   unwritten = record { left = advances; held = keeps_none held; files = stays_both files loaded_files files' f f'; puts = stays_both puts loaded_puts puts' p p' };
   quiet = record { reads = same_reads; writes = refl; calls = steady (λ e. absurd cc) ∙ same };
 }
-order_stopped order.Failed words left left' held files loaded_files files' puts loaded_puts puts' reads reads' writes calls loaded_calls calls' model name start commands asked r is advances f f' p p' same_reads same steady rose = record {
+order_stopped order.Failed words left left' held files loaded_files files' puts loaded_puts puts' reads reads' writes calls loaded_calls calls' model name workers start commands asked r is advances f f' p p' same_reads same steady rose = record {
   cause = inr (inr (record {
-    asked = record { model = model; replay = Some name };
+    asked = record { model = model; replay = Some name; workers = workers };
     understood = asked;
     replays = refl;
     files = r.files;
@@ -255,21 +255,21 @@ order_stopped order.Failed words left left' held files loaded_files files' puts 
     start = start;
     commands = commands;
     passed = ap (λ (s : Result Listing LoadFault). course_with None [] s (script_run (own_script model) r.script)) r.loads ∙ ap (course_from None [] start) r.reads;
-    source = source_read words model (Some name) left left' r.script asked r.source;
+    source = source_read words model (Some name) workers left left' r.script asked r.source;
     rose = subst (λ (n : ℕ). Rose n calls') same (rose refl);
     reads = same_reads;
   }));
   writes = refl;
   unwritten = record { left = advances; held = keeps_none held; files = stays_both files loaded_files files' f f'; puts = stays_both puts loaded_puts puts' p p' };
 }
-order_stopped OrderStop.Memory words left left' held files loaded_files files' puts loaded_puts puts' reads reads' writes calls loaded_calls calls' model name start commands asked r is advances f f' p p' same_reads same steady rose =
+order_stopped OrderStop.Memory words left left' held files loaded_files files' puts loaded_puts puts' reads reads' writes calls loaded_calls calls' model name workers start commands asked r is advances f f' p p' same_reads same steady rose =
     no_memory words left left' held files files' puts puts' reads reads' writes calls calls' advances (stays_both files loaded_files files' f f') (stays_both puts loaded_puts puts' p p') same_reads (steady (λ e. absurd cc) ∙ same)
 
 -- a run in an order that may be asked for, and the inputs that it had
-ran_by : (words : List (List ℕ)) (before after : Outside) (model : Model) (replay : Option Name) (start : Listing) (commands : List (Entry Command)) (asked_order : Option (List ℕ)) (later : List File) (bytes run_order : List ℕ) (lists : List (List Answer)) (some_refused : Bool)
-    → asked_of words ≡ Some (record { model = model; replay = replay }) → HasRead model before.files before.left after.left start commands → IfSome before.files (λ t. later ≡ t) → ordered replay later commands ≡ Ok asked_order
+ran_by : (words : List (List ℕ)) (before after : Outside) (model : Model) (replay : Option Name) (workers : ℕ) (start : Listing) (commands : List (Entry Command)) (asked_order : Option (List ℕ)) (later : List File) (bytes run_order : List ℕ) (lists : List (List Answer)) (some_refused : Bool)
+    → asked_of words ≡ Some (record { model = model; replay = replay; workers = workers }) → HasRead model before.files before.left after.left start commands → IfSome before.files (λ t. later ≡ t) → ordered replay later commands ≡ Ok asked_order
     → IsRun start commands bytes run_order lists some_refused → IsInOrder asked_order bytes → Ran words before after bytes (files_among run_order lists) some_refused
-ran_by words before after model replay start commands asked_order later bytes run_order lists some_refused asked r told is run in_order = record {
+ran_by words before after model replay workers start commands asked_order later bytes run_order lists some_refused asked r told is run in_order = record {
   start = start;
   commands = commands;
   order = asked_order;
@@ -278,26 +278,26 @@ ran_by words before after model replay start commands asked_order later bytes ru
     later = later;
     script = r.script;
     told = record { files_told = r.files_told; later_told = told; script_told = r.script_told };
-    course = course_read words model replay before.files before.left after.left start commands later (Ok asked_order) asked r is;
-    source = source_read words model replay before.left after.left r.script asked r.source;
+    course = course_read words model replay workers before.files before.left after.left start commands later (Ok asked_order) asked r is;
+    source = source_read words model replay workers before.left after.left r.script asked r.source;
   };
   outcome = run.outcome;
   in_order = in_order;
 }
 
 -- a run in any order
-pub ran_free : (words : List (List ℕ)) (before after : Outside) (model : Model) (start : Listing) (commands : List (Entry Command)) (bytes run_order : List ℕ) (lists : List (List Answer)) (some_refused : Bool)
-    → asked_of words ≡ Some (record { model = model; replay = None }) → HasRead model before.files before.left after.left start commands
+pub ran_free : (words : List (List ℕ)) (before after : Outside) (model : Model) (workers : ℕ) (start : Listing) (commands : List (Entry Command)) (bytes run_order : List ℕ) (lists : List (List Answer)) (some_refused : Bool)
+    → asked_of words ≡ Some (record { model = model; replay = None; workers = workers }) → HasRead model before.files before.left after.left start commands
     → IsRun start commands bytes run_order lists some_refused → Ran words before after bytes (files_among run_order lists) some_refused
-ran_free words before after model start commands bytes run_order lists some_refused asked r run =
-    ran_by words before after model None start commands None r.files bytes run_order lists some_refused asked r r.files_told refl run tt
+ran_free words before after model workers start commands bytes run_order lists some_refused asked r run =
+    ran_by words before after model None workers start commands None r.files bytes run_order lists some_refused asked r r.files_told refl run tt
 
 -- a run in the order of a file
-pub ran_ordered : (words : List (List ℕ)) (before after : Outside) (loaded_files : Option (List File)) (model : Model) (name : Name) (start : Listing) (commands : List (Entry Command)) (asked_order bytes run_order : List ℕ) (lists : List (List Answer)) (some_refused : Bool)
-    → asked_of words ≡ Some (record { model = model; replay = Some name }) → HasRead model before.files before.left after.left start commands → Stays before.files loaded_files → CanOrder loaded_files name commands (Ok (Some asked_order))
+pub ran_ordered : (words : List (List ℕ)) (before after : Outside) (loaded_files : Option (List File)) (model : Model) (name : Name) (workers : ℕ) (start : Listing) (commands : List (Entry Command)) (asked_order bytes run_order : List ℕ) (lists : List (List Answer)) (some_refused : Bool)
+    → asked_of words ≡ Some (record { model = model; replay = Some name; workers = workers }) → HasRead model before.files before.left after.left start commands → Stays before.files loaded_files → CanOrder loaded_files name commands (Ok (Some asked_order))
     → IsRun start commands bytes run_order lists some_refused → order_in bytes ≡ asked_order → Ran words before after bytes (files_among run_order lists) some_refused
-ran_ordered words before after loaded_files model name start commands asked_order bytes run_order lists some_refused asked r stays can run in_order =
-    ran_by words before after model (Some name) start commands (Some asked_order) can.later bytes run_order lists some_refused asked r (told_first before.files loaded_files can.later stays can.as_told) can.gives run in_order
+ran_ordered words before after loaded_files model name workers start commands asked_order bytes run_order lists some_refused asked r stays can run in_order =
+    ran_by words before after model (Some name) workers start commands (Some asked_order) can.later bytes run_order lists some_refused asked r (told_first before.files loaded_files can.later stays can.as_told) can.gives run in_order
 
 -- what writing did, from the shelf as it was before a file was loaded from it
 module _ (held held' : Option (List ℕ)) (shelf loaded shelf' puts puts' puts'' : Option (List File)) (writes writes' calls calls' calls'' : ℕ) (bytes : List ℕ) (files : List File)

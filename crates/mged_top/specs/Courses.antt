@@ -1,7 +1,8 @@
 -- What a call comes to by its words, the shelf's files and the script, where no call on the outside fails and there is
 -- memory. The words are looked at first, then the load file, then the script, then the order file; the first that is
--- refused ends the call. A demo has a model and a script of its own. A load file is looked for among `files`, and an order
--- file, which is read after it, among `later`: these are the same, where the shelf tells its files.
+-- refused ends the call. How many workers the words ask for is no part of it. A demo has a model and a script of its own.
+-- A load file is looked for among `files`, and an order file, which is read after it, among `later`: these are the same,
+-- where the shelf tells its files.
 use Rattle.std.specs.Prelude.{ℕ, Bool, nat_le, List, Option, None, Some, is_some, Result, Ok, Err, length, if◌then◌else◌}
 use Rattle.std.specs.Option.{option_and_then}
 use Rattle.name_core.specs.declared.name.Name.{Name}

@@ -47,7 +47,7 @@ pub(crate) fn read_inputs<S: Source, F: Shelf>(
     ensures puts_stay { Stays (F.puts shelf.old) (F.puts shelf.new) }
     ensures reads { OnOk result (S.faults source.new ≡ S.faults source.old) }
     ensures calls { OnOk result (F.faults shelf.new ≡ F.faults shelf.old) }
-    ensures stopped { IfErr result (λ status. (words : List (List ℕ)) (replay : Option TheName) (held : Option (List ℕ)) (writes : ℕ) → asked_of words ≡ Option.Some (record { model = model; replay = replay }) →
+    ensures stopped { IfErr result (λ status. (words : List (List ℕ)) (replay : Option TheName) (workers : ℕ) (held : Option (List ℕ)) (writes : ℕ) → asked_of words ≡ Option.Some (record { model = model; replay = replay; workers = workers }) →
         Explains status words
         (outside (S.left source.old) held (F.files shelf.old) (F.puts shelf.old) (S.faults source.old) writes (F.faults shelf.old))
         (outside (S.left source.new) held (F.files shelf.new) (F.puts shelf.new) (S.faults source.new) writes (F.faults shelf.new))) }

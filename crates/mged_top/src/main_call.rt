@@ -48,7 +48,8 @@ fn write_run<K: Sink, F: Shelf>(sink: &mut K, shelf: &mut F, run: &Run) -> Statu
 
 /// Reads the words, the model that they ask for, the script and the order that `--replay NAME` asks for, runs the commands one
 /// after the other in this order, and writes the transcript to the sink and the files to the shelf. It waits for nobody, and
-/// always returns. Words without `--replay` are not understood.
+/// always returns, and all is done on the calling thread, whatever number of workers the words ask for. Words without
+/// `--replay` are not understood.
 pub fn replay_mged<S: Source, K: Sink, F: Shelf>(
     alloc: Global,
     words: &Vec<String>,
@@ -95,10 +96,11 @@ pub fn replay_mged<S: Source, K: Sink, F: Shelf>(
 }
 
 /// Reads the words, the model that they ask for and the script, runs its sessions at the same time, and writes the transcript
-/// to the sink and the files to the shelf. `words` are those after the program's name: `--load NAME`, `--demo N` and
-/// `--replay NAME`, or none. With `--demo N` the model and the script are those that the number makes, and nothing is read
-/// from the source. With `--replay NAME` it is the call of `replay_mged`. The first of the words, the load file, the script
-/// and the order file that is refused ends the call with its status.
+/// to the sink and the files to the shelf. `words` are those after the program's name: `--load NAME`, `--demo N`,
+/// `--replay NAME` and `--workers N`, or none. With `--demo N` the model and the script are those that the number makes, and
+/// nothing is read from the source. With `--replay NAME` it is the call of `replay_mged`. With `--workers N` the tiles of a
+/// picture or check may be shot by so many threads, from 1 to 16, and else by 4; no clause speaks of how many. The first of
+/// the words, the load file, the script and the order file that is refused ends the call with its status.
 pub fn mged_main<
     R: AllocGlobal + Threads + Wait + Sync,
     S: Source,
@@ -134,7 +136,7 @@ pub fn mged_main<
         Err(status) => return status,
     };
     let commands = commands.items();
-    let Ok(run) = run_at_once(rt, alloc, directory, commands, gate) else {
+    let Ok(run) = run_at_once(rt, alloc, directory, commands, options.workers, gate) else {
         return Status::Memory;
     };
     write_run(sink, shelf, &run)

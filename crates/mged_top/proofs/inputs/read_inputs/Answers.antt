@@ -6,7 +6,7 @@ use Rattle.mged_top.proofs.CallLaws.{has_read, load_stopped, script_stopped}
 use Rattle.mged_top.proofs.inputs.read_inputs.Goals as goal
 
 pub returns-in-Err-clause-stopped : goal.returns-in-Err-clause-stopped
-returns-in-Err-clause-stopped g c = λ words replay held writes asked.
+returns-in-Err-clause-stopped g c = λ words replay workers held writes asked.
     let left = g.S.Source.left c.args.source.now in
     let files = g.F.Shelf.files c.args.shelf.now in
     let puts = g.F.Shelf.puts c.args.shelf.now in
@@ -16,11 +16,11 @@ returns-in-Err-clause-stopped g c = λ words replay held writes asked.
     let puts' = g.F.Shelf.puts c.load.new.shelf in
     let calls' = g.F.Shelf.faults c.load.new.shelf in
     subst (λ (status : Status). Explains status words (outside left held files puts reads writes calls) (outside left held files' puts' reads writes calls')) (sym c.status.ensures)
-    (load_stopped c.in-Err.stop words left held files files' puts puts' reads writes calls calls' c.args.model replay asked c.in-Err.ensures.load
+    (load_stopped c.in-Err.stop words left held files files' puts puts' reads writes calls calls' c.args.model replay workers asked c.in-Err.ensures.load
     c.in-Err.ensures.files_stay c.in-Err.ensures.puts_stay c.in-Err.ensures.steady c.in-Err.ensures.rose)
 
 pub returns-in-Err-commands_of-clause-stopped : goal.returns-in-Err-commands_of-clause-stopped
-returns-in-Err-commands_of-clause-stopped g c = λ words replay held writes asked.
+returns-in-Err-commands_of-clause-stopped g c = λ words replay workers held writes asked.
     let left = g.S.Source.left c.args.source.now in
     let files = g.F.Shelf.files c.args.shelf.now in
     let puts = g.F.Shelf.puts c.args.shelf.now in
@@ -32,7 +32,7 @@ returns-in-Err-commands_of-clause-stopped g c = λ words replay held writes aske
     let left' = g.S.Source.left c.commands_of.new.source in
     let reads' = g.S.Source.faults c.commands_of.new.source in
     subst (λ (status : Status). Explains status words (outside left held files puts reads writes calls) (outside left' held files' puts' reads' writes calls')) (sym c.status-in-Err-commands_of.ensures)
-    (script_stopped c.in-Err-commands_of.stop words left left' held files files' puts puts' reads reads' writes calls calls' c.args.model replay c.in-Ok.start.script c.in-Ok.start.directory asked (sym c.in-Ok.ensures.load.1) c.in-Ok.ensures.load.0
+    (script_stopped c.in-Err-commands_of.stop words left left' held files files' puts puts' reads reads' writes calls calls' c.args.model replay workers c.in-Ok.start.script c.in-Ok.start.directory asked (sym c.in-Ok.ensures.load.1) c.in-Ok.ensures.load.0
     c.in-Err-commands_of.ensures.read c.in-Err-commands_of.ensures.advances c.in-Ok.ensures.files_stay c.in-Ok.ensures.puts_stay (c.in-Ok.ensures.steady (λ e. absurd cc))
     c.in-Err-commands_of.ensures.steady c.in-Err-commands_of.ensures.rose)
 

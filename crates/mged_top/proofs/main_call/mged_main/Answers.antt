@@ -31,7 +31,7 @@ returns-in-Err-clause-explained g c =
     let reads = g.S.Source.faults c.args.source.now in
     let writes = g.K.Sink.faults c.args.sink.now in
     let calls = g.F.Shelf.faults c.args.shelf.now in
-    c.in-Err.ensures.stopped texts c.in-Ok.options.replay held writes c.in-Ok.ensures.options
+    c.in-Err.ensures.stopped texts c.in-Ok.options.replay c.in-Ok.options.workers held writes c.in-Ok.ensures.options
 
 pub returns-in-Err-clause-complete : goal.returns-in-Err-clause-complete
 returns-in-Err-clause-complete g c =
@@ -48,7 +48,7 @@ returns-in-Err-clause-complete g c =
     let files' = g.F.Shelf.files c.read_inputs.new.shelf in
     let puts' = g.F.Shelf.puts c.read_inputs.new.shelf in
     let calls' = g.F.Shelf.faults c.read_inputs.new.shelf in
-    completed c.in-Err.status texts (outside left held files puts reads writes calls) (outside left' held files' puts' reads' writes calls') (c.in-Err.ensures.stopped texts c.in-Ok.options.replay held writes c.in-Ok.ensures.options)
+    completed c.in-Err.status texts (outside left held files puts reads writes calls) (outside left' held files' puts' reads' writes calls') (c.in-Err.ensures.stopped texts c.in-Ok.options.replay c.in-Ok.options.workers held writes c.in-Ok.ensures.options)
 
 pub returns-in-Err-clause-unasked : goal.returns-in-Err-clause-unasked
 returns-in-Err-clause-unasked g c = λ is.
@@ -86,7 +86,7 @@ returns-clause-explained g c =
     let files' = g.F.Shelf.files c.read_inputs.new.shelf in
     let puts' = g.F.Shelf.puts c.read_inputs.new.shelf in
     let calls' = g.F.Shelf.faults c.read_inputs.new.shelf in
-    let asked : asked_of texts ≡ Some (record { model = c.in-Ok.options.model; replay = None }) = c.in-Ok.ensures.options ∙ ap (λ replay. Some (record { model = c.in-Ok.options.model; replay = replay })) (none_asked c.in-Ok.options.replay (sym c.is_some.ensures ∙ c.if-is_some.false)) in
+    let asked : asked_of texts ≡ Some (record { model = c.in-Ok.options.model; replay = None; workers = c.in-Ok.options.workers }) = c.in-Ok.ensures.options ∙ ap (λ replay. Some (record { model = c.in-Ok.options.model; replay = replay; workers = c.in-Ok.options.workers })) (none_asked c.in-Ok.options.replay (sym c.is_some.ensures ∙ c.if-is_some.false)) in
     let run = c.in-Ok-run_at_once.run' in
     let held' = g.K.Sink.held c.write_run.new.sink in
     let writes' = g.K.Sink.faults c.write_run.new.sink in
@@ -99,7 +99,7 @@ returns-clause-explained g c =
     let commands = map command_entry c.in-Ok-read_inputs.inputs.commands in
     let is_run = subst (λ (cs : List ScriptCommand). IsRun start (map command_entry cs) bytes run.order.items run.answers.items run.some_refused) c.items-commands.ensures c.in-Ok-run_at_once.ensures.run in
     explained texts left left' held held' files files-last puts puts-last reads reads' writes writes' calls calls-last bytes put c.write_run.result run.some_refused
-    (ran_free texts (outside left held files puts reads writes calls) (outside left' held' files-last puts-last reads' writes' calls-last) c.in-Ok.options.model start commands bytes run.order.items run.answers.items run.some_refused
+    (ran_free texts (outside left held files puts reads writes calls) (outside left' held' files-last puts-last reads' writes' calls-last) c.in-Ok.options.model c.in-Ok.options.workers start commands bytes run.order.items run.answers.items run.some_refused
     asked c.in-Ok-read_inputs.ensures.read is_run)
     c.in-Ok-read_inputs.ensures.reads
     (writes_from held held' files files' files-last puts puts' puts-last writes writes' calls calls' calls-last bytes put c.in-Ok-read_inputs.ensures.files_stay c.in-Ok-read_inputs.ensures.puts_stay c.in-Ok-read_inputs.ensures.calls c.write_run.result run.some_refused c.write_run.ensures)

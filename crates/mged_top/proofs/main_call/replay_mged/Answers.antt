@@ -32,7 +32,7 @@ returns-in-Err-clause-explained g c = λ replays.
     let reads = g.S.Source.faults c.args.source.now in
     let writes = g.K.Sink.faults c.args.sink.now in
     let calls = g.F.Shelf.faults c.args.shelf.now in
-    c.in-Err.ensures.stopped texts c.in-Ok.options.replay held writes c.in-Ok.ensures.options
+    c.in-Err.ensures.stopped texts c.in-Ok.options.replay c.in-Ok.options.workers held writes c.in-Ok.ensures.options
 
 pub returns-in-Err-clause-complete : goal.returns-in-Err-clause-complete
 returns-in-Err-clause-complete g c = λ replays.
@@ -49,7 +49,7 @@ returns-in-Err-clause-complete g c = λ replays.
     let files' = g.F.Shelf.files c.read_inputs.new.shelf in
     let puts' = g.F.Shelf.puts c.read_inputs.new.shelf in
     let calls' = g.F.Shelf.faults c.read_inputs.new.shelf in
-    completed c.in-Err.status texts (outside left held files puts reads writes calls) (outside left' held files' puts' reads' writes calls') (c.in-Err.ensures.stopped texts c.in-Ok.options.replay held writes c.in-Ok.ensures.options)
+    completed c.in-Err.status texts (outside left held files puts reads writes calls) (outside left' held files' puts' reads' writes calls') (c.in-Err.ensures.stopped texts c.in-Ok.options.replay c.in-Ok.options.workers held writes c.in-Ok.ensures.options)
 
 pub returns-in-Err-clause-unasked : goal.returns-in-Err-clause-unasked
 returns-in-Err-clause-unasked g c = λ is.
@@ -73,10 +73,10 @@ returns-in-Err-order_of-clause-explained g c = λ replays.
     let files'' = g.F.Shelf.files c.order_of.new.shelf in
     let puts'' = g.F.Shelf.puts c.order_of.new.shelf in
     let calls'' = g.F.Shelf.faults c.order_of.new.shelf in
-    let asked : asked_of texts ≡ Some (record { model = c.in-Ok.options.model; replay = Some c.in-Some.name }) = c.in-Ok.ensures.options ∙ ap (λ replay. Some (record { model = c.in-Ok.options.model; replay = replay })) c.in-Some.is in
+    let asked : asked_of texts ≡ Some (record { model = c.in-Ok.options.model; replay = Some c.in-Some.name; workers = c.in-Ok.options.workers }) = c.in-Ok.ensures.options ∙ ap (λ replay. Some (record { model = c.in-Ok.options.model; replay = replay; workers = c.in-Ok.options.workers })) c.in-Some.is in
     let stop = subst (λ (cs : List ScriptCommand). IsOrderStop c.in-Err-order_of.stop files' c.in-Some.name (map command_entry cs)) c.items-commands.ensures c.in-Err-order_of.ensures.refused in
     subst (λ (status : Status). Explains status texts (outside left held files puts reads writes calls) (outside left' held files'' puts'' reads' writes calls'')) (sym c.status.ensures)
-    (order_stopped c.in-Err-order_of.stop texts left left' held files files' files'' puts puts' puts'' reads reads' writes calls calls' calls'' c.in-Ok.options.model c.in-Some.name c.in-Ok-read_inputs.inputs.directory (map command_entry c.in-Ok-read_inputs.inputs.commands)
+    (order_stopped c.in-Err-order_of.stop texts left left' held files files' files'' puts puts' puts'' reads reads' writes calls calls' calls'' c.in-Ok.options.model c.in-Some.name c.in-Ok.options.workers c.in-Ok-read_inputs.inputs.directory (map command_entry c.in-Ok-read_inputs.inputs.commands)
     asked c.in-Ok-read_inputs.ensures.read stop c.in-Ok-read_inputs.ensures.advances c.in-Ok-read_inputs.ensures.files_stay c.in-Err-order_of.ensures.files_stay c.in-Ok-read_inputs.ensures.puts_stay c.in-Err-order_of.ensures.puts_stay
     c.in-Ok-read_inputs.ensures.reads c.in-Ok-read_inputs.ensures.calls c.in-Err-order_of.ensures.steady c.in-Err-order_of.ensures.rose)
 
@@ -121,7 +121,7 @@ returns-clause-explained g c = λ replays.
     let files'' = g.F.Shelf.files c.order_of.new.shelf in
     let puts'' = g.F.Shelf.puts c.order_of.new.shelf in
     let calls'' = g.F.Shelf.faults c.order_of.new.shelf in
-    let asked : asked_of texts ≡ Some (record { model = c.in-Ok.options.model; replay = Some c.in-Some.name }) = c.in-Ok.ensures.options ∙ ap (λ replay. Some (record { model = c.in-Ok.options.model; replay = replay })) c.in-Some.is in
+    let asked : asked_of texts ≡ Some (record { model = c.in-Ok.options.model; replay = Some c.in-Some.name; workers = c.in-Ok.options.workers }) = c.in-Ok.ensures.options ∙ ap (λ replay. Some (record { model = c.in-Ok.options.model; replay = replay; workers = c.in-Ok.options.workers })) c.in-Some.is in
     let files_stay = stays_both files files' files'' c.in-Ok-read_inputs.ensures.files_stay c.in-Ok-order_of.ensures.files_stay in
     let puts_stay = stays_both puts puts' puts'' c.in-Ok-read_inputs.ensures.puts_stay c.in-Ok-order_of.ensures.puts_stay in
     let same = c.in-Ok-order_of.ensures.steady (λ e. absurd cc) ∙ c.in-Ok-read_inputs.ensures.calls in
@@ -139,7 +139,7 @@ returns-clause-explained g c = λ replays.
     let is_run = subst (λ (cs : List ScriptCommand). IsOrderedRun start (map command_entry cs) asked_order bytes run.order.items run.answers.items run.some_refused) c.items-commands.ensures c.in-Ok-run_in_order.ensures.run in
     let can = subst (λ (cs : List ScriptCommand). CanOrder files' c.in-Some.name (map command_entry cs) (Ok (Some asked_order))) c.items-commands.ensures c.in-Ok-order_of.ensures.order in
     explained texts left left' held held' files files-last puts puts-last reads reads' writes writes' calls calls-last bytes put c.write_run.result run.some_refused
-    (ran_ordered texts (outside left held files puts reads writes calls) (outside left' held' files-last puts-last reads' writes' calls-last) files' c.in-Ok.options.model c.in-Some.name start commands asked_order bytes run.order.items run.answers.items run.some_refused
+    (ran_ordered texts (outside left held files puts reads writes calls) (outside left' held' files-last puts-last reads' writes' calls-last) files' c.in-Ok.options.model c.in-Some.name c.in-Ok.options.workers start commands asked_order bytes run.order.items run.answers.items run.some_refused
     asked c.in-Ok-read_inputs.ensures.read c.in-Ok-read_inputs.ensures.files_stay can is_run.run is_run.in_order)
     c.in-Ok-read_inputs.ensures.reads
     (writes_from held held' files files'' files-last puts puts'' puts-last writes writes' calls calls'' calls-last bytes put files_stay puts_stay same c.write_run.result run.some_refused c.write_run.ensures)

@@ -4,13 +4,14 @@ runs it.
 refused     why a command is refused
 words       lines as words, numbers, names and texts
 positions   exact places on a ray
-solids      planes, placements, solids, and the part of a ray in a solid
+solids      planes, placements, boxes, solids, and the part of a ray in a solid
 trees       boolean trees and the lists that users give
 attributes  the seven attributes of a combination
 directory   the named objects and what is kept with them, and their edits
 written     the written text of objects, and of all
 listings    the listings of trees
 shots       the regions of names, the partitions of a ray, and what it meets first
+kept        what names a tile of a picture, and the tiles that a session keeps
 pictures    views, the pictures of them, and the overlaps on their rays
 texts       objects, kept attributes and titles as words
 models      a whole model, read of a text

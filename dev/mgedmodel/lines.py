@@ -16,9 +16,9 @@ OPERATORS = (b"u", b"+", b"-")
 
 FAULTS_OF_FORM = ("type", "attr", "tree", "name group")  # of the text form, all of which are `syntax` in a script
 
-# What a line asks for: whether it changes the directory; and what it does to one, for which it is told how many bytes its body
-# and its files may have. It answers the lines of the body, and the files that are put, each a name and its bytes.
-Command = namedtuple("Command", "is_edit act")
+# What a line asks for: whether it changes the directory; what it does to one, for which it is told its session; and whether it
+# shoots at a view. It answers the lines of the body, and the files that are put, each a name and its bytes.
+Command = namedtuple("Command", "is_edit act shoots", defaults=[False])
 
 # The count of numbers of each kind of solid, and what makes a solid of them.
 SOLIDS = {
@@ -43,11 +43,11 @@ def of_atoms(read):
 
 
 def edit(act):
-    return Command(True, lambda directory, room: (act(directory) or [], []))
+    return Command(True, lambda directory, session: (act(directory) or [], []))
 
 
 def query(find):
-    return Command(False, lambda directory, room: (find(directory), []))
+    return Command(False, lambda directory, session: (find(directory), []))
 
 
 def names_from(atoms, *places):
@@ -163,7 +163,7 @@ def of_names(find):
 def read_save(atoms):
     syntax_unless(len(atoms) == 2)
     file = name_at(atoms, 2)
-    return Command(False, lambda directory, room: ([f"saved {file}"], [(file, text_of(directory))]))
+    return Command(False, lambda directory, session: ([f"saved {file}"], [(file, text_of(directory))]))
 
 
 def read_nirt(atoms):
@@ -180,14 +180,14 @@ def read_rt(atoms):
     syntax_unless(len(atoms) > 9 and atoms[2].decode("latin-1") in DIRECTIONS)
     file, *names = names_from(atoms, 2, *range(10, len(atoms) + 1))
     view = view_at(atoms, 3)
-    return Command(False, lambda directory, room: picture(directory, file, view, names, room))
+    return Command(False, lambda directory, session: picture(directory, file, view, names, session), shoots=True)
 
 
 def read_rtcheck(atoms):
     syntax_unless(len(atoms) > 8 and atoms[1].decode("latin-1") in DIRECTIONS)
     names = names_from(atoms, *range(9, len(atoms) + 1))
     view = view_at(atoms, 2)
-    return query(lambda directory: overlap_report(directory, view, names))
+    return query(lambda directory: overlap_report(directory, view, names))._replace(shoots=True)
 
 
 def view_at(atoms, place):

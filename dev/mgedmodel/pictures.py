@@ -2,9 +2,10 @@
 
 from collections import namedtuple
 
+from .kept import tile_names
 from .refused import Refused, refuse_unless
 from .shots import first_overlaps, regions_of_names, seen_first
-from .solids import Ray
+from .solids import RAY_LENGTH, Ray, box_about
 
 WORLD = 524_288
 MOST_SIDE = 2_048
@@ -31,8 +32,15 @@ class View(namedtuple("View", "corner along cell width height")):
         """Each pixel's column, row and ray, row by row from the top."""
         return ((column, row, self.ray(column, row)) for row in range(self.height) for column in range(self.width))
 
-    def tiles(self):
-        return -(-self.width // TILE_SIDE) * -(-self.height // TILE_SIDE)
+    def tile_boxes(self):
+        """The box of the rays of each tile, row by row."""
+        return [self.box_of_rays(column, row) for row in range(0, self.height, TILE_SIDE) for column in range(0, self.width, TILE_SIDE)]
+
+    def box_of_rays(self, column, row):
+        """The box of the rays of the tile whose first pixel is this one."""
+        last = self.ray(min(column + TILE_SIDE, self.width) - 1, min(row + TILE_SIDE, self.height) - 1)
+        starts = [self.ray(column, row).start, last.start]
+        return box_about(starts + [tuple(part + RAY_LENGTH * step for part, step in zip(start, self.along)) for start in starts])
 
     def refuse_faulty(self):
         refuse_unless(self.width and self.height, "view pixels")
@@ -42,13 +50,18 @@ class View(namedtuple("View", "corner along cell width height")):
         refuse_unless(all(abs(part) <= WORLD for part in ends), "view world")
 
 
-def picture(directory, file, view, names, room):
-    """The line of a picture, and its file. It is refused before any ray is shot where both take more bytes than the room."""
+def picture(directory, file, view, names, session):
+    """The line of a picture, and its file. It is refused before any ray is shot where both take more bytes than the session has
+    left. All tiles are shot here: one that is kept has to have the same pixels, and the list of those that are kept says only
+    how many may be reused."""
     regions = regions_of_names(directory, names)
-    line = f"picture {file} {view.width} {view.height} tiles {view.tiles()} shot {view.tiles()} reused 0"
+    tiles = tile_names(view, regions)
+    reused = session.kept.found(tiles)
+    line = f"picture {file} {view.width} {view.height} tiles {len(tiles)} shot {len(tiles) - len(reused)} reused {len(reused)}"
     head = b"P6\n%d %d\n255\n" % (view.width, view.height)
-    if len(line) + 1 + len(head) + 3 * view.width * view.height > room:
+    if len(line) + 1 + len(head) + 3 * view.width * view.height > session.room():
         raise Refused("quota")
+    session.kept.take(tiles)
     pixels = b"".join(pixel(regions, ray) for _, _, ray in view.rays()) if regions else bytes(3 * view.width * view.height)
     return [line], [(file, head + pixels)]
 

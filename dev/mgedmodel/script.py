@@ -4,6 +4,7 @@ import re
 from collections import Counter, defaultdict, deque, namedtuple
 
 from .directory import Directory
+from .kept import KeptTiles
 from .lines import read_line
 from .listings import MOST_USED
 from .refused import Refused, refuse_unless
@@ -25,10 +26,13 @@ class Fault(Exception):
 
 
 class Session:
-    """What one session has answered, and the bytes of the bodies and files of its accepted commands."""
+    """What one session has answered, the bytes of the bodies and files of its accepted commands, and the tiles that it keeps."""
 
     def __init__(self):
-        self.answers, self.count, self.used = [], 0, 0
+        self.answers, self.count, self.used, self.kept = [], 0, 0, KeptTiles()
+
+    def room(self):
+        return MOST_USED - self.used
 
     def answer(self, header, body=()):
         self.count += 1
@@ -105,12 +109,12 @@ def run(commands, directory=None, marks=frozenset()):
         session = sessions[number]
         label = f"{number}.{session.count + 1}"
         try:
-            refuse_unless(label not in marks, "memory")
+            if label in marks:
+                find_no_memory(session, line)
             command = read_line(line)
-            body, put = command.act(directory, MOST_USED - session.used)
+            body, put = command.act(directory, session)
             size = sum(len(text) + 1 for text in body) + sum(len(text) for _, text in put)
-            if session.used + size > MOST_USED:
-                raise Refused("quota")
+            refuse_unless(size <= session.room(), "quota")
         except Refused as refusal:
             any_refused = True
             session.answer(f"{label} refused v{version} {refusal}")
@@ -123,3 +127,13 @@ def run(commands, directory=None, marks=frozenset()):
     for number in sorted(sessions):
         lines += sessions[number].answers
     return Outcome(int(any_refused), "", "".join(line + "\n" for line in lines).encode("latin-1"), tuple(files))
+
+
+def find_no_memory(session, line):
+    """Refuses a command for want of memory. One that shoots at a view empties the list of kept tiles."""
+    try:
+        if read_line(line).shoots:
+            session.kept.let_go()
+    except Refused:
+        pass
+    raise Refused("memory")

@@ -12,7 +12,7 @@ MOST_INSTANCES = 65_536
 MOST_PRINTED = 4_294_967_295
 
 # The leaves of a region's tree have solids in place of names; NOWHERE stands for what holds nowhere.
-Region = namedtuple("Region", "path air colour tree")
+Region = namedtuple("Region", "path id air colour tree")
 NOWHERE = Leaf(None, None)
 WHITE = (255, 255, 255)
 
@@ -52,17 +52,17 @@ def regions_of(directory, name, above, placement, combs):
     if thing is None or isinstance(thing, Comb) and thing.tree is None:
         return []
     if not isinstance(thing, Comb):
-        return [Region(path, 0, colour_by(combs), Leaf(thing, placement))]
+        return [Region(path, 0, 0, colour_by(combs), Leaf(thing, placement))]
     combs += (thing.attributes,)
     if thing.is_region:
-        return [Region(path, thing.attributes["air"], colour_by(combs), expanded(directory, thing.tree, placement))]
+        return [Region(path, thing.attributes["id"], thing.attributes["air"], colour_by(combs), expanded(directory, thing.tree, placement))]
     found, nodes = [], 0
     for part in united(thing.tree):
         if isinstance(part, Leaf):
             found += regions_of(directory, part.name, path, placement.after(part.placement), combs)
         else:
             nodes += 1
-            found.append(Region(f"{path}#{nodes}", 0, colour_by(combs), expanded(directory, part, placement)))
+            found.append(Region(f"{path}#{nodes}", 0, 0, colour_by(combs), expanded(directory, part, placement)))
     return found
 
 

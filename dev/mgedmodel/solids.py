@@ -1,7 +1,9 @@
-"""Planes, placements, solids, and the part of a ray in a solid."""
+"""Planes, placements, boxes, solids, and the part of a ray in a solid. A solid tells its box as it is placed, and its
+surface, by which two placed solids are equal."""
 
 from collections import namedtuple
 from fractions import Fraction
+from math import inf
 
 from .positions import Position
 from .refused import Refused
@@ -45,6 +47,24 @@ class Placement(namedtuple("Placement", "rows shift")):
         return Placement(tuple(tuple(dot(row, column) for column in columns) for row in self.rows), self.placed(lower.shift))
 
 
+class Box(namedtuple("Box", "low high")):
+    """A box along the axes, from one point to another; its sides belong to it."""
+
+    def with_all_of(self, other):
+        """The least box that has both."""
+        return Box(tuple(map(min, self.low, other.low)), tuple(map(max, self.high, other.high)))
+
+    def common(self, other):
+        """What both have in common, or None."""
+        box = Box(tuple(map(max, self.low, other.low)), tuple(map(min, self.high, other.high)))
+        return box if all(low <= high for low, high in zip(*box)) else None
+
+
+def box_about(points):
+    return Box(*(tuple(map(end, zip(*points))) for end in (min, max)))
+
+
+EVERYWHERE = Box((-inf,) * 3, (inf,) * 3)
 IDENTITY = Placement(((1, 0, 0), (0, 1, 0), (0, 0, 1)), (0, 0, 0))
 
 
@@ -110,6 +130,12 @@ class Half:
         normal = placement.turned(self.plane.normal)
         return {1: Plane(normal, self.plane.d + dot(normal, placement.shift))}
 
+    def box(self, placement):
+        return EVERYWHERE
+
+    def surface(self, placement):
+        return "half", self.planes(placement)[1]
+
     def part(self, placement, ray):
         return part_in_planes(self.planes(placement), ray)
 
@@ -125,6 +151,13 @@ class Sphere:
 
     def written(self):
         return f"sph V {group(self.centre)} r {self.radius}"
+
+    def box(self, placement):
+        centre = placement.placed(self.centre)
+        return box_about([tuple(part + reach for part in centre) for reach in (-self.radius, self.radius)])
+
+    def surface(self, placement):
+        return "sph", placement.placed(self.centre), self.radius
 
     def crossed(self, placement, ray):
         """Where the ray is nearest to the centre, and the square of half of what it has of the sphere, over 0 where it has any."""
@@ -162,6 +195,14 @@ class Arb8:
         vertices = [placement.placed(vertex) for vertex in self.vertices]
         sides = [plane_of(vertices, face) for face in range(6)] + box_sides(vertices)
         return {face: plane for face, plane in enumerate(sides, 1) if plane}
+
+    def box(self, placement):
+        return box_about([placement.placed(vertex) for vertex in self.vertices])
+
+    def surface(self, placement):
+        """All faces count, and None stands for one that has no plane."""
+        planes = self.planes(placement)
+        return "arb8", tuple(planes.get(face) for face in range(1, 13))
 
     def part(self, placement, ray):
         return part_in_planes(self.planes(placement), ray)

@@ -2,6 +2,7 @@
 
 texts     random commands of the text form, as `put`, and other spellings of a line
 commands  random commands that are mostly well formed, with small numbers, so that things meet
+pictures  random scripts of pictures that come again
 scripts   random scripts of several kinds, made of them
 mutating  scripts and models with random faults put in
 models    random texts of models

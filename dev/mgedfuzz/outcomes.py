@@ -4,6 +4,7 @@ all that are in the folder then, as bytes by their names."""
 import os
 import subprocess
 import tempfile
+import zlib
 from collections import namedtuple
 
 from mgedmodel.calls import call as evaluated
@@ -37,13 +38,18 @@ def outcome_of(program, given):
         return Outcome(ran.returncode, line[:-1] if line.endswith("\n") else line + "(no line feed)" if line else "", ran.stdout, files_of(folder))
 
 
-def runs_of(program, call):
+def runs_of(program, call, by_workers=False):
     """The runs of a call, each with what is wanted and what came. First the program is free in the order of the sessions, and
-    the evaluator takes the order that came. Then the program is to do the same by its own transcript. At last files of orders
-    are given to both."""
+    the evaluator takes the order that came; so it is once more with some numbers of workers, where these are asked for. Then
+    the program is to do the same by its own transcript. At last files of orders are given to both."""
     free = Given(call.words, call.files, call.script, "a run in any order")
     came = outcome_of(program, free)
-    yield Difference(free, wanted_of(free, order_of(came.written)), came)
+    order = order_of(came.written)
+    wanted = wanted_of(free, order)
+    yield Difference(free, wanted, came)
+    for given in given_to_workers(free) if by_workers else ():
+        other = outcome_of(program, given)
+        yield Difference(given, wanted if order_of(other.written) == order else wanted_of(free, order_of(other.written)), other)
     if came.number in (0, 1):
         again = by_order(free, came.written, len(came.written), "a replay of its own transcript")
         yield Difference(again, came._replace(files={**came.files, FILE: came.written}), outcome_of(program, again))
@@ -53,6 +59,14 @@ def runs_of(program, call):
             yield Difference(given, wanted_of(given), outcome_of(program, given))
 
 
+def given_to_workers(free):
+    """The run with 1, 3, 16 and another number of workers, which the words don't name yet."""
+    if not any(word.startswith("--workers") for word in free.words):
+        for count in (1, 3, 16, 1 + zlib.crc32(free.script) % 16):
+            words = [f"--workers={count}"] if count % 2 else ["--workers", str(count)]
+            yield free._replace(words=words + free.words, told=f"a run in any order with {count} workers")
+
+
 def by_order(free, text, number, told):
     """A run by the order of a file; the number says how that is spelled."""
     words = SPELLINGS[number % 2]
@@ -60,9 +74,9 @@ def by_order(free, text, number, told):
     return Given(words, {**free.files, FILE: text}, free.script, told)
 
 
-def difference_in(program, call):
+def difference_in(program, call, by_workers=False):
     """The first run of a call that comes to something else than is wanted, or None."""
-    return next((run for run in runs_of(program, call) if run.wanted != run.came), None)
+    return next((run for run in runs_of(program, call, by_workers) if run.wanted != run.came), None)
 
 
 def write_files(folder, files):
@@ -79,25 +93,25 @@ def files_of(folder):
     return files
 
 
-def compare(program, calls, place, times=1):
-    """Whether the calls come to the same, each so many times. The first that doesn't is made smaller, and written beside what
-    it comes to."""
+def compare(program, calls, place, times=1, by_workers=False):
+    """Whether the calls come to the same, each so many times, and with several numbers of workers where that is asked for. The
+    first that doesn't is made smaller, and written beside what it comes to."""
     for number, call in calls:
         for _ in range(times):
-            found = difference_in(program, call)
+            found = difference_in(program, call, by_workers)
             if found:
-                write_difference(place(number), smallest(program, call, found))
+                write_difference(place(number), smallest(program, call, found, by_workers))
                 return False
     return True
 
 
-def smallest(program, call, found):
+def smallest(program, call, found, by_workers=False):
     """The difference of a smaller call, where one is found."""
 
     def differs(call):
         nonlocal found
         races = len({session for session, _ in commands_in(call.script)}) > 1
-        again = next(filter(None, (difference_in(program, call) for _ in range(TRIES if races else 1))), None)
+        again = next(filter(None, (difference_in(program, call, by_workers) for _ in range(TRIES if races else 1))), None)
         found = again or found
         return again is not None
 

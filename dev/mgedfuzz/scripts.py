@@ -1,6 +1,7 @@
 """Random scripts of several kinds."""
 
 from .commands import COMBS
+from .pictures import pictures
 from .texts import dressed, great_tree
 
 
@@ -10,7 +11,7 @@ ODD_FILES = ("{a}", "{ a }", "{a b}", "a b", "", "{}", "a/b", "./a", "-a", ".a",
 def script(maker, files):
     """The lines of a script, which may save to these files. In some lines blanks and spellings are others, and most scripts
     have several sessions."""
-    rng, kinds = maker.rng, (rays_at_solids, rays_at_regions, rays_at_regions, turned, turned, edits, edits, texts, texts, chain, crowd, great, races, races, races)
+    rng, kinds = maker.rng, (rays_at_solids, rays_at_regions, rays_at_regions, turned, turned, edits, edits, texts, texts, chain, crowd, great, races, races, races, pictures, pictures, pictures)
     kind = rng.choice(kinds)
     lines = kind(maker)
     for _ in range(rng.choice((0, 0, 1, 2, 3, 6))):

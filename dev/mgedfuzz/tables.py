@@ -12,8 +12,8 @@ from .reducing import smaller
 SECONDS = 600  # that the program may take for all rows
 
 
-def compare(program, models, place, times):
-    """Whether the program answers all models as the evaluator, each once, since nothing races. The rows are left in a file where it does not, and the first
+def compare(program, models, place):
+    """Whether the program answers all models as the evaluator. The rows are left in a file where it does not, and the first
     of them that differs, made smaller, in another one."""
     path = place("all") + ".rows"
     rows = [(number, model, row_of(model)) for number, model in models]

@@ -50,7 +50,7 @@ fn write_run<K: Sink, F: Shelf>(sink: &mut K, shelf: &mut F, run: &Run) -> Statu
 /// after the other in this order, and writes the transcript to the sink and the files to the shelf. It waits for nobody, and
 /// always returns, and all is done on the calling thread, whatever number of workers the words ask for. Words without
 /// `--replay` are not understood.
-pub fn replay_mged<S: Source, K: Sink, F: Shelf>(
+pub fn replay_mged<R: Threads + Sync, S: Source, K: Sink, F: Shelf>(
     alloc: Global,
     words: &Vec<String>,
     source: &mut S,
@@ -89,7 +89,7 @@ pub fn replay_mged<S: Source, K: Sink, F: Shelf>(
         Ok(order) => order,
         Err(stop) => return stop.status(),
     };
-    let Ok(run) = run_in_order(alloc, directory, commands, order) else {
+    let Ok(run) = run_in_order::<R>(alloc, directory, commands, order) else {
         return Status::Memory;
     };
     write_run(sink, shelf, &run)
@@ -126,7 +126,7 @@ pub fn mged_main<
         Err(OptionsFault::Memory) => return Status::Memory,
     };
     if options.replay.is_some() {
-        return replay_mged(alloc, words, source, sink, shelf);
+        return replay_mged::<R, S, K, F>(alloc, words, source, sink, shelf);
     }
     let Inputs {
         directory,

@@ -5,7 +5,7 @@ use Rattle.script_run.proofs.LaneLaws.{some_left}
 use Rattle.script_run.proofs.run.answer_all.Goals as goal
 
 pub answer_next-requires-clause-some : goal.answer_next-requires-clause-some
-answer_next-requires-clause-some g c =
+answer_next-requires-clause-some g c = λ κs h.
     let order : List ℕ = c.args.order.now in
     let i : ℕ = c.loop-session.session-index in
     some_left (core_state c.args.book.now (owns_of c.args.lanes.now.items)) (left_at c.args.lanes.now.items) (take i order) c.loop-session.book c.loop-session.lanes.items c.loop-session.invariant.answered

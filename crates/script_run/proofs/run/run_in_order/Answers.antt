@@ -15,7 +15,7 @@ use Rattle.script_run.proofs.RunLaws.{IsRunBy, few_answers, ordered_run}
 use Rattle.script_run.proofs.run.run_in_order.Goals as goal
 
 pub answer_all-requires-clause-sessions : goal.answer_all-requires-clause-sessions
-answer_all-requires-clause-sessions g c =
+answer_all-requires-clause-sessions g c = λ κs h.
     subst (All IsOfEight) (sym c.deref.ensures.value) (order_of_eight (map command_entry c.args.script.now) c.args.order.items c.requires.sessions c.requires.merge)
 
 pub answer_all-requires-clause-few : goal.answer_all-requires-clause-few
@@ -29,7 +29,7 @@ answer_all-requires-clause-few g c =
     )
 
 pub answer_all-requires-clause-merge : goal.answer_all-requires-clause-merge
-answer_all-requires-clause-merge g c = λ session.
+answer_all-requires-clause-merge g c = λ κs h session.
     let script : List (Entry Command) = map command_entry c.args.script.now in
     let left : ◌≡◌ {A = ℕ → List Command} (left_at c.in_ok-lanes.lanes.items) (lane script) = all_left script c.in_ok-lanes.lanes.items c.requires.sessions c.in_ok-lanes.ensures.left in
     ap (λ (o : List ℕ). length (filter (λ digit. digit == session) o)) c.deref.ensures.value ∙ c.requires.merge session ∙ ap (λ (f : ℕ → List Command). length (f session)) (sym left)

@@ -1,20 +1,16 @@
 //! Tests that need fakes or types of this language: counters of steps, adapters over readers and writers, gates, a version
-//! table that threads share, sessions, sessions at once, jobs that several threads run, and kept values. The other cases of
-//! these layers are rows of tables.
+//! table that threads share, jobs that several threads run, and kept values. Those of sessions stand in `session_tests`. The
+//! other cases of these layers are rows of tables.
 #![tactic(auto)]
 
 #[cfg(test)]
 mod adapters;
-#[cfg(test)]
-mod at_once;
 #[cfg(test)]
 mod counting;
 #[cfg(test)]
 mod gates;
 #[cfg(test)]
 mod kept_tiles;
-#[cfg(test)]
-mod sessions;
 #[cfg(test)]
 mod versions;
 #[cfg(test)]

@@ -2,15 +2,18 @@ ghost use Rattle.std.specs.Prelude.{◌<◌, ◌^◌, length};
 
 use command_set::Command;
 use directory::Directory;
+use edit_core::{Modeller, apply};
 use mged_words::read_script;
 use session_run::Session;
 use std::sync::Arc;
 use std::test::Fail;
+use std::thread::Threads;
 use std::vec::Vec;
+use version_table::Machine;
 
 /// Whether a session answers `ls` with these lines, at a directory of this object.
-fn lists(
-    rt: &HostRuntime,
+fn lists<R: AllocGlobal + Threads + Sync>(
+    rt: &R,
     session: &mut Session,
     version: u32,
     made_by: &[u8],
@@ -23,7 +26,7 @@ fn lists(
     let mut directory = Directory::new(alloc);
     for line in script.items() {
         if let Command::Edit(edit) = &*line.command {
-            if edit_core::apply(alloc, &mut directory, edit).is_err() {
+            if apply(alloc, &mut directory, edit).is_err() {
                 return Ok(false);
             }
         }
@@ -33,7 +36,10 @@ fn lists(
     let Some(line) = asked.items().first() else {
         return Ok(false);
     };
-    let answer = session.one(alloc, version, &directory, &line.command);
+    if !Modeller::looks(&line.command) {
+        return Ok(false);
+    }
+    let answer = session.one::<R>(alloc, version, &directory, &line.command);
     match &answer.outcome {
         Ok(found) => Ok(answer.version == version && found.body.text() == lines),
         Err(_) => Ok(false),

@@ -1,0 +1,198 @@
+//! Gates that hold threads until others have come so far, and one that notes which tiles are begun.
+
+use memory_core::Memory;
+use outside_core::{Gate, GateEvent};
+use std::alloc::Global;
+use std::hint::spin_loop;
+use std::sync::atomic::{AtomicU32, Ordering};
+
+/// How many turns a hold takes at the most.
+const MOST_TURNS: u32 = 1_000_000_000;
+
+fn count(one: &AtomicU32) {
+    one.fetch_add(1, Ordering::SeqCst);
+}
+
+fn counted(one: &AtomicU32) -> u32 {
+    one.load(Ordering::SeqCst)
+}
+
+/// Holds the thread until a count is at least so great. False where it was not after all turns.
+fn reaches(one: &AtomicU32, least: u32) -> bool {
+    for _ in 0..MOST_TURNS {
+        if least <= counted(one) {
+            return true;
+        }
+        spin_loop();
+    }
+    false
+}
+
+/// What was told, and how many holds ended without what they waited for.
+#[derive(Drop)]
+struct Holds {
+    ended: AtomicU32,
+}
+
+impl Holds {
+    fn new() -> Holds {
+        Holds {
+            ended: AtomicU32::new(0),
+        }
+    }
+
+    fn hold(&self, one: &AtomicU32, least: u32) {
+        if !reaches(one, least) {
+            count(&self.ended);
+        }
+    }
+
+    fn never_ended(&self) -> bool {
+        counted(&self.ended) == 0
+    }
+}
+
+/// Holds session 2 in its first commit until session 1 has begun tile 0, and each beginning of tile 0 of session 1 until
+/// session 2 has committed twice.
+#[derive(Drop)]
+pub(crate) struct SessionsMeet {
+    begun: AtomicU32,
+    committed: AtomicU32,
+    holds: Holds,
+}
+
+impl SessionsMeet {
+    pub(crate) fn new() -> SessionsMeet {
+        SessionsMeet {
+            begun: AtomicU32::new(0),
+            committed: AtomicU32::new(0),
+            holds: Holds::new(),
+        }
+    }
+
+    /// Whether tile 0 was begun, session 2 committed twice, and each hold ended so.
+    pub(crate) fn have_met(&self) -> bool {
+        0 < counted(&self.begun) && counted(&self.committed) == 2 && self.holds.never_ended()
+    }
+}
+
+impl Gate for SessionsMeet {
+    fn at(&self, event: GateEvent) {
+        match event {
+            GateEvent::TileBegin {
+                session: 1,
+                tile: 0,
+                ..
+            } => {
+                count(&self.begun);
+                self.holds.hold(&self.committed, 2);
+            }
+            GateEvent::Committed { session: 2, .. } => {
+                count(&self.committed);
+                self.holds.hold(&self.begun, 1);
+            }
+            _ => {}
+        }
+    }
+}
+
+/// Holds each beginning of the tiles 0 and 1 until the other one was begun.
+#[derive(Drop)]
+pub(crate) struct WorkersMeet {
+    first: AtomicU32,
+    second: AtomicU32,
+    holds: Holds,
+}
+
+impl WorkersMeet {
+    pub(crate) fn new() -> WorkersMeet {
+        WorkersMeet {
+            first: AtomicU32::new(0),
+            second: AtomicU32::new(0),
+            holds: Holds::new(),
+        }
+    }
+
+    /// Whether both tiles were begun, and each hold ended so.
+    pub(crate) fn have_met(&self) -> bool {
+        0 < counted(&self.first) && 0 < counted(&self.second) && self.holds.never_ended()
+    }
+}
+
+impl Gate for WorkersMeet {
+    fn at(&self, event: GateEvent) {
+        match event {
+            GateEvent::TileBegin { tile: 0, .. } => {
+                count(&self.first);
+                self.holds.hold(&self.second, 1);
+            }
+            GateEvent::TileBegin { tile: 1, .. } => {
+                count(&self.second);
+                self.holds.hold(&self.first, 1);
+            }
+            _ => {}
+        }
+    }
+}
+
+/// How many commands and tiles a record has room for.
+const COMMANDS: u32 = 9;
+
+const TILES: u32 = 2;
+
+/// Holds nobody, and notes how often session 1 begins each tile of each command.
+#[derive(Drop)]
+pub(crate) struct TileRecord {
+    begun: Vec<AtomicU32>,
+    others: AtomicU32,
+}
+
+impl TileRecord {
+    pub(crate) fn new(alloc: Global) -> Result<TileRecord, Memory> {
+        let mut begun = Vec::new(alloc);
+        for _ in 0..COMMANDS * TILES {
+            begun.push(AtomicU32::new(0))?;
+        }
+        Ok(TileRecord {
+            begun,
+            others: AtomicU32::new(0),
+        })
+    }
+
+    fn place(&self, command: u32, tile: u32) -> &AtomicU32 {
+        if COMMANDS <= command || TILES <= tile {
+            return &self.others;
+        }
+        match self.begun.get((command * TILES + tile) as usize) {
+            Some(one) => one,
+            None => &self.others,
+        }
+    }
+
+    /// Whether these are the commands with their tiles that were begun, repeats aside.
+    pub(crate) fn has_exactly(&self, pairs: &[(u32, u32)]) -> bool {
+        for command in 0..COMMANDS {
+            for tile in 0..TILES {
+                let was_begun = 0 < counted(self.place(command, tile));
+                if was_begun != pairs.contains(&(command, tile)) {
+                    return false;
+                }
+            }
+        }
+        counted(&self.others) == 0
+    }
+}
+
+impl Gate for TileRecord {
+    fn at(&self, event: GateEvent) {
+        match event {
+            GateEvent::TileBegin {
+                session: 1,
+                command,
+                tile,
+            } => count(self.place(command, tile)),
+            GateEvent::TileBegin { .. } => count(&self.others),
+            GateEvent::Committed { .. } => {}
+        }
+    }
+}

@@ -1,0 +1,83 @@
+//! Runs in which threads meet, and which tiles a run begins.
+
+use crate::gates::{SessionsMeet, TileRecord, WorkersMeet};
+use crate::running::run_script;
+use mged_top::Status;
+use std::test::Fail;
+
+/// Session 2 removes a box while session 1 makes a picture of it.
+const TWO_SESSIONS: &[u8] = b"@1 in a rpp 0 10 0 10 0 10
+@1 in b rpp 20 30 0 10 0 10
+@1 rt p.ppm -z 0 15 100 1 32 16 a b
+@2 in c sph 0 0 0 5
+@2 kill b
+";
+
+/// A picture of two boxes that stand in a tile each.
+const ONE_PICTURE: &[u8] = b"in a rpp 0 10 0 10 0 10
+in b rpp 20 30 0 10 0 10
+r a.r u a
+r b.r u b
+rt p.ppm -z 0 15 100 1 32 16 a.r b.r
+";
+
+/// The same picture, then with another colour of one box, and once more.
+const THREE_PICTURES: &[u8] = b"in a rpp 0 10 0 10 0 10
+in b rpp 20 30 0 10 0 10
+r a.r u a
+r b.r u b
+rt p.ppm -z 0 15 100 1 32 16 a.r b.r
+cattr b.r rgb 255 0 0
+rt p.ppm -z 0 15 100 1 32 16 a.r b.r
+rt p.ppm -z 0 15 100 1 32 16 a.r b.r
+";
+
+/// Whether a pixel of a file with 32 columns is white, or None where the file is too short.
+fn is_white(file: &[u8], column: u8, row: u8) -> Option<bool> {
+    let at = 13 + 3 * (32 * usize::from(row) + usize::from(column));
+    let pixel = file.get(at..at + 3)?;
+    Some(pixel == [255u8, 255, 255].as_slice())
+}
+
+#[test]
+fn a_picture_is_of_its_version_while_another_session_removes_a_box(
+    rt: HostRuntime,
+) -> Result<(), Fail> {
+    let gate = SessionsMeet::new();
+    let ended = run_script(&rt, &[], TWO_SESSIONS, &gate)?;
+    assert!(rt; gate.have_met());
+    assert_eq!(rt; ended.status, Status::Done);
+    assert!(rt; ended.sink.bytes().ends_with(b"\n2.2 ok v4 0\n".as_slice()));
+    let [file] = ended.shelf.puts() else {
+        return Err(Fail::new("not one file"));
+    };
+    assert_eq!(rt; file.bytes.items().len(), 1549);
+    assert!(rt; is_white(file.bytes.items(), 5, 10) == Some(true));
+    assert!(rt; is_white(file.bytes.items(), 15, 10) == Some(false));
+    assert!(rt; is_white(file.bytes.items(), 25, 10) == Some(true));
+    Ok(())
+}
+
+#[test]
+fn two_workers_shoot_the_tiles_of_one_picture_at_once(rt: HostRuntime) -> Result<(), Fail> {
+    let gate = WorkersMeet::new();
+    let ended = run_script(&rt, &["--workers", "2"], ONE_PICTURE, &gate)?;
+    assert!(rt; gate.have_met());
+    assert_eq!(rt; ended.status, Status::Done);
+    assert!(rt;
+        ended.sink.bytes().ends_with(b"\npicture p.ppm 32 16 tiles 2 shot 2 reused 0\n".as_slice())
+    );
+    Ok(())
+}
+
+#[test]
+fn only_tiles_that_are_not_kept_are_begun(rt: HostRuntime) -> Result<(), Fail> {
+    let gate = TileRecord::new(rt.alloc())?;
+    let ended = run_script(&rt, &[], THREE_PICTURES, &gate)?;
+    assert_eq!(rt; ended.status, Status::Done);
+    assert!(rt; gate.has_exactly(&[(5, 0), (5, 1), (7, 1)]));
+    assert!(rt;
+        ended.sink.bytes().ends_with(b"\npicture p.ppm 32 16 tiles 2 shot 0 reused 2\n".as_slice())
+    );
+    Ok(())
+}

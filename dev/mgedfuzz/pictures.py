@@ -21,7 +21,7 @@ ATTRIBUTES = (
     "rgb 255 0 0", "rgb 255 0 0", "rgb 255 255 255", "rgb 1/2/3", "inherit yes", "inherit no", "air 0", "air 0", "air 1", "air 2", "id 0", "id 1000", "id 7", "region yes", "region yes", "region no", "los 5", "mater 3",
 )  # fmt: skip
 TREES = ("{l %s}", "{u {l %s} {l %s}}", "{- {l %s} {l %s}}", "{n {l %s} {l %s}}", "{u {l %s} {u {l %s} {l %s}}}", "{u {u {l %s} {l %s}} {l %s}}", "{- {l %s} {+ {l %s} {l %s}}}", "{}")
-COUNTS = (2, 63, 64, 65, 127, 128, 129)
+COUNTS = (2, 63, 64, 65, 127, 128, 129)  # leaves, about as many as a tile may have that is kept
 BLACK = ("-z 0 0 0 1 1168 896", "-z 0 0 0 1 2048 512", "-z 0 0 0 1 2048 528")  # of 4,088, of 4,096 and of 4,224 tiles
 
 
@@ -51,14 +51,16 @@ def pictures(maker):
 
 
 def made(rng, name):
+    """A line that makes a combination: by a tree, by its members, by one member very often, or by a list."""
     way = rng.random()
     if way < 0.4:
         tree = rng.choice(TREES)
         return f"put {name} comb region {rng.choice(('yes', 'yes', 'no'))} id {rng.choice((0, 1000))} tree " + tree % tuple(leaf(rng) for _ in range(tree.count("%s")))
     if way < 0.5:
         return f"g {name} {member(rng)} {member(rng)}"
-    count = rng.choice(COUNTS) if way < 0.6 else rng.choice((1, 1, 2, 3))
-    return f"r {name}" + f" {rng.choice('uu-+')} {member(rng)}" * (count if way < 0.6 else 1) + "".join(f" {rng.choice('uu-+')} {member(rng)}" for _ in range(count - 1 if way >= 0.6 else 0))
+    if way < 0.6:
+        return f"r {name}" + f" {rng.choice('uu-+')} {member(rng)}" * rng.choice(COUNTS)
+    return f"r {name}" + "".join(f" {rng.choice('uu-+')} {member(rng)}" for _ in range(rng.choice((1, 1, 2, 3))))
 
 
 def leaf(rng):

@@ -107,7 +107,9 @@ pub(crate) fn call<R: AllocGlobal + Threads + Wait + Sync>(
     } = &mut outside;
     let status = match way {
         Way::Program => mged_main(rt, words, source, sink, shelf, &OpenGate),
-        Way::Replay => replay_mged::<R, VecSource, VecSink, VecShelf>(alloc, words, source, sink, shelf),
+        Way::Replay => replay_mged::<R, VecSource, VecSink, VecShelf>(
+            alloc, words, source, sink, shelf,
+        ),
     };
     Ok(Ended { status, outside })
 }

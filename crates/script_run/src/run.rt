@@ -26,8 +26,8 @@ use memory_core::Memory;
 use mged_words::ScriptCommand;
 use session_run::{Answer, Book, Keep, Own, answer_command};
 use std::alloc::Global;
-use std::thread::Threads;
 use std::sync::Arc;
+use std::thread::Threads;
 use std::vec::Vec;
 use transcript::{push_accepted, push_order, push_refused};
 

@@ -56,6 +56,7 @@ regions_from place (b ∷ bs) = record { place = place; path = []; body = b } �
 abbrev pub tile_bytes : List RegionBody → View → ℕ → List ℕ
 tile_bytes bodies view tile = block_bytes (parts_of (regions_from 1 bodies) view) (span_of view tile)
 
+-- what the regions are wherever they stand, in their order
 abbrev pub bodies_of : List Region → List RegionBody
 bodies_of regions = map (λ r. r.body) regions
 

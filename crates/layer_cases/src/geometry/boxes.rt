@@ -2,8 +2,13 @@
 
 use crate::geometry::shown::{push_number, push_text};
 use crate::geometry::words::{Words, parted, whole_within};
-use case_text::{CaseFault, Shown};
+use box_index::BoxIndex;
+use case_text::{CaseFault, Shown, words_of};
 use lattice_core::{Box3, Extent, FAR, Side, box_meets_ray, hull, meet};
+use std::alloc::Global;
+
+/// The greatest number of boxes of a row.
+const MOST_BOXES: usize = 1_000;
 
 /// The side that a word is: a whole number, or `*` where it is open.
 fn side(word: &[u8]) -> Result<Side, CaseFault> {
@@ -87,4 +92,29 @@ pub fn answer_box_meets_ray(words: &mut Words, out: &mut Shown) -> Result<(), Ca
         b"no"
     };
     push_text(answer, out)
+}
+
+/// `boxes_on_ray RAY BOX .. => PLACES`, those of the boxes that the ray meets, counted from 0, by an index of all
+pub fn answer_boxes_on_ray(
+    alloc: Global,
+    words: &mut Words,
+    out: &mut Shown,
+) -> Result<(), CaseFault> {
+    let ray = words.ray();
+    let mut boxes = Vec::new(alloc);
+    for word in words_of(alloc, words.all())? {
+        boxes.push(box_of(word)?)?;
+    }
+    if boxes.len() > MOST_BOXES {
+        return Err(CaseFault::Line);
+    }
+    let mut places = Vec::new(alloc);
+    BoxIndex::build(alloc, boxes)?.meets_ray(&ray, &mut places)?;
+    for place in &places {
+        if !out.is_empty() {
+            out.put_byte(b' ');
+        }
+        out.put_number(*place);
+    }
+    Ok(())
 }

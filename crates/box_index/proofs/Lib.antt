@@ -1,0 +1,6 @@
+pub mod Members
+pub mod Placing
+mod Listing
+mod Touching
+mod Cutting
+mod Trees

@@ -1,0 +1,5 @@
+pub mod Places
+pub mod Reaches
+pub mod Cuts
+pub mod Nodes
+pub mod Examples

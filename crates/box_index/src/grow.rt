@@ -1,0 +1,106 @@
+//! The tree of cuts of some boxes.
+
+ghost use Rattle.std.specs.Prelude.{◌≡◌, ◌<◌, ◌^◌, filter, length, IfOk};
+ghost use Rattle.box_index.specs.Nodes.{has_part, IsNodeOf};
+ghost use Rattle.box_index.specs.Places.{places_where};
+ghost use Rattle.box_index.specs.Reaches.{has_points};
+
+use crate::cut::{Cut, is_above, is_below};
+use crate::node::Node;
+use crate::reach::has_points;
+use crate::spread::cut_for;
+use lattice_core::Box3;
+use memory_core::Memory;
+use std::alloc::Global;
+
+/// The greatest number of places at a node without a cut, where a cut can be had.
+const MOST_HERE: usize = 8;
+
+/// The greatest number of cuts from the root of a tree to a leaf.
+pub(crate) const MOST_CUTS: u32 = 16;
+
+/// Where a box lies by a cut: touched by it, or on one of its sides.
+#[derive(Clone, Copy, Debug, PartialEq, Eq)]
+pub(crate) enum Part {
+    Here,
+    Low,
+    High,
+}
+
+/// Whether the box at a place lies so.
+fn has_part(boxes: &[Box3], cut: Cut, part: Part, place: u32) -> bool
+    ensures { result ≡ has_part boxes.now cut part place }
+{
+    match boxes.get(place as usize) {
+        Some(b) => match part {
+            Part::Here => !is_below(b, cut) && !is_above(b, cut),
+            Part::Low => is_below(b, cut),
+            Part::High => !is_below(b, cut) && is_above(b, cut),
+        },
+        None => matches!(part, Part::Here),
+    }
+}
+
+/// The places of those boxes that lie so.
+fn part_of(
+    alloc: Global,
+    boxes: &[Box3],
+    places: &[u32],
+    cut: Cut,
+    part: Part,
+) -> Result<Vec<u32>, Memory>
+    ensures { IfOk result (λ v. v.items ≡ filter (has_part boxes.now cut part) places.now) }
+{
+    let mut chosen = Vec::new(alloc);
+    for place in places {
+        if has_part(boxes, cut, part, *place) {
+            chosen.push(*place)?;
+        }
+    }
+    Ok(chosen)
+}
+
+/// The tree of the boxes at some places, with so many cuts at most from its root to a leaf.
+pub(crate) fn grow(
+    alloc: Global,
+    boxes: &[Box3],
+    places: Vec<u32>,
+    cuts: u32,
+) -> Result<Node, Memory>
+    ensures { IfOk result (λ node. IsNodeOf boxes.now places.items node) }
+{
+    if cuts == 0 || places.len() <= MOST_HERE {
+        return Ok(Node::Leaf { here: places });
+    }
+    let Some(cut) = cut_for(boxes, &places) else {
+        return Ok(Node::Leaf { here: places });
+    };
+    let here = part_of(alloc, boxes, &places, cut, Part::Here)?;
+    if here.len() == places.len() {
+        return Ok(Node::Leaf { here: places });
+    }
+    let low = part_of(alloc, boxes, &places, cut, Part::Low)?;
+    let high = part_of(alloc, boxes, &places, cut, Part::High)?;
+    let low = grow(alloc, boxes, low, cuts - 1)?;
+    let high = grow(alloc, boxes, high, cuts - 1)?;
+    Ok(Node::Fork {
+        here,
+        cut,
+        low: Box::new(alloc, low)?,
+        high: Box::new(alloc, high)?,
+    })
+}
+
+/// The places of the boxes that have points.
+pub(crate) fn filled_places(alloc: Global, boxes: &[Box3]) -> Result<Vec<u32>, Memory>
+    requires { length boxes.now < 2 ^ 31 }
+    ensures { IfOk result (λ v. v.items ≡ places_where has_points boxes.now) }
+{
+    let mut places = Vec::new(alloc);
+    for i in 0..boxes.len() {
+        if has_points(&boxes[i]) {
+            places.push(i as u32)?;
+        }
+    }
+    Ok(places)
+}

@@ -1,0 +1,81 @@
+//! Where to cut a group of boxes: across the axis on which their middles spread most, at the mean of the middles.
+
+use crate::cut::{Axis, Cut, extent_on};
+use lattice_core::{Box3, Extent, Side};
+
+/// The middles of some boxes along an axis, each doubled so that it is whole: how many they are, their sum, the least and the
+/// greatest.
+#[derive(Clone, Copy)]
+struct Spread {
+    count: u32,
+    sum: i128,
+    least: i128,
+    greatest: i128,
+}
+
+impl Spread {
+    fn new() -> Spread {
+        Spread {
+            count: 0,
+            sum: 0,
+            least: i128::MAX,
+            greatest: i128::MIN,
+        }
+    }
+
+    fn add(&mut self, middle: i128) {
+        self.count = self.count.saturating_add(1);
+        self.sum = self.sum.saturating_add(middle);
+        self.least = self.least.min(middle);
+        self.greatest = self.greatest.max(middle);
+    }
+
+    fn width(&self) -> i128 {
+        self.greatest.saturating_sub(self.least)
+    }
+
+    fn mean(&self) -> Option<i64> {
+        let doubled = i128::from(self.count) * 2;
+        let mean = self.sum.checked_div(doubled)?;
+        i64::try_from(mean).ok()
+    }
+}
+
+/// The doubled middle of an extent. One with an open side has none.
+fn doubled_middle(extent: Extent) -> Option<i128> {
+    match (extent.low, extent.high) {
+        (Side::At(low), Side::At(high)) => Some(i128::from(low) + i128::from(high)),
+        _ => None,
+    }
+}
+
+fn middle_at(boxes: &[Box3], place: u32, axis: Axis) -> Option<i128> {
+    let b = boxes.get(place as usize)?;
+    doubled_middle(extent_on(b, axis)?)
+}
+
+fn spread_on(boxes: &[Box3], places: &[u32], axis: Axis) -> Spread {
+    let mut spread = Spread::new();
+    for place in places {
+        if let Some(middle) = middle_at(boxes, *place, axis) {
+            spread.add(middle);
+        }
+    }
+    spread
+}
+
+/// A cut for some boxes of a list, if one of them has a middle.
+pub(crate) fn cut_for(boxes: &[Box3], places: &[u32]) -> Option<Cut> {
+    let x = spread_on(boxes, places, Axis::X);
+    let y = spread_on(boxes, places, Axis::Y);
+    let z = spread_on(boxes, places, Axis::Z);
+    let (axis, spread) = if x.width() >= y.width() && x.width() >= z.width() {
+        (Axis::X, x)
+    } else if y.width() >= z.width() {
+        (Axis::Y, y)
+    } else {
+        (Axis::Z, z)
+    };
+    let at = spread.mean()?;
+    Some(Cut { axis, at })
+}

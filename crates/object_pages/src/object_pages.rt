@@ -64,7 +64,7 @@ fn exchange_members(
     }
 }
 
-/// A list of named objects, in order, on pages of 1 to 32 of them. A copy shares all pages. No name stands twice, and there
+/// A list of named objects, in order, on pages of 1 to 16 of them. A copy shares all pages. No name stands twice, and there
 /// are at most 65,535 objects; members may be missing, and what refers to what is not judged here. Beside the pages stand,
 /// shared as they are, the page of each name and the number of leaves on each page that name it. Contracts see the list.
 #[derive(Drop)]

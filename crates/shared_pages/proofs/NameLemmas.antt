@@ -6,7 +6,7 @@ use Rattle.std.proofs.lemmas.Map.{lookup-remove_entry}
 use Rattle.indexmap.specs.IndexMap.{insert_entry}
 use Rattle.name_core.specs.declared.name.Name.{Name}
 use Rattle.name_core.specs.Same.{same_name, same_name_decides, same_name_equiv}
-use Rattle.shared_pages.specs.Buckets.{Shelves, bucket_at, shelf_of, bucket_of}
+use Rattle.shared_pages.specs.Buckets.{Shelves, bucket_at, shelf_of, row_of, bucket_of}
 use Rattle.shared_pages.proofs.PlaceLemmas.{PutsBucket}
 
 -- two names are one or apart
@@ -41,40 +41,45 @@ module _ {V : Type 0} where
   lookup_removed es n a distinct = lookup-remove_entry same_name_equiv (same_name n) (same_name_equiv.congr n) a es distinct
 
   -- ---- and after its bucket is put in
-  abbrev Changes : Shelves V → Name → Option V → Shelves V → Name → Type 0
-  Changes old n w new a = lookup (same_name a) (bucket_at new (shelf_of a) (bucket_of a)) ≡ cond (same_name n a) w (lookup (same_name a) (bucket_at old (shelf_of a) (bucket_of a)))
+  abbrev bucket_in : Shelves V → Name → List (Name × V)
+  bucket_in map a = bucket_at map (shelf_of a) (row_of a) (bucket_of a)
 
-  pub gives : (old new : Shelves V) (n : Name) (w : Option V) (was bucket : List (Name × V)) → PutsBucket old (shelf_of n) (bucket_of n) bucket new
-      → was ≡ bucket_at old (shelf_of n) (bucket_of n) → ((a : Name) → lookup (same_name a) bucket ≡ cond (same_name n a) w (lookup (same_name a) was)) → (a : Name) → Changes old n w new a
+  abbrev Changes : Shelves V → Name → Option V → Shelves V → Name → Type 0
+  Changes old n w new a = lookup (same_name a) (bucket_in new a) ≡ cond (same_name n a) w (lookup (same_name a) (bucket_in old a))
+
+  pub gives : (old new : Shelves V) (n : Name) (w : Option V) (was bucket : List (Name × V)) → PutsBucket old (shelf_of n) (row_of n) (bucket_of n) bucket new
+      → was ≡ bucket_in old n → ((a : Name) → lookup (same_name a) bucket ≡ cond (same_name n a) w (lookup (same_name a) was)) → (a : Name) → Changes old n w new a
   gives old new n w was bucket puts is h a =
       elim (name_tells n a) [
         | inl t ↦ subst (λ (b : Name). Changes old n w new b) t.1 (ap (λ l. lookup (same_name n) l) puts.0 ∙ h n ∙ ap (λ l. cond (same_name n n) w (lookup (same_name n) l)) is)
         | inr t ↦ rw t.0 (other a t.0)
       ]
     where
-      here : (a : Name) → same_name n a ≡ false → shelf_of a ≡ shelf_of n → bucket_of a ≡ bucket_of n
-          → lookup (same_name a) (bucket_at new (shelf_of a) (bucket_of a)) ≡ lookup (same_name a) (bucket_at old (shelf_of a) (bucket_of a))
-      here a apart e f =
-          let at : (l : Shelves V) → bucket_at l (shelf_of a) (bucket_of a) ≡ bucket_at l (shelf_of n) (bucket_of n) = λ l. (λ k. bucket_at l (e k) (f k)) in
+      here : (a : Name) → same_name n a ≡ false → shelf_of a ≡ shelf_of n → row_of a ≡ row_of n → bucket_of a ≡ bucket_of n → lookup (same_name a) (bucket_in new a) ≡ lookup (same_name a) (bucket_in old a)
+      here a apart e f g =
+          let at : (l : Shelves V) → bucket_in l a ≡ bucket_in l n = λ l. (λ k. bucket_at l (e k) (f k) (g k)) in
           let now : lookup (same_name a) bucket ≡ lookup (same_name a) was = h a ∙ ap (λ b. cond b w (lookup (same_name a) was)) apart in
           ap (λ l. lookup (same_name a) l) (at new ∙ puts.0) ∙ now ∙ ap (λ l. lookup (same_name a) l) (is ∙ sym (at old))
 
-      other : (a : Name) → same_name n a ≡ false → lookup (same_name a) (bucket_at new (shelf_of a) (bucket_of a)) ≡ lookup (same_name a) (bucket_at old (shelf_of a) (bucket_of a))
+      other : (a : Name) → same_name n a ≡ false → lookup (same_name a) (bucket_in new a) ≡ lookup (same_name a) (bucket_in old a)
       other a apart =
+          let beside : (shelf_of a ≢ shelf_of n) ⊎ ((row_of a ≢ row_of n) ⊎ (bucket_of a ≢ bucket_of n)) → lookup (same_name a) (bucket_in new a) ≡ lookup (same_name a) (bucket_in old a) =
+          λ which. ap (λ l. lookup (same_name a) l) (puts.1 (shelf_of a) (row_of a) (bucket_of a) which) in
           elim (cases_eq (shelf_of a) (shelf_of n)) [
-            | inr x ↦ ap (λ l. lookup (same_name a) l) (puts.1 (shelf_of a) (bucket_of a) (inl x))
-            | inl e ↦ elim (cases_eq (bucket_of a) (bucket_of n)) [
-              | inr y ↦ ap (λ l. lookup (same_name a) l) (puts.1 (shelf_of a) (bucket_of a) (inr y))
-              | inl f ↦ here a apart e f
+            | inr x ↦ beside (inl x)
+            | inl e ↦ elim (cases_eq (row_of a) (row_of n)) [
+              | inr y ↦ beside (inr (inl y))
+              | inl f ↦ elim (cases_eq (bucket_of a) (bucket_of n)) [ inr z ↦ beside (inr (inr z)) | inl g ↦ here a apart e f g ]
             ]
           ]
 
   -- the slot as the code has it
-  pub gives_at : (old new : Shelves V) (n : Name) (w : Option V) (was bucket : List (Name × V)) (i j : ℕ) → i ≡ shelf_of n → j ≡ bucket_of n → PutsBucket old i j bucket new
-      → was ≡ bucket_at old i j → ((a : Name) → lookup (same_name a) bucket ≡ cond (same_name n a) w (lookup (same_name a) was)) → (a : Name) → Changes old n w new a
-  gives_at old new n w was bucket i j e f puts is h =
-      gives old new n w was bucket (subst (λ (k : ℕ). PutsBucket old k (bucket_of n) bucket new) e (subst (λ (k : ℕ). PutsBucket old i k bucket new) f puts))
-      (is ∙ (λ k. bucket_at old (e k) (f k))) h
+  pub gives_at : (old new : Shelves V) (n : Name) (w : Option V) (was bucket : List (Name × V)) (i j k : ℕ) → i ≡ shelf_of n → j ≡ row_of n → k ≡ bucket_of n → PutsBucket old i j k bucket new
+      → was ≡ bucket_at old i j k → ((a : Name) → lookup (same_name a) bucket ≡ cond (same_name n a) w (lookup (same_name a) was)) → (a : Name) → Changes old n w new a
+  gives_at old new n w was bucket i j k e f g puts is h =
+      gives old new n w was bucket
+      (subst (λ (l : ℕ). PutsBucket old l (row_of n) (bucket_of n) bucket new) e (subst (λ (l : ℕ). PutsBucket old i l (bucket_of n) bucket new) f (subst (λ (l : ℕ). PutsBucket old i j l bucket new) g puts)))
+      (is ∙ (λ l. bucket_at old (e l) (f l) (g l))) h
 
   pub inserted_new : (es : List (Name × V)) (n : Name) (v : V) → lookup (same_name n) es ≡ None → insert_entry same_name es n v ≡ es ++ (n, v) ∷ []
   inserted_new [] n v h = refl

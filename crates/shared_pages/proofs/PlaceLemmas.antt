@@ -11,8 +11,8 @@ abbrev pub PutsAt : {A : Type 0} → A → List A → ℕ → A → List A → T
 PutsAt d old i v new = (slice_index_or new i d ≡ v) × ((k : ℕ) → k ≢ i → slice_index_or new k d ≡ slice_index_or old k d)
 
 -- new has this bucket at the place, and at each other place what old has
-abbrev pub PutsBucket : {V : Type 0} → Shelves V → ℕ → ℕ → List (Name × V) → Shelves V → Type 0
-PutsBucket old i j bucket new = (bucket_at new i j ≡ bucket) × ((x y : ℕ) → (x ≢ i) ⊎ (y ≢ j) → bucket_at new x y ≡ bucket_at old x y)
+abbrev pub PutsBucket : {V : Type 0} → Shelves V → ℕ → ℕ → ℕ → List (Name × V) → Shelves V → Type 0
+PutsBucket old i j k bucket new = (bucket_at new i j k ≡ bucket) × ((x y z : ℕ) → (x ≢ i) ⊎ ((y ≢ j) ⊎ (z ≢ k)) → bucket_at new x y z ≡ bucket_at old x y z)
 
 -- ---- places past the end are empty
 module _ {A : Type 0} (d : A) where
@@ -43,27 +43,33 @@ pub always : {X E P : Type 0} (r : Result X E) → P → OnOk r P
 always (Ok x) h = h
 always (Err e) h = tt
 
--- ---- a bucket on a shelf
+-- ---- a bucket of a row on a shelf
 module _ {V : Type 0} where
-  pub puts_bucket : (old new : Shelves V) (shelf next : List (List (Name × V))) (i j : ℕ) (bucket : List (Name × V))
-      → shelf ≡ slice_index_or old i [] → PutsAt [] shelf j bucket next → PutsAt [] old i next new → PutsBucket old i j bucket new
-  puts_bucket old new shelf next i j bucket is inner outer = (
-    ap (λ l. slice_index_or l j []) outer.0 ∙ inner.0,
-    λ x y apart. elim (cases_eq x i) [
-      | inr other ↦ ap (λ l. slice_index_or l y []) (outer.1 x other)
+  pub puts_bucket : (old new : Shelves V) (shelf next : List (List (List (Name × V)))) (row last : List (List (Name × V))) (i j k : ℕ) (bucket : List (Name × V))
+      → shelf ≡ slice_index_or old i [] → row ≡ slice_index_or shelf j [] → PutsAt [] row k bucket last → PutsAt [] shelf j last next → PutsAt [] old i next new
+      → PutsBucket old i j k bucket new
+  puts_bucket old new shelf next row last i j k bucket from_old from_shelf inner middle outer = (
+    (ap (λ l. slice_index_or (slice_index_or l j []) k []) outer.0 ∙ ap (λ l. slice_index_or l k []) middle.0) ∙ inner.0,
+    λ x y z apart. elim (cases_eq x i) [
+      | inr other ↦ ap (λ l. slice_index_or (slice_index_or l y []) z []) (outer.1 x other)
       | inl e ↦ elim apart [
         | inl other ↦ absurd (other e)
         | inr beside ↦
-            ap (λ k. bucket_at new k y) e ∙ ap (λ l. slice_index_or l y []) outer.0 ∙ inner.1 y beside
-            ∙ ap (λ l. slice_index_or l y []) is ∙ ap (λ k. bucket_at old k y) (sym e)
+            ap (λ n. bucket_at new n y z) e ∙ ap (λ l. slice_index_or (slice_index_or l y []) z []) outer.0 ∙ on_shelf y z beside
+            ∙ ap (λ l. slice_index_or (slice_index_or l y []) z []) from_old ∙ ap (λ n. bucket_at old n y z) (sym e)
       ]
     ],
   )
+    where
+      at : List (List (List (Name × V))) → ℕ → ℕ → List (Name × V)
+      at l y z = slice_index_or (slice_index_or l y []) z []
 
-  -- both put back after they were taken out
-  pub back_in : (old taken : Shelves V) (shelf left : List (List (Name × V))) (i j : ℕ) (bucket : List (Name × V)) (new : Shelves V)
-      → shelf ≡ slice_index_or old i [] → ((k : ℕ) → k ≢ i → slice_index_or taken k [] ≡ slice_index_or old k []) → i < length taken
-      → ((k : ℕ) → k ≢ j → slice_index_or left k [] ≡ slice_index_or shelf k []) → j < length left → new ≡ slice_set taken i (slice_set left j bucket) → PutsBucket old i j bucket new
-  back_in old taken shelf left i j bucket new is others there beside within put =
-      puts_bucket old new shelf (slice_set left j bucket) i j bucket is (puts_set [] shelf left (slice_set left j bucket) j bucket beside within refl)
-      (puts_set [] old taken new i (slice_set left j bucket) others there put)
+      on_shelf : (y z : ℕ) → (y ≢ j) ⊎ (z ≢ k) → at next y z ≡ at shelf y z
+      on_shelf y z apart = elim (cases_eq y j) [
+        | inr other ↦ ap (λ l. slice_index_or l z []) (middle.1 y other)
+        | inl e ↦ elim apart [
+          | inl other ↦ absurd (other e)
+          | inr beside ↦
+              ap (λ n. at next n z) e ∙ ap (λ l. slice_index_or l z []) middle.0 ∙ inner.1 z beside ∙ ap (λ l. slice_index_or l z []) from_shelf ∙ ap (λ n. at shelf n z) (sym e)
+        ]
+      ]

@@ -1,4 +1,4 @@
--- Where the value of a name stands: in a bucket on a shelf.
+-- Where the value of a name stands: in a bucket of a row on a shelf.
 use Rattle.std.specs.Prelude.{ℕ, ◌+◌, ◌*◌, ◌/◌, ◌%◌, ◌≡◌, fold, cond, List, [], slice_index_or, Option}
 use Rattle.std.specs.Map.{lookup}
 use Rattle.name_core.specs.declared.name.Name.{Name}
@@ -14,24 +14,28 @@ name_number a = fold next_number 0 a
 
 -- the shelf of a name
 abbrev pub shelf_of : Name → ℕ
-shelf_of a = name_number a % 32
+shelf_of a = name_number a % 16
 
--- its bucket on that shelf
+-- its row on that shelf
+abbrev pub row_of : Name → ℕ
+row_of a = name_number a / 16 % 16
+
+-- its bucket in that row
 abbrev pub bucket_of : Name → ℕ
-bucket_of a = name_number a / 32 % 64
+bucket_of a = name_number a / 256 % 16
 
--- the pairs of a map, bucket by bucket on each shelf
+-- the pairs of a map, bucket by bucket in each row of each shelf
 abbrev pub Shelves : Type 0 → Type 0
-Shelves V = List (List (List (Name × V)))
+Shelves V = List (List (List (List (Name × V))))
 
 module _ {V : Type 0} where
   -- the pairs of a bucket, none where the lists end before it
-  abbrev pub bucket_at : Shelves V → ℕ → ℕ → List (Name × V)
-  bucket_at shelves i j = slice_index_or (slice_index_or shelves i []) j []
+  abbrev pub bucket_at : Shelves V → ℕ → ℕ → ℕ → List (Name × V)
+  bucket_at shelves i j k = slice_index_or (slice_index_or (slice_index_or shelves i []) j []) k []
 
   -- the value of a name
   abbrev pub value_of : Shelves V → Name → Option V
-  value_of map a = lookup (same_name a) (bucket_at map (shelf_of a) (bucket_of a))
+  value_of map a = lookup (same_name a) (bucket_at map (shelf_of a) (row_of a) (bucket_of a))
 
   -- new gives the name this value, or none, and each other name what old gives it
   abbrev pub Gives : Shelves V → Name → Option V → Shelves V → Type 0

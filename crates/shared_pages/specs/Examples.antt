@@ -1,7 +1,7 @@
 -- A few pairs on pages and in buckets, and what the definitions say of them. A name is one byte, and a value a number.
 use Rattle.std.specs.Prelude.{◌≡◌, ℕ, List, [], ◌∷◌, ◌++◌, replicate, Some, None, refl}
 use Rattle.name_core.specs.declared.name.Name.{Name}
-use Rattle.shared_pages.specs.Buckets.{Shelves, name_number, shelf_of, bucket_of, value_of}
+use Rattle.shared_pages.specs.Buckets.{Shelves, name_number, shelf_of, row_of, bucket_of, value_of}
 use Rattle.shared_pages.specs.Pages.{Pages, pairs_of, page_of, set_page, page_after, pushed, last_number}
 
 abbrev named : ℕ → Name
@@ -48,14 +48,14 @@ without_the_middle = refl
 pub without_the_last : set_page three 7 [] ≡ (0, one 65 1) ∷ (4, one 66 2) ∷ []
 without_the_last = refl
 
--- ---- a page holds 32 pairs
-pub one_fits : page_after (4, replicate 31 (named 65, 1)) (named 66) 2 ≡ (4, replicate 31 (named 65, 1) ++ one 66 2)
+-- ---- a page holds 16 pairs
+pub one_fits : page_after (4, replicate 15 (named 65, 1)) (named 66) 2 ≡ (4, replicate 15 (named 65, 1) ++ one 66 2)
 one_fits = refl
 
-pub none_fits : page_after (4, replicate 32 (named 65, 1)) (named 66) 2 ≡ (5, one 66 2)
+pub none_fits : page_after (4, replicate 16 (named 65, 1)) (named 66) 2 ≡ (5, one 66 2)
 none_fits = refl
 
-pub behind_a_full_page : pushed ((4, replicate 32 (named 65, 1)) ∷ []) (named 66) 2 ≡ (4, replicate 32 (named 65, 1)) ∷ (5, one 66 2) ∷ []
+pub behind_a_full_page : pushed ((4, replicate 16 (named 65, 1)) ∷ []) (named 66) 2 ≡ (4, replicate 16 (named 65, 1)) ∷ (5, one 66 2) ∷ []
 behind_a_full_page = refl
 
 -- ---- where a name stands
@@ -65,12 +65,19 @@ number_of_a_name = refl
 pub its_shelf : shelf_of (65 ∷ 66 ∷ []) ≡ 1
 its_shelf = refl
 
-pub its_bucket : bucket_of (65 ∷ 66 ∷ []) ≡ 1
+pub its_row : row_of (65 ∷ 66 ∷ []) ≡ 2
+its_row = refl
+
+pub its_bucket : bucket_of (65 ∷ 66 ∷ []) ≡ 8
 its_bucket = refl
 
--- 65 stands on shelf 1 in bucket 2
+-- the number of these three bytes is 64,578, which is 252 times 256, 4 times 16, and 2
+pub in_its_row : bucket_of (65 ∷ 66 ∷ 67 ∷ []) ≡ 12
+in_its_row = refl
+
+-- 65 stands on shelf 1, in row 4, in bucket 0
 abbrev pub of_one : Shelves ℕ
-of_one = [] ∷ ([] ∷ [] ∷ one 65 3 ∷ []) ∷ []
+of_one = [] ∷ ([] ∷ [] ∷ [] ∷ [] ∷ (one 65 3 ∷ []) ∷ []) ∷ []
 
 pub a_value : value_of of_one (named 65) ≡ Some 3
 a_value = refl

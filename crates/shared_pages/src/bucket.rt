@@ -1,9 +1,10 @@
-ghost use Rattle.std.specs.Prelude.{◌≡◌, [], OnOk, OnErr, IfOk};
+ghost use Rattle.std.specs.Prelude.{◌≡◌, [], cond, OnOk, OnErr, IfOk};
 ghost use Rattle.std.specs.Arc.{arc_value};
-ghost use Rattle.std.specs.Option.{option_copied};
+ghost use Rattle.std.specs.Option.{option_copied, option_map};
 ghost use Rattle.std.specs.List.{IsDistinct};
 ghost use Rattle.std.specs.Map.{lookup, keys_of, remove_entry};
 ghost use Rattle.indexmap.specs.IndexMap.{insert_entry};
+ghost use Rattle.name_core.specs.declared.name.Name.{Name as Bytes};
 ghost use Rattle.name_core.specs.Same.{same_name};
 ghost use Rattle.shared_pages.specs.Named.{IsFound};
 
@@ -96,5 +97,16 @@ impl<V: Drop> Bucket<V> {
         if let Some(place) = place_in(&self.entries, name) {
             let _entry = self.entries.remove(place);
         }
+    }
+
+    /// Gives the name this value, or none.
+    pub(crate) fn change(&mut self, name: &Name, value: Option<Arc<V>>) -> Result<(), Memory>
+        ensures { OnOk result ((a : Bytes) → lookup (same_name a) self.new ≡ cond (same_name name.now a) (option_map arc_value value) (lookup (same_name a) self.old)) }
+    {
+        match value {
+            Some(value) => self.insert(name, value)?,
+            None => self.remove(name),
+        }
+        Ok(())
     }
 }

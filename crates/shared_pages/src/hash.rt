@@ -1,5 +1,5 @@
 ghost use Rattle.std.specs.Prelude.{◌≡◌, ◌<◌};
-ghost use Rattle.shared_pages.specs.Buckets.{name_number, next_number, shelf_of, bucket_of};
+ghost use Rattle.shared_pages.specs.Buckets.{name_number, next_number};
 
 use name_core::Name;
 

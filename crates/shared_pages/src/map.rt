@@ -1,7 +1,8 @@
-ghost use Rattle.std.specs.Prelude.{◌≡◌, ◌<◌, None, Some, IfOk, [], length, slice_index_or, slice_set};
-ghost use Rattle.std.specs.Option.{option_copied, unwrap_or};
+ghost use Rattle.std.specs.Prelude.{◌≡◌, ◌<◌, None, Some, IfOk, []};
+ghost use Rattle.std.specs.Arc.{arc_value};
+ghost use Rattle.std.specs.Option.{option_copied, option_map, unwrap_or};
 ghost use Rattle.name_core.specs.declared.name.Name.{Name as Bytes};
-ghost use Rattle.shared_pages.specs.Buckets.{value_of, bucket_at, shelf_of, bucket_of, Gives};
+ghost use Rattle.shared_pages.specs.Buckets.{value_of, bucket_at, shelf_of, row_of, bucket_of, Gives};
 
 use crate::bucket::Bucket;
 use crate::hash::number_of;
@@ -12,34 +13,38 @@ use std::alloc::Global;
 use std::marker::Model;
 use std::sync::Arc;
 
-/// A bucket by its place on its shelf.
+/// A bucket by its place: on which shelf, in which row there, and where in the row.
 #[derive(Clone, Copy)]
 pub(crate) struct Slot {
     pub(crate) shelf: usize,
+    pub(crate) row: usize,
     pub(crate) bucket: usize,
 }
 
 /// Where a name stands.
 pub(crate) fn slot_of(name: &Name) -> Slot
     ensures shelf { result.shelf ≡ shelf_of name.now }
+    ensures row { result.row ≡ row_of name.now }
     ensures bucket { result.bucket ≡ bucket_of name.now }
-    ensures small_shelf { result.shelf < 32 }
-    ensures small_bucket { result.bucket < 64 }
+    ensures small_shelf { result.shelf < 16 }
+    ensures small_row { result.row < 16 }
+    ensures small_bucket { result.bucket < 16 }
 {
     let number = number_of(name) as usize;
     Slot {
-        shelf: number % 32,
-        bucket: number / 32 % 64,
+        shelf: number % 16,
+        row: number / 16 % 16,
+        bucket: number / 256 % 16,
     }
 }
 
-/// Values by name. A copy shares them all, and a change touches only the shelf and the bucket of its name: what a copy
-/// shares is copied first, and what none shares is changed where it stands. Contracts see its pairs, and by `value_of` the
-/// value of each name.
+/// Values by name. A copy shares them all, and a change touches only the shelf, the row and the bucket of its name: what a
+/// copy shares is copied first, and what none shares is changed where it stands. Contracts see its pairs, and by `value_of`
+/// the value of each name.
 #[derive(Drop)]
 pub struct SharedMap<V> {
     /// None where no name has a value yet.
-    root: Option<Arc<Shares<Shares<Bucket<V>>>>>,
+    root: Option<Arc<Shares<Shares<Shares<Bucket<V>>>>>>,
 }
 
 impl<V> Model for SharedMap<V> {
@@ -73,13 +78,16 @@ impl<V: Drop> SharedMap<V> {
 
     /// The bucket at the slot, where there is one.
     fn bucket(&self, slot: &Slot) -> Option<&Bucket<V>>
-        ensures { unwrap_or (option_copied result) [] ≡ bucket_at self.now slot.now.shelf slot.now.bucket }
+        ensures { unwrap_or (option_copied result) [] ≡ bucket_at self.now slot.now.shelf slot.now.row slot.now.bucket }
     {
         let Some(root) = &self.root else {
             return None;
         };
-        match root.get(slot.shelf) {
-            Some(shelf) => shelf.get(slot.bucket),
+        let Some(shelf) = root.get(slot.shelf) else {
+            return None;
+        };
+        match shelf.get(slot.row) {
+            Some(row) => row.get(slot.bucket),
             None => None,
         }
     }
@@ -96,7 +104,7 @@ impl<V: Drop> SharedMap<V> {
     }
 
     /// The shelves of this map. Where a copy shares them, they are copied.
-    fn owned(self, alloc: Global) -> Result<Shares<Shares<Bucket<V>>>, Memory>
+    fn owned(self, alloc: Global) -> Result<Shares<Shares<Shares<Bucket<V>>>>, Memory>
         ensures { IfOk result (λ s. s ≡ self) }
     {
         let SharedMap { root } = self;
@@ -109,19 +117,23 @@ impl<V: Drop> SharedMap<V> {
         }
     }
 
-    /// The map in which the bucket stands on the shelf again, and the shelf among the others.
-    fn put_back(
+    /// The map in which the name has this value, or none.
+    fn changed(
+        self,
         alloc: Global,
-        mut shelves: Shares<Shares<Bucket<V>>>,
-        mut shelf: Shares<Bucket<V>>,
-        slot: &Slot,
-        bucket: Bucket<V>,
+        name: &Name,
+        value: Option<Arc<V>>,
     ) -> Result<SharedMap<V>, Memory>
-        requires shelf { slot.now.shelf < length shelves }
-        requires bucket { slot.now.bucket < length shelf }
-        ensures { IfOk result (λ m. m ≡ slice_set shelves slot.now.shelf (slice_set shelf slot.now.bucket bucket)) }
+        ensures { IfOk result (Gives self name.now (option_map arc_value value)) }
     {
-        shelf.set(alloc, slot.bucket, bucket)?;
+        let slot = slot_of(name);
+        let mut shelves = self.owned(alloc)?;
+        let mut shelf = shelves.take(alloc, slot.shelf)?;
+        let mut row = shelf.take(alloc, slot.row)?;
+        let mut bucket = row.take(alloc, slot.bucket)?;
+        bucket.change(name, value)?;
+        row.set(alloc, slot.bucket, bucket)?;
+        shelf.set(alloc, slot.row, row)?;
         shelves.set(alloc, slot.shelf, shelf)?;
         let root = Arc::new(alloc, shelves)?;
         Ok(SharedMap { root: Some(root) })
@@ -132,13 +144,8 @@ impl<V: Drop> SharedMap<V> {
     pub fn put(self, alloc: Global, name: &Name, value: V) -> Result<SharedMap<V>, Memory>
         ensures { IfOk result (Gives self name.now (Some value)) }
     {
-        let slot = slot_of(name);
-        let mut shelves = self.owned(alloc)?;
-        let mut shelf = shelves.take(alloc, slot.shelf)?;
-        let mut bucket = shelf.take(alloc, slot.bucket)?;
         let share = Arc::new(alloc, value)?;
-        bucket.insert(name, share)?;
-        SharedMap::put_back(alloc, shelves, shelf, &slot, bucket)
+        self.changed(alloc, name, Some(share))
     }
 
     /// The map in which the name has no value. It takes this map over, and what copies of this map share stays as it is for
@@ -146,11 +153,6 @@ impl<V: Drop> SharedMap<V> {
     pub fn remove(self, alloc: Global, name: &Name) -> Result<SharedMap<V>, Memory>
         ensures { IfOk result (Gives self name.now None) }
     {
-        let slot = slot_of(name);
-        let mut shelves = self.owned(alloc)?;
-        let mut shelf = shelves.take(alloc, slot.shelf)?;
-        let mut bucket = shelf.take(alloc, slot.bucket)?;
-        bucket.remove(name);
-        SharedMap::put_back(alloc, shelves, shelf, &slot, bucket)
+        self.changed(alloc, name, None)
     }
 }

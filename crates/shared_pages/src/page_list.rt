@@ -20,7 +20,7 @@ use std::alloc::Global;
 use std::marker::Model;
 use std::sync::Arc;
 
-/// Pairs on pages, in order, of which a copy shares all pages. A page has 1 to 32 pairs and keeps its number as long as it
+/// Pairs on pages, in order, of which a copy shares all pages. A page has 1 to 16 pairs and keeps its number as long as it
 /// has one, and the numbers rise from page to page. Pages stand in groups, of which a copy shares all too. A change touches
 /// one page and its group: what a copy shares is copied first, and what none shares is changed where it stands. Contracts
 /// see the pages with their numbers and pairs.
@@ -58,7 +58,7 @@ impl<V: Drop> PageList<V> {
     pub fn len(&self) -> usize
         ensures value { result ≡ length (pairs_of self.now) }
 
-        // The numbers of the pages rise, and each has 1 to 32 pairs.
+        // The numbers of the pages rise, and each has 1 to 16 pairs.
         ensures pages { ArePages self.now result }
     {
         self.count

@@ -18,11 +18,13 @@ struct Tens {
 }
 
 impl Job for Tens {
-    ghost use Rattle.std.specs.Prelude.{◌≡◌, ◌+◌, ◌*◌};
+    ghost use Rattle.std.specs.Prelude.{◌≡◌, ◌+◌, ◌-◌, ◌*◌};
 
     type Out = u64;
 
     ghost pieces = { λ job. job.pieces };
+
+    ghost tiles = { λ job i. job.pieces - 1 - i };
 
     ghost gives = { λ job i out. out ≡ 10 * i + 3 };
 
@@ -113,6 +115,8 @@ impl Job for Scarce {
     type Out = u32;
 
     ghost pieces = { λ job. 20 };
+
+    ghost tiles = { λ job i. i };
 
     ghost gives = { λ job i out. out ≡ i };
 

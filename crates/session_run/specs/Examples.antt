@@ -18,7 +18,8 @@ use Rattle.directory.specs.Listing.{Listing}
 use Rattle.scene_prep.specs.Regions.{regions_of_name}
 use Rattle.scene_prep.specs.Sizes.{size_of_name}
 use Rattle.session_run.specs.Own.{OwnState}
-use Rattle.session_run.specs.Replies.{no_objects, lines_alone, picture_line, outcome_of, directory_made, used_after}
+use Rattle.tile_shot.specs.Named.{TileName}
+use Rattle.session_run.specs.Replies.{no_objects, lines_alone, picture_line, outcome_of, directory_made, used_after, own_with, forgotten}
 
 -- the half-space of the points with x at most 5
 abbrev half : Parts
@@ -135,3 +136,33 @@ overlaps = refl
 no_overlaps_of_a_missing_name : outcome_of three (used_so_far 67108864) (IsShoot (Check at_once (codes "h" ∷ codes "x" ∷ []))) ≡ Err (Missing (codes "x"))
 unfolding size_of_name
 no_overlaps_of_a_missing_name = refl
+
+-- a tile of the one pixel, without regions
+abbrev one_tile : TileName
+one_tile = record { view = at_once; tile = 0; bodies = [] }
+
+-- a session that keeps this tile
+abbrev keeping : ℕ → OwnState
+keeping used = record { tiles = one_tile ∷ []; used = used }
+
+-- after want of memory a picture leaves no tile kept, and so does a check
+forgotten_by_a_picture : forgotten (keeping 5) (IsShoot (Picture (codes "p") at_once (codes "h" ∷ []))) ≡ used_so_far 5
+forgotten_by_a_picture = refl
+
+forgotten_by_a_check : forgotten (keeping 5) (IsShoot (Check at_once (codes "h" ∷ []))) ≡ used_so_far 5
+forgotten_by_a_check = refl
+
+-- a query and an edit leave all
+kept_by_a_query : forgotten (keeping 5) (IsQuery (queries.Shot along_x (codes "h" ∷ []))) ≡ keeping 5
+kept_by_a_query = refl
+
+kept_by_an_edit : forgotten (keeping 5) (IsEdit (Kill (codes "h" ∷ []))) ≡ keeping 5
+kept_by_an_edit = refl
+
+-- a check that is accepted leaves the tiles and uses its bytes, which are 39 here
+after_a_check : own_with three (keeping 5) (IsShoot (Check at_once (codes "h" ∷ codes "h" ∷ []))) (Ok (lines_alone (codes "overlap 1 /h 2 /h rays 1 first 0 0 0 5" ∷ []))) ≡ keeping 44
+after_a_check = refl
+
+-- a picture that is refused leaves both
+after_a_refused_picture : own_with three (keeping 67108864) (IsShoot (Picture (codes "p") at_once (codes "h" ∷ []))) (Err Quota) ≡ keeping 67108864
+after_a_refused_picture = refl

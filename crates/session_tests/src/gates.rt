@@ -1,4 +1,4 @@
-//! Gates that hold threads until others have come so far, and one that notes which tiles are begun.
+//! Gates that hold threads until others have come so far, and one that notes which tiles are begun and which versions are committed.
 
 use memory_core::Memory;
 use outside_core::{Gate, GateEvent};
@@ -135,26 +135,34 @@ impl Gate for WorkersMeet {
     }
 }
 
-/// How many commands and tiles a record has room for.
-const COMMANDS: u32 = 9;
+/// How many commands, tiles and versions a record has room for.
+const COMMANDS: u32 = 10;
 
 const TILES: u32 = 2;
 
-/// Holds nobody, and notes how often session 1 begins each tile of each command.
+const VERSIONS: u32 = 10;
+
+fn no_counts(alloc: Global, len: u32) -> Result<Vec<AtomicU32>, Memory> {
+    let mut counts = Vec::new(alloc);
+    for _ in 0..len {
+        counts.push(AtomicU32::new(0))?;
+    }
+    Ok(counts)
+}
+
+/// Holds nobody, and notes how often session 1 begins each tile of each command, and how often it commits each version.
 #[derive(Drop)]
-pub(crate) struct TileRecord {
+pub(crate) struct EventRecord {
     begun: Vec<AtomicU32>,
+    committed: Vec<AtomicU32>,
     others: AtomicU32,
 }
 
-impl TileRecord {
-    pub(crate) fn new(alloc: Global) -> Result<TileRecord, Memory> {
-        let mut begun = Vec::new(alloc);
-        for _ in 0..COMMANDS * TILES {
-            begun.push(AtomicU32::new(0))?;
-        }
-        Ok(TileRecord {
-            begun,
+impl EventRecord {
+    pub(crate) fn new(alloc: Global) -> Result<EventRecord, Memory> {
+        Ok(EventRecord {
+            begun: no_counts(alloc, COMMANDS * TILES)?,
+            committed: no_counts(alloc, VERSIONS)?,
             others: AtomicU32::new(0),
         })
     }
@@ -169,8 +177,26 @@ impl TileRecord {
         }
     }
 
+    fn version(&self, version: u32) -> &AtomicU32 {
+        match self.committed.get(version as usize) {
+            Some(one) => one,
+            None => &self.others,
+        }
+    }
+
+    /// Whether these versions were committed, each once, and no others.
+    pub(crate) fn has_committed_once(&self, versions: &[u32]) -> bool {
+        for version in 0..VERSIONS {
+            let times = u32::from(versions.contains(&version));
+            if counted(self.version(version)) != times {
+                return false;
+            }
+        }
+        counted(&self.others) == 0
+    }
+
     /// Whether these are the commands with their tiles that were begun, repeats aside.
-    pub(crate) fn has_exactly(&self, pairs: &[(u32, u32)]) -> bool {
+    pub(crate) fn has_begun(&self, pairs: &[(u32, u32)]) -> bool {
         for command in 0..COMMANDS {
             for tile in 0..TILES {
                 let was_begun = 0 < counted(self.place(command, tile));
@@ -183,7 +209,7 @@ impl TileRecord {
     }
 }
 
-impl Gate for TileRecord {
+impl Gate for EventRecord {
     fn at(&self, event: GateEvent) {
         match event {
             GateEvent::TileBegin {
@@ -191,8 +217,11 @@ impl Gate for TileRecord {
                 command,
                 tile,
             } => count(self.place(command, tile)),
-            GateEvent::TileBegin { .. } => count(&self.others),
-            GateEvent::Committed { .. } => {}
+            GateEvent::Committed {
+                session: 1,
+                version,
+            } => count(self.version(version)),
+            _ => count(&self.others),
         }
     }
 }

@@ -1,6 +1,6 @@
-//! Runs in which threads meet, and which tiles a run begins.
+//! Runs in which threads meet, and what a run tells its gate.
 
-use crate::gates::{SessionsMeet, TileRecord, WorkersMeet};
+use crate::gates::{EventRecord, SessionsMeet, WorkersMeet};
 use crate::running::run_script;
 use mged_top::Status;
 use std::test::Fail;
@@ -21,12 +21,13 @@ r b.r u b
 rt p.ppm -z 0 15 100 1 32 16 a.r b.r
 ";
 
-/// The same picture, then with another colour of one box, and once more.
+/// The same picture, then with another colour of one box, and once more. One edit, between them, is refused.
 const THREE_PICTURES: &[u8] = b"in a rpp 0 10 0 10 0 10
 in b rpp 20 30 0 10 0 10
 r a.r u a
 r b.r u b
 rt p.ppm -z 0 15 100 1 32 16 a.r b.r
+kill c
 cattr b.r rgb 255 0 0
 rt p.ppm -z 0 15 100 1 32 16 a.r b.r
 rt p.ppm -z 0 15 100 1 32 16 a.r b.r
@@ -71,11 +72,14 @@ fn two_workers_shoot_the_tiles_of_one_picture_at_once(rt: HostRuntime) -> Result
 }
 
 #[test]
-fn only_tiles_that_are_not_kept_are_begun(rt: HostRuntime) -> Result<(), Fail> {
-    let gate = TileRecord::new(rt.alloc())?;
+fn tiles_that_are_not_kept_are_begun_and_accepted_edits_are_told(
+    rt: HostRuntime,
+) -> Result<(), Fail> {
+    let gate = EventRecord::new(rt.alloc())?;
     let ended = run_script(&rt, &[], THREE_PICTURES, &gate)?;
-    assert_eq!(rt; ended.status, Status::Done);
-    assert!(rt; gate.has_exactly(&[(5, 0), (5, 1), (7, 1)]));
+    assert_eq!(rt; ended.status, Status::SomeRefused);
+    assert!(rt; gate.has_begun(&[(5, 0), (5, 1), (8, 1)]));
+    assert!(rt; gate.has_committed_once(&[1, 2, 3, 4, 5]));
     assert!(rt;
         ended.sink.bytes().ends_with(b"\npicture p.ppm 32 16 tiles 2 shot 0 reused 2\n".as_slice())
     );

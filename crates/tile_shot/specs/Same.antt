@@ -1,7 +1,8 @@
 -- Whether names of tiles are the same, as `==` answers.
-use Rattle.std.specs.Prelude.{◌==◌, ◌&&◌, ◌++◌, Bool}
+use Rattle.std.specs.Prelude.{◌==◌, ◌&&◌, ◌++◌, ℕ, Bool, fold}
 use Rattle.std.specs.Hash as fed
 use Rattle.std.specs.Hash.{HashWrites}
+use Rattle.std.specs.Hash.FoldHasher as folding
 use Rattle.std.specs.Cmp.Lexicographic.{pointwise}
 use Rattle.region_attr.specs.contracts.attr.RgbPartialEq.TheImpl as colours
 use Rattle.region_attr.specs.contracts.attr.RgbHash.TheImpl as hashed_colours
@@ -46,6 +47,14 @@ abbrev pub body_input : RegionBody → HashWrites
 body_input b =
     fed.u32 b.id ++ (fed.u32 b.air ++ (hashed_colours.hash_input-value.it b.rgb ++ (fed.slice node_input (mask_nodes b.tree) ++ fed.slice instance_input b.instances)))
 
--- what a hasher is fed: the view, the number of the tile, and the bodies
+-- all that is compared of a name: the view, the number of the tile, and the bodies
 abbrev pub name_input : TileName → HashWrites
 name_input key = hashed_views.hash_input-value.it key.view ++ (fed.u32 key.tile ++ fed.slice body_input key.bodies)
+
+-- the hash of all that is compared of a name
+unfoldable pub digest_of : TileName → ℕ
+digest_of name = folding.finish (fold folding.write folding.initial (name_input name))
+
+-- what a hasher is fed of a name: that hash
+abbrev pub digest_input : TileName → HashWrites
+digest_input name = fed.u64 (digest_of name)

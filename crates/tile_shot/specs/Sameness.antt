@@ -23,7 +23,7 @@ use Rattle.bool_weave.proofs.Held.{mask_back}
 use Rattle.shot_core.specs.Regions.{Instance, RegionBody}
 use Rattle.shot_core.specs.Prepared.{instance_of}
 use Rattle.tile_shot.specs.Named.{TileName}
-use Rattle.tile_shot.specs.Same.{same_instance, same_body, same_name, name_input}
+use Rattle.tile_shot.specs.Same.{same_instance, same_body, same_name, digest_input}
 
 same_rgb : (a b : Rgb) → a.r ≡ b.r → a.g ≡ b.g → a.b ≡ b.b → a ≡ b
 same_rgb a b p q r = λ i. record { r = p i; g = q i; b = r i }
@@ -163,8 +163,8 @@ name_equiv = record {
 pub name_partial : IsPartialEquivalence same_name
 name_partial = partial_equiv_from_equiv name_equiv
 
-pub input_same : (a b : TileName) → IsTrue (same_name a b) → name_input a ≡ name_input b
-input_same a b h = ap name_input ((name_decides a b).0 h)
+pub input_same : (a b : TileName) → IsTrue (same_name a b) → digest_input a ≡ digest_input b
+input_same a b h = ap digest_input ((name_decides a b).0 h)
 
 -- placed solids are compared as instances
 pub instances_are : (xs ys : List Placed) → pointwise placeds.eq-value.it xs ys ≡ pointwise same_instance (map instance_of xs) (map instance_of ys)

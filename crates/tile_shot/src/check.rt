@@ -2,6 +2,7 @@
 ghost use Rattle.std.specs.Prelude.{◌≡◌, ◌<◌, ◌≤◌, ◌+◌, ◌∷◌, [], IfOk, IfErr, OnErr, All, length, map};
 ghost use Rattle.lattice_core.specs.Views.{IsChecked};
 ghost use Rattle.lattice_core.specs.Tiles.{tiles_of, span_of, IsPartOf};
+ghost use Rattle.overlap_list.specs.declared.overlap.TheConstants.{MOST_PAIRS};
 ghost use Rattle.overlap_list.specs.Overlaps.{IsTooMany};
 ghost use Rattle.tile_shot.specs.Reports.{report_of, tile_report, spots_of, HaveRisingPlaces};
 ghost use Rattle.tile_shot.specs.Merges.{ArePairs, merged};
@@ -64,6 +65,7 @@ fn add_ray(
     requires row { row < view.now.h }
     requires pairs { ArePairs pairs.old.items }
     ensures added { IfOk result (λ _. pairs.new.items ≡ merged pairs.old.items (report_of scene.now view.now (record { column = column; row = row } ∷ []))) }
+    ensures most { IfOk result (λ _. length pairs.old.items ≤ MOST_PAIRS → length pairs.new.items ≤ MOST_PAIRS) }
     ensures fault { IfErr result (IsTooMany (length (merged pairs.old.items (report_of scene.now view.now (record { column = column; row = row } ∷ []))))) }
 {
     let runs = match check_ray(alloc, scene, &view.ray(column, row)) {
@@ -95,6 +97,7 @@ fn add_row(
     requires to_row { row < span.now.row + span.now.h }
     requires pairs { pairs.old.items ≡ report_of scene.now view.now (spots_above span.now row) }
     ensures added { IfOk result (λ _. pairs.new.items ≡ report_of scene.now view.now (spots_above span.now (row + 1))) }
+    ensures most { IfOk result (λ _. length pairs.old.items ≤ MOST_PAIRS → length pairs.new.items ≤ MOST_PAIRS) }
     ensures fault { IfErr result (IsTooMany (length (report_of scene.now view.now (spots_of span.now)))) }
 {
     for column in span.column..span.column + span.w {
@@ -111,6 +114,7 @@ fn check_rays(alloc: Global, scene: &Scene, view: &View, tile: u32) -> Result<Ve
     requires view { IsChecked view.now }
     requires tile { tile < tiles_of view.now }
     ensures report { IfOk result (λ v. v.items ≡ tile_report scene.now view.now tile) }
+    ensures most { IfOk result (λ v. length v.items ≤ MOST_PAIRS) }
     ensures fault { IfErr result (IsTooMany (length (tile_report scene.now view.now tile))) }
 {
     let span = view.span(tile);
@@ -135,6 +139,7 @@ pub fn check_tile(
     requires view { IsChecked view.now }
     requires tile { tile < tiles_of view.now }
     ensures report { IfOk result (λ v. v.items ≡ tile_report scene.now view.now tile) }
+    ensures most { IfOk result (λ v. length v.items ≤ MOST_PAIRS) }
     ensures fault { IfErr result (IsTooMany (length (tile_report scene.now view.now tile))) }
 {
     report_laws();

@@ -3,9 +3,10 @@ ghost use Rattle.std.specs.Prelude.{◌≡◌, fold, flat_map, map};
 ghost use Rattle.std.specs.Hash as fed;
 ghost use Rattle.std.specs.Arc.{arc_value};
 ghost use Rattle.shot_core.specs.Prepared.{instance_of};
-ghost use Rattle.tile_shot.specs.Same.{node_input, instance_input, body_input};
+ghost use Rattle.tile_shot.specs.Same.{node_input, instance_input, body_input, name_input};
 
 use bool_weave::MaskNode;
+use lattice_core::View;
 use shot_core::PrepRegion;
 use solid_set::Placed;
 use std::hash::{Hash, Hasher};
@@ -52,11 +53,25 @@ fn feed_body<H: Hasher>(body: &PrepRegion, state: &mut H)
 }
 
 /// Feeds how many bodies there are, and each in its turn.
-pub(crate) fn feed_bodies<H: Hasher>(bodies: &[Arc<PrepRegion>], state: &mut H)
+fn feed_bodies<H: Hasher>(bodies: &[Arc<PrepRegion>], state: &mut H)
     ensures { state.new ≡ fold H.write state.old (fed.slice body_input (map arc_value bodies.now)) }
 {
     state.write_usize(bodies.len());
     for body in bodies {
         feed_body(body, state);
     }
+}
+
+/// Feeds all that is compared of a name: a view, the number of a tile and bodies.
+pub(crate) fn feed_name<H: Hasher>(
+    view: &View,
+    tile: u32,
+    bodies: &[Arc<PrepRegion>],
+    state: &mut H,
+)
+    ensures { state.new ≡ fold H.write state.old (name_input (record { view = view.now; tile = tile; bodies = map arc_value bodies.now })) }
+{
+    view.hash(state);
+    state.write_u32(tile);
+    feed_bodies(bodies, state);
 }

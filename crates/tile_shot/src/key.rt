@@ -1,4 +1,4 @@
-use crate::feed::feed_bodies;
+use crate::feed::feed_name;
 use crate::same::same_bodies;
 use crate::small::are_small;
 use item_list::Items;
@@ -6,7 +6,7 @@ use lattice_core::View;
 use memory_core::Memory;
 use shot_core::{PrepRegion, Scene};
 use std::alloc::Global;
-use std::hash::{Hash, Hasher};
+use std::hash::{FoldHasher, Hash, Hasher};
 use std::marker::Model;
 use std::sync::Arc;
 
@@ -18,14 +18,17 @@ pub struct TileKey {
     view: View,
     tile: u32,
     bodies: Arc<Items<Arc<PrepRegion>>>,
+    /// The hash of these three. It is taken once, as each look-up of the name wants it.
+    digest: u64,
 }
 
 impl Model for TileKey {
-    ghost use Rattle.std.specs.Prelude.{◌<◌, map};
+    ghost use Rattle.std.specs.Prelude.{◌≡◌, ◌<◌, map};
     ghost use Rattle.std.specs.Arc.{arc_value};
     ghost use Rattle.lattice_core.specs.Views.{IsChecked};
     ghost use Rattle.lattice_core.specs.Tiles.{tiles_of};
     ghost use Rattle.tile_shot.specs.Named.{TileName, name_code};
+    ghost use Rattle.tile_shot.specs.Same.{digest_of};
 
     ghost Value = { TileName };
 
@@ -33,7 +36,7 @@ impl Model for TileKey {
 
     ghost view = { λ s. record { view = s.view; tile = s.tile; bodies = map arc_value (arc_value s.bodies) } };
 
-    ghost invariant = { λ s. IsChecked s.view × (s.tile < tiles_of s.view) };
+    ghost invariant = { λ s. IsChecked s.view × (s.tile < tiles_of s.view) × (s.digest ≡ digest_of (record { view = s.view; tile = s.tile; bodies = map arc_value (arc_value s.bodies) })) };
 }
 
 impl PartialEq for TileKey {
@@ -61,23 +64,32 @@ impl Eq for TileKey {
 }
 
 impl Hash for TileKey {
-    ghost use Rattle.tile_shot.specs.Same.{name_input};
+    ghost use Rattle.tile_shot.specs.Same.{digest_input};
     ghost use Rattle.tile_shot.specs.Sameness.{input_same};
 
-    ghost hash_input = { name_input };
+    ghost hash_input = { digest_input };
 
     ghost respects_eq = { input_same };
 
     fn hash<H: Hasher>(&self, state: &mut H) {
-        self.view.hash(state);
-        self.tile.hash(state);
-        feed_bodies(self.bodies(), state);
+        self.digest.hash(state);
     }
 }
 
 ghost use Rattle.std.specs.Prelude.{◌≡◌, IfOk, map};
 ghost use Rattle.std.specs.Arc.{arc_value};
 ghost use Rattle.tile_shot.specs.Pixels.{bodies_of};
+ghost use Rattle.tile_shot.specs.Same.{digest_of};
+
+/// The hash of a view, the number of a tile and bodies.
+#[tactic(auto, unfolding(crate::specs::Same::digest_of))]
+fn digest_of(view: &View, tile: u32, bodies: &[Arc<PrepRegion>]) -> u64
+    ensures { result ≡ digest_of (record { view = view.now; tile = tile; bodies = map arc_value bodies.now }) }
+{
+    let mut state = FoldHasher::default();
+    feed_name(view, tile, bodies, &mut state);
+    state.finish()
+}
 
 /// What the regions of a scene are, in their order.
 fn bodies_of(alloc: Global, scene: &Scene) -> Result<Items<Arc<PrepRegion>>, Memory>
@@ -114,11 +126,14 @@ impl TileKey {
         requires tile { tile < tiles_of view.now }
         ensures { IfOk result (λ key. key ≡ name_of scene.now view.now tile) }
     {
-        let bodies = Arc::new(alloc, bodies_of(alloc, scene)?)?;
+        let bodies = bodies_of(alloc, scene)?;
+        let digest = digest_of(view, tile, bodies.items());
+        let bodies = Arc::new(alloc, bodies)?;
         Ok(TileKey {
             view: *view,
             tile,
             bodies,
+            digest,
         })
     }
 
@@ -131,6 +146,7 @@ impl TileKey {
             view: self.view,
             tile: self.tile,
             bodies,
+            digest: self.digest,
         })
     }
 

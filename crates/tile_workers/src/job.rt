@@ -11,6 +11,9 @@ pub trait Job: Send + Sync {
     /// How many pieces there are.
     ghost pieces: { Self → ℕ };
 
+    /// The number of the tile that a piece is about.
+    ghost tiles: { Self → ℕ → ℕ };
+
     /// What the result of a piece is.
     ghost gives: { Self → ℕ → Self.Out → Type 0 };
 
@@ -20,7 +23,8 @@ pub trait Job: Send + Sync {
 
     /// The number of the tile that a piece is about, which the gate is told.
     fn tile(&self, i: u32) -> u32
-        requires { i < pieces self.now };
+        requires { i < pieces self.now }
+        ensures { result ≡ tiles self.now i };
 
     /// The result of a piece; `Memory` where there is none for it.
     fn run(&self, alloc: Global, i: u32) -> Result<Self::Out, Memory>

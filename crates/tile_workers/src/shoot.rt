@@ -1,4 +1,5 @@
 ghost use Rattle.std.specs.Prelude.{◌≡◌, ◌<◌, ◌≤◌, ◌^◌, ℕ, All, IfOk, slice_index_or, vec_len};
+ghost use Rattle.outside_core.specs.declared.gate.GateEvent.TheVariants.{TileBegin};
 ghost use Rattle.tile_workers.specs.Cells.{HaveOwn, IsOwn};
 ghost use Rattle.tile_workers.specs.Results.{AreResults};
 
@@ -10,6 +11,18 @@ use std::alloc::Global;
 use std::sync::atomic::{AtomicU64, Ordering};
 use std::thread;
 use std::thread::Threads;
+
+/// What the gate is told of a piece: that its tile begins.
+fn beginning<J: Job>(job: &J, session: u8, command: u32, i: u32) -> GateEvent
+    requires { i < J.pieces job.now }
+    ensures { result ≡ TileBegin session command (J.tiles job.now i) }
+{
+    GateEvent::TileBegin {
+        session,
+        command,
+        tile: job.tile(i),
+    }
+}
 
 /// Tells the gate of a piece, and runs it.
 fn shoot_piece<J: Job, G: Gate>(
@@ -23,12 +36,7 @@ fn shoot_piece<J: Job, G: Gate>(
     requires { i < J.pieces job.now }
     ensures { IfOk result (J.gives job.now i) }
 {
-    let tile = job.tile(i);
-    gate.at(GateEvent::TileBegin {
-        session,
-        command,
-        tile,
-    });
+    gate.at(beginning(job, session, command, i));
     job.run(alloc, i)
 }
 

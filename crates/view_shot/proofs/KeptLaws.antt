@@ -1,6 +1,6 @@
 -- The names of kept tiles, and what holds of them while tiles move and are put in.
-use Rattle.std.proofs.Common.{◌≡◌, ◌∙◌, ◌++◌, ◌||◌, ◌<◌, ◌≤◌, ◌+◌, ℕ, zero, suc, Bool, true, false, not, cond, nat_le, List, [], ◌∷◌, Result, Ok, Err, OnOk, OnErr, filter, map, take, refl, sym, ap, ap₂, subst, arith}
-use Rattle.std.specs.List.{AllByRecursion, list_any}
+use Rattle.std.proofs.Common.{◌≡◌, ◌∙◌, ◌++◌, ◌||◌, ℕ, zero, suc, Bool, true, false, not, cond, List, [], ◌∷◌, Result, Ok, Err, OnOk, OnErr, filter, take, refl, sym, ap, ap₂, subst}
+use Rattle.std.specs.List.{list_any}
 use Rattle.std.specs.Map.{keys_of}
 use Rattle.std.proofs.lemmas.List.{map-append}
 use Rattle.std.proofs.lemmas.List.Sorted.{IsPermutation-filter_both, list_any-IsPermutation}
@@ -9,7 +9,7 @@ use Rattle.tile_shot.specs.Named.{TileName, is_small_name}
 use Rattle.tile_shot.specs.Same.{same_name}
 use Rattle.tile_shot.specs.Sameness.{name_decides}
 use Rattle.view_shot.specs.Kept.{in_turn, is_kept, moved, put_in}
-use Rattle.view_shot.specs.Steps.{AreFresh, AreKept, AreSmall, if_kept, with_small}
+use Rattle.view_shot.specs.Steps.{AreFresh, AreKept, AreSmall, with_small}
 
 -- the keys of entries that move, and of those that are left
 module _ {K V : Type 0} where

@@ -1,12 +1,12 @@
 -- The picture that is made of the tiles of a view.
-use Rattle.std.proofs.Common.{◌≡◌, ◌<◌, ◌+◌, ◌*◌, ◌++◌, [], ◌∷◌, ◌∙◌, ℕ, List, length, refl, sym, ap, subst, take, drop, append-nil}
+use Rattle.std.proofs.Common.{◌≡◌, ◌*◌, ◌++◌, [], ◌∷◌, ◌∙◌, ℕ, List, length, refl, sym, ap, subst, take, drop, append-nil}
 use Rattle.std.proofs.Math.Seq.{take-length}
 use Rattle.lattice_core.specs.declared.view.View.{View}
 use Rattle.lattice_core.specs.Tiles.{tiles_of}
 use Rattle.shot_core.specs.Regions.{Region}
 use Rattle.ppm_write.specs.Pictures.{IsPictureOf, IsCopied, AreBlocks}
 use Rattle.tile_shot.specs.Pixels.{parts_of, view_bytes, tile_bytes, kept_bytes, IsInView, IsMadeOfKeptTiles}
-use Rattle.tile_shot.specs.Named.{TileName, NamedTile, IsShot}
+use Rattle.tile_shot.specs.Named.{TileName, NamedTile}
 use Rattle.view_shot.specs.Kept.{tile_name}
 use Rattle.view_shot.specs.Steps.{IsPut}
 use Rattle.view_shot.proofs.Led.{IsLed}

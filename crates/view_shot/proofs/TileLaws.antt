@@ -1,8 +1,8 @@
 -- The tiles of a picture by what was found of them: those that are reused, and those that are shot.
-use Rattle.std.proofs.Common.{◌≡◌, ◌∙◌, ◌++◌, ◌<◌, ◌≤◌, ◌+◌, ℕ, zero, suc, Bool, true, false, not, cond, List, [], ◌∷◌, Option, None, Some, is_some, Result, Ok, Err, IfOk, filter, map, take, drop, length, get_or, All, refl, sym, ap, ap₂, subst, arith}
+use Rattle.std.proofs.Common.{◌≡◌, ◌∙◌, ◌++◌, ◌<◌, ◌≤◌, ◌+◌, ℕ, zero, suc, Bool, true, false, not, cond, List, [], ◌∷◌, Option, None, Some, is_some, Result, Ok, Err, IfOk, filter, map, drop, length, get_or, All, refl, sym, ap, ap₂, subst, arith}
 use Rattle.std.proofs.lemmas.List.{drop_more, get_or-map, length-map}
 use Rattle.std.proofs.lemmas.List.FromFn.{length-map-range_with_len}
-use Rattle.std.specs.List.{AllByRecursion, list_any, range_with_len}
+use Rattle.std.specs.List.{range_with_len}
 use Rattle.std.specs.Option.{option_map}
 use Rattle.std.specs.Prelude.{slice_get}
 use Rattle.std.proofs.lemmas.List.Elements.{All-cons, All-nil}
@@ -10,7 +10,7 @@ use Rattle.tile_shot.specs.Same.{same_name}
 use Rattle.tile_shot.specs.Named.{TileName, NamedTile, is_small_name}
 use Rattle.lattice_core.specs.declared.view.View.{View}
 use Rattle.view_shot.specs.Kept.{after_picture, in_turn, is_kept, moved, put_in, reused, shot}
-use Rattle.view_shot.specs.Steps.{AreFresh, AreKept, CanPut, HasPut, IsPut, IsTileOf, found, if_kept, lacking, with_small}
+use Rattle.view_shot.specs.Steps.{AreFresh, AreKept, CanPut, HasPut, IsPut, found, if_kept, lacking, with_small}
 use Rattle.view_shot.proofs.KeptLaws.{all_fresh_moved, are_kept_moved, differ, fresh_with}
 
 -- those that were found are reused

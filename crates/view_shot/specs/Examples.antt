@@ -6,7 +6,7 @@ use Rattle.lattice_core.specs.declared.ray.Dir.TheVariants.{PlusX}
 use Rattle.lattice_core.specs.declared.view.View.{View}
 use Rattle.shot_core.specs.Regions.{RegionBody}
 use Rattle.tile_shot.specs.Named.{TileName}
-use Rattle.view_shot.specs.Kept.{after_picture, is_kept, moved, put_in, reused, shot}
+use Rattle.view_shot.specs.Kept.{after_picture, moved, put_in, reused, shot}
 
 -- a view of 64 by 16 pixels, which has four tiles
 abbrev four_tiles : View
@@ -50,6 +50,10 @@ after_the_whole_view = refl
 -- all are reused, and their order turns round
 after_the_view_again : after_picture whole_view whole_view ≡ grey 3 ∷ grey 2 ∷ grey 1 ∷ grey 0 ∷ []
 after_the_view_again = refl
+
+-- one more in a full list: the last one falls out
+a_full_list_is_cut : put_in (replicate 4096 (grey 9)) (grey 1) ≡ grey 1 ∷ replicate 4095 (grey 9)
+a_full_list_is_cut = refl
 
 -- regions of this many leaves together
 abbrev large : ℕ → TileName

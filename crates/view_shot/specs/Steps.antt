@@ -9,7 +9,7 @@ use Rattle.shot_core.specs.Regions.{Region}
 use Rattle.shot_core.specs.declared.pair.Pair.{Pair}
 use Rattle.ppm_write.specs.Pictures.{IsCopied}
 use Rattle.tile_shot.specs.Named.{TileName, NamedTile, IsShot, is_small_name}
-use Rattle.tile_shot.specs.Reports.{tile_report, view_report}
+use Rattle.tile_shot.specs.Reports.{tile_report}
 use Rattle.view_shot.specs.Kept.{is_kept, put_in}
 
 -- all kept tiles have small bodies

@@ -3,6 +3,7 @@ ghost use Rattle.std.specs.Prelude.{◌≡◌, ◌≤◌, ◌<◌, ◌+◌, IfOk
 ghost use Rattle.std.specs.Arc.{arc_value};
 ghost use Rattle.lattice_core.specs.Views.{IsChecked};
 ghost use Rattle.lattice_core.specs.Tiles.{tiles_of};
+ghost use Rattle.overlap_list.specs.declared.overlap.TheConstants.{MOST_PAIRS};
 ghost use Rattle.overlap_list.specs.Overlaps.{IsTooMany};
 ghost use Rattle.tile_shot.specs.Reports.{AddUp, is_in_tiles, report_of, spots_where, tile_report, view_report};
 ghost use Rattle.view_shot.specs.Steps.{IsTileReport};
@@ -51,6 +52,7 @@ fn add_tile(
     requires shot { IsTileReport scene.now view.now tile shot.now.pairs }
     requires before { report.old.items ≡ report_of scene.now view.now (spots_where view.now (is_in_tiles view.now tile)) }
     ensures added { IfOk result (λ _. AddUp report.old.items (tile_report scene.now view.now tile) report.new.items) }
+    ensures most { IfOk result (λ _. length report.old.items ≤ MOST_PAIRS → length report.new.items ≤ MOST_PAIRS) }
     ensures fault { IfErr result (IsTooMany (length (view_report scene.now view.now))) }
 {
     report_laws();
@@ -75,6 +77,7 @@ fn add_round<R: Threads + Sync, G: Gate + Sync>(
     requires within { first + count ≤ tiles_of view.now }
     requires before { report.old.items ≡ report_of (arc_value scene.now) view.now (spots_where view.now (is_in_tiles view.now first)) }
     ensures added { IfOk result (λ _. report.new.items ≡ report_of (arc_value scene.now) view.now (spots_where view.now (is_in_tiles view.now (first + count)))) }
+    ensures most { IfOk result (λ _. length report.old.items ≤ MOST_PAIRS → length report.new.items ≤ MOST_PAIRS) }
     ensures fault { IfErr result (IsTooMany (length (view_report (arc_value scene.now) view.now))) }
 {
     report_laws();
@@ -106,6 +109,7 @@ pub fn check_view<R: Threads + Sync, G: Gate + Sync>(
 ) -> Result<Vec<Pair>, CheckFault>
     requires { IsChecked view.now }
     ensures pairs { IfOk result (λ report. report.items ≡ view_report (arc_value scene.now) view.now) }
+    ensures most { IfOk result (λ v. length v.items ≤ MOST_PAIRS) }
     ensures fault { IfErr result (IsTooMany (length (view_report (arc_value scene.now) view.now))) }
 {
     report_laws();

@@ -28,12 +28,14 @@ pub struct TileJob {
 }
 
 impl Job for TileJob {
-    ghost use Rattle.std.specs.Prelude.{vec_len};
+    ghost use Rattle.std.specs.Prelude.{slice_index_or, vec_len};
     ghost use Rattle.view_shot.specs.Jobs.{IsShotOf};
 
     type Out = SharedTile;
 
     ghost pieces = { λ job. vec_len job.tiles };
+
+    ghost tiles = { λ job i. slice_index_or job.tiles.items i 0 };
 
     ghost gives = { IsShotOf };
 
@@ -89,11 +91,14 @@ fn check_kept(alloc: Global, scene: &Scene, view: &View, tile: u32) -> Result<Ti
 }
 
 impl Job for CheckJob {
+    ghost use Rattle.std.specs.Prelude.{◌+◌};
     ghost use Rattle.view_shot.specs.Jobs.{IsCheckOf};
 
     type Out = TilePairs;
 
     ghost pieces = { λ job. job.count };
+
+    ghost tiles = { λ job i. job.first + i };
 
     ghost gives = { IsCheckOf };
 

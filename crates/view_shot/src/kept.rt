@@ -1,5 +1,5 @@
 //! The tiles that a session keeps.
-ghost use Rattle.std.specs.Prelude.{◌≡◌, [], IfOk, OnOk, true, false};
+ghost use Rattle.std.specs.Prelude.{◌≡◌, ◌↔◌, [], IfOk, IsTrue, OnOk, true, false};
 ghost use Rattle.view_shot.specs.Kept.{is_kept, moved};
 ghost use Rattle.view_shot.specs.Steps.{with_small};
 
@@ -98,7 +98,7 @@ impl KeptTiles {
 
     /// Whether nothing is kept.
     pub(crate) fn is_empty(&self) -> bool
-        ensures empty { result ≡ true → self.now ≡ [] }
+        ensures empty { IsTrue result ↔ (self.now ≡ []) }
         ensures small { AreSmall self.now }
     {
         self.cache.len() == 0

@@ -1,5 +1,6 @@
-use Rattle.std.proofs.Common.{rules, ◌≡◌, ◌∙◌, ◌∷◌, [], sym, ap, subst, length, arith}
+use Rattle.std.proofs.Common.{rules, ◌≡◌, ◌≤◌, ◌∙◌, ◌∷◌, [], sym, ap, subst, length, arith}
 use Rattle.std.proofs.lemmas.Result.{IfOk-weaker, IfErr-weaker}
+use Rattle.overlap_list.specs.declared.overlap.TheConstants.{MOST_PAIRS}
 use Rattle.overlap_list.specs.Overlaps.{IsTooMany}
 use Rattle.tile_shot.specs.Reports.{report_of}
 use Rattle.tile_shot.specs.Merges.{ArePairs, merged}
@@ -35,3 +36,6 @@ returns-clause-fault c =
     let e : c.deref-2.result.now ≡ report_of c.args.scene.now c.args.view.now (spot_at c.args.column c.args.row ∷ []) = c.deref-2.ensures.value
     ∙ report_from c.args.scene.now c.args.view.now c.args.column c.args.row c.ray.result c.requires.places c.ray.ensures.value c.deref.result.now c.in-Ok-pairs_on_ray.more.items (c.deref.ensures.value ∙ c.in-Ok.ensures.runs) c.in-Ok-pairs_on_ray.ensures in
     IfErr-weaker c.merge_pairs.result (IsTooMany (length (merged c.args.pairs.now.items c.deref-2.result.now))) _ (λ fault h. subst (λ l. IsTooMany (length (merged c.args.pairs.now.items l)) fault) e h) c.merge_pairs.ensures.fault
+
+pub returns-clause-most : goal.returns-clause-most
+returns-clause-most c = IfOk-weaker c.merge_pairs.result (λ _. length c.merge_pairs.new.into.items ≤ MOST_PAIRS) _ (λ v h already. h) c.merge_pairs.ensures.most

@@ -18,6 +18,9 @@ loop-i-preserved g c =
     let rising : HaveRisingPlaces (arc_value c.args.scene.now) = subst HaveRisingPlaces c.deref.ensures c.regions-regions.ensures.sound.rising in
     let lt : c.args.first + c.loop-i.i < tiles_of c.args.view.now = omega (arith, c.requires.within, c.loop-i-test.true) in
     let next : (c.args.first + c.loop-i.i) + 1 ≡ c.args.first + (c.loop-i.i + 1) = omega arith in
-    report_more (arc_value c.args.scene.now) c.args.view.now (c.args.first + c.loop-i.i) rising lt c.loop-i.report.items c.add_tile.new.report.items c.report_laws.ensures.follow c.report_laws.ensures.tiles c.loop-i.invariant
-    (subst (λ (s : List Region). AddUp c.loop-i.report.items (tile_report s c.args.view.now (c.args.first + c.loop-i.i)) c.add_tile.new.report.items) c.deref-in-loop-i.ensures c.in_ok-add_tile.ensures.added)
-    ∙ ap (first_report (arc_value c.args.scene.now) c.args.view.now) next
+    record {
+      report = report_more (arc_value c.args.scene.now) c.args.view.now (c.args.first + c.loop-i.i) rising lt c.loop-i.report.items c.add_tile.new.report.items c.report_laws.ensures.follow c.report_laws.ensures.tiles c.loop-i.invariant.report
+          (subst (λ (s : List Region). AddUp c.loop-i.report.items (tile_report s c.args.view.now (c.args.first + c.loop-i.i)) c.add_tile.new.report.items) c.deref-in-loop-i.ensures c.in_ok-add_tile.ensures.added)
+          ∙ ap (first_report (arc_value c.args.scene.now) c.args.view.now) next;
+      most = λ h. c.in_ok-add_tile.ensures.most (c.loop-i.invariant.most h);
+    }

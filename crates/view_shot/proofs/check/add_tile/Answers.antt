@@ -1,5 +1,6 @@
-use Rattle.std.proofs.Common.{◌≡◌, ◌≤◌, ◌∙◌, List, Option, IfErr, length, refl, subst, arith}
+use Rattle.std.proofs.Common.{◌≡◌, ◌≤◌, ◌∙◌, List, Option, length, refl, subst, arith}
 use Rattle.std.proofs.lemmas.Result.{IfOk-weaker, IfErr-weaker}
+use Rattle.overlap_list.specs.declared.overlap.TheConstants.{MOST_PAIRS}
 use Rattle.shot_core.specs.declared.pair.Pair.{Pair}
 use Rattle.tile_shot.specs.Reports.{tile_report, view_report, AddUp}
 use Rattle.view_shot.specs.Steps.{IsTileReport}
@@ -36,3 +37,6 @@ returns-in-None-clause-fault c =
     let fewer : length (tile_report c.args.scene.now c.args.view.now c.args.tile) ≤ length (view_report c.args.scene.now c.args.view.now) =
     tile_fewer c.args.scene.now c.args.view.now c.args.tile c.regions-regions.ensures.sound.rising c.requires.tile (tile_report c.args.scene.now c.args.view.now c.args.tile) c.report_laws.ensures.fewer c.report_laws.ensures.tiles refl in
     omega (arith, many, fewer)
+
+pub returns-in-Some-clause-most : goal.returns-in-Some-clause-most
+returns-in-Some-clause-most c = IfOk-weaker c.merge_pairs.result (λ _. length c.merge_pairs.new.into.items ≤ MOST_PAIRS) _ (λ v h already. h) c.merge_pairs.ensures.most

@@ -1,11 +1,11 @@
-use Rattle.std.proofs.Common.{◌≡◌, ◌∙◌, ap, arith}
+use Rattle.std.proofs.Common.{rules, ◌≡◌, ◌∙◌, ap, arith}
 use Rattle.std.specs.Arc.{arc_value}
 use Rattle.lattice_core.specs.Tiles.{tiles_of}
 use Rattle.view_shot.proofs.CheckLaws.{first_report, no_report}
 use Rattle.view_shot.proofs.check.check_view.Goals as goal
 
 pub loop-first-init : goal.loop-first-init
-loop-first-init g c = record { within = omega arith; report = c.new-report.ensures.items ∙ no_report (arc_value c.args.scene.now) c.args.view.now }
+loop-first-init g c = record { within = omega arith; report = c.new-report.ensures.items ∙ no_report (arc_value c.args.scene.now) c.args.view.now; most = search rules }
 
 pub returns-clause-pairs : goal.returns-clause-pairs
 returns-clause-pairs g c =

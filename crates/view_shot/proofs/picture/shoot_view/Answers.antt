@@ -1,18 +1,17 @@
-use Rattle.std.proofs.Common.{◌≡◌, ◌<◌, ◌+◌, ◌∷◌, [], ◌∙◌, ℕ, List, Option, drop, filter, length, map, ap, refl, sym, subst, arith, rules}
+use Rattle.std.proofs.Common.{◌≡◌, ◌+◌, ◌∷◌, [], ◌∙◌, ℕ, List, Option, drop, filter, length, map, ap, refl, sym, subst, arith}
 use Rattle.std.specs.Arc.{arc_value}
-use Rattle.std.specs.List.{range_with_len}
 use Rattle.std.specs.Option.{option_map}
 use Rattle.std.proofs.lemmas.List.{drop_all, length-map}
 use Rattle.std.proofs.lemmas.List.FromFn.{length-map-range_with_len}
 use Rattle.lattice_core.specs.Tiles.{tiles_of}
 use Rattle.ppm_write.specs.Pictures.{IsPictureOf}
-use Rattle.shot_core.specs.Regions.{Region, HaveInstances, HavePlacedSolids}
+use Rattle.shot_core.specs.Regions.{HaveInstances, HavePlacedSolids}
 use Rattle.tile_shot.specs.Named.{TileName, NamedTile, is_small_name}
 use Rattle.view_shot.specs.Kept.{in_turn, moved, put_in, tile_name, tile_names}
-use Rattle.view_shot.specs.Steps.{AreKept, CanPut, HasPut, found, if_kept, lacking, names_of}
+use Rattle.view_shot.specs.Steps.{AreKept, CanPut, HasPut, found, if_kept, lacking}
 use Rattle.view_shot.proofs.Led.{led_more, led_none}
 use Rattle.view_shot.proofs.PictureLaws.{IsLedPicture, IsTileCopied, led_whole, put_bytes}
-use Rattle.view_shot.proofs.TileLaws.{IsLeft, HasGone, can_put, found_kept, gone, kept_after, key_of, left_first, left_last, slot_at, slots_long}
+use Rattle.view_shot.proofs.TileLaws.{IsLeft, can_put, found_kept, gone, kept_after, key_of, left_first, left_last, slot_at, slots_long}
 use Rattle.view_shot.proofs.picture.shoot_view.Goals as goal
 
 pub reuse_all-requires : goal.reuse_all-requires

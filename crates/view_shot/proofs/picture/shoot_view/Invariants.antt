@@ -1,9 +1,9 @@
-use Rattle.std.proofs.Common.{◌≡◌, map, filter, length}
+use Rattle.std.proofs.Common.{map, filter}
 use Rattle.std.specs.Arc.{arc_value}
 use Rattle.ppm_write.specs.Pictures.{IsPictureOf}
 use Rattle.tile_shot.specs.Named.{is_small_name}
 use Rattle.view_shot.specs.Kept.{in_turn, moved, put_in, tile_name}
-use Rattle.view_shot.specs.Steps.{found, lacking, names_of}
+use Rattle.view_shot.specs.Steps.{found, lacking}
 use Rattle.view_shot.proofs.TileLaws.{IsLeft}
 use Rattle.view_shot.proofs.PictureLaws.{IsLedPicture}
 use Rattle.view_shot.proofs.picture.shoot_view.Given as goal

@@ -1,5 +1,4 @@
-use Rattle.std.proofs.Common.{◌≡◌, ◌∙◌, Option, None, Some, false, cond, ap, sym}
-use Rattle.shot_core.specs.Regions.{Region}
+use Rattle.std.proofs.Common.{◌≡◌, ◌∙◌, None, Some, false, cond, ap, sym}
 use Rattle.tile_shot.specs.Named.{TileName, are_small}
 use Rattle.tile_shot.specs.Pixels.{bodies_of}
 use Rattle.view_shot.specs.Kept.{tile_name}

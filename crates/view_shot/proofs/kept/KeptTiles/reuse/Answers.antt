@@ -1,7 +1,7 @@
-use Rattle.std.proofs.Common.{◌≡◌, ◌∙◌, ap, sym, subst}
+use Rattle.std.proofs.Common.{◌∙◌, ap, sym, subst}
 use Rattle.std.proofs.lemmas.Result.{IfOk-weaker}
 use Rattle.std.specs.Map.{keys_of}
-use Rattle.tile_shot.specs.Named.{TileName, NamedTile}
+use Rattle.tile_shot.specs.Named.{NamedTile}
 use Rattle.tile_shot.specs.Same.{same_name}
 use Rattle.tile_shot.specs.Sameness.{name_decides}
 use Rattle.view_shot.specs.Kept.{moved}

@@ -38,9 +38,10 @@ WORKERS = ("1", "1", "3", "3", "16", "16", "2", "4", "5", "8", "15", "007", "000
 MOST_USED = 2**26  # bytes of the bodies and files of one session
 
 
-def call(rng):
-    """A call. A file of the folder may be loaded, and then the script is about what is in it."""
-    if rng.random() < 0.01:
+def call(rng, kind=None):
+    """A call. A file of the folder may be loaded, and then the script is about what is in it. Where a kind of scripts is named,
+    the script is of that kind."""
+    if rng.random() < 0.01 and not kind:
         return filled(rng)
     file = rng.choice(LOADED)
     ways = (6, ()), (5, ("--load", "NAME")), (5, ("--load=NAME",)), (1, rng.choice(BAD_WORDS))
@@ -53,7 +54,7 @@ def call(rng):
             know(maker, directory)
     if rng.random() < 0.05:
         files = rng.choice(({}, dict(files, **{rng.choice(OTHERS): b"\x00put\n"})))
-    lines = script(maker, (file, *OTHERS, "a"))
+    lines = script(maker, (file, *OTHERS, "a"), kind)
     text = mutated(rng, lines) if rng.random() < 0.5 else "".join(line + "\n" for line in lines).encode()
     merge, broken = (rng.getrandbits(32) if rng.random() < share else None for share in (0.5, 0.3))
     return Call(with_workers(rng, words), files, text, merge, broken)

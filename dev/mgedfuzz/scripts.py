@@ -8,11 +8,11 @@ from .texts import dressed, great_tree
 ODD_FILES = ("{a}", "{ a }", "{a b}", "a b", "", "{}", "a/b", "./a", "-a", ".a", "n" * 64, "n" * 65, "a;", "a\u00e9")
 
 
-def script(maker, files):
+def script(maker, files, only=None):
     """The lines of a script, which may save to these files. In some lines blanks and spellings are others, and most scripts
-    have several sessions."""
-    rng, kinds = maker.rng, (rays_at_solids, rays_at_regions, rays_at_regions, turned, turned, edits, edits, texts, texts, chain, crowd, great, races, races, races, pictures, pictures, pictures)
-    kind = rng.choice(kinds)
+    have several sessions. Where a kind is named, the script is of that kind."""
+    rng = maker.rng
+    kind = rng.choice([one for one in KINDS if only in (None, one.__name__)])
     lines = kind(maker)
     for _ in range(rng.choice((0, 0, 1, 2, 3, 6))):
         lines.insert(rng.randint(0, len(lines)), f"save {rng.choice(ODD_FILES if rng.random() < 0.15 else files)}")
@@ -141,3 +141,7 @@ def crowd(maker):
         below = rng.choice((below, f"m{i}", f"m{i}"))
     lines += [maker.edit() for _ in range(rng.randint(0, 4))]
     return lines
+
+
+# The kinds of scripts, each as often as it is to come.
+KINDS = (rays_at_solids, rays_at_regions, rays_at_regions, turned, turned, edits, edits, texts, texts, chain, crowd, great, races, races, races, pictures, pictures, pictures)

@@ -15,9 +15,11 @@ use Rattle.lattice_core.specs.declared.boxes.Box3.TheVariants.{Empty, Span}
 use Rattle.box_index.specs.declared.cut.Axis.{Axis}
 use Rattle.box_index.specs.declared.cut.Axis.TheVariants.{X, Y, Z}
 use Rattle.box_index.specs.declared.cut.Cut.{Cut}
+use Rattle.box_index.specs.declared.cut.Half.{Half}
+use Rattle.box_index.specs.declared.cut.Half.TheVariants.{AllPoints, Below, Above}
 use Rattle.box_index.specs.Reaches.{are_ordered, do_overlap, do_touch}
-use Rattle.box_index.specs.Cuts.{extent_on, of_low, of_high, is_side_below, is_side_above, is_open_or_below, is_open_or_above, is_below, is_above, starts_below, ends_above}
-use Rattle.box_index.specs.Nodes.{box_at, is_touched}
+use Rattle.box_index.specs.Cuts.{extent_on, of_low, of_high, is_side_below, is_side_above, is_open_or_below, is_open_or_above, is_below, is_above, does_reach}
+use Rattle.box_index.specs.Nodes.{box_at, is_touched, AreInside}
 use Rattle.box_index.proofs.Members.{none_pass}
 
 is_less : (x y : ℤ) (r : Ordering) → r ≡ int_cmp x y → IsTrue (is_lt r) → x <ℤ y
@@ -83,19 +85,12 @@ missed_high (Span x y z) (Span u v w) X at h g = and_left (do_overlap x u) (do_o
 missed_high (Span x y z) (Span u v w) Y at h g = and_right (do_overlap x u) (do_overlap y v && do_overlap z w) (and_left (do_overlap y v) (do_overlap z w) (apart_high at y v h g))
 missed_high (Span x y z) (Span u v w) Z at h g = and_right (do_overlap x u) (do_overlap y v && do_overlap z w) (and_right (do_overlap y v) (do_overlap z w) (apart_high at z w h g))
 
--- a part that is passed over has nothing that the window touches
-passed_over : (t : ℕ → Bool) (is_reached : Bool) (places : List ℕ) → (is_reached ≡ false → All (λ i. t i ≡ false) places) → cond is_reached (filter t places) [] ≡ filter t places
-passed_over t true places h = refl
-passed_over t false places h = sym (none_pass t places (h refl))
-
-pub low_passed : (boxes : List Box3) (window : Box3) (cut : Cut) (places : List ℕ) → All (λ i. IsTrue (is_below (box_at boxes i) cut)) places
-    → cond (starts_below window cut) (filter (is_touched boxes window) places) [] ≡ filter (is_touched boxes window) places
-low_passed boxes window cut places all =
-    passed_over (is_touched boxes window) (starts_below window cut) places
-    (λ g. All-weaker (λ i. IsTrue (is_below (box_at boxes i) cut)) (λ i. is_touched boxes window i ≡ false) (λ i h. missed_low (box_at boxes i) window cut.axis cut.at h g) places all)
-
-pub high_passed : (boxes : List Box3) (window : Box3) (cut : Cut) (places : List ℕ) → All (λ i. IsTrue (is_above (box_at boxes i) cut)) places
-    → cond (ends_above window cut) (filter (is_touched boxes window) places) [] ≡ filter (is_touched boxes window) places
-high_passed boxes window cut places all =
-    passed_over (is_touched boxes window) (ends_above window cut) places
-    (λ g. All-weaker (λ i. IsTrue (is_above (box_at boxes i) cut)) (λ i. is_touched boxes window i ≡ false) (λ i h. missed_high (box_at boxes i) window cut.axis cut.at h g) places all)
+-- a window that does not reach a half of space touches nothing in it
+pub none_reached : (boxes : List Box3) (window : Box3) (half : Half) (places : List ℕ) → AreInside boxes half places → does_reach window half ≡ false → filter (is_touched boxes window) places ≡ []
+none_reached boxes window AllPoints places all g = absurd (true≢false g)
+none_reached boxes window (Below cut) places all g =
+    none_pass (is_touched boxes window) places
+    (All-weaker (λ i. IsTrue (is_below (box_at boxes i) cut)) (λ i. is_touched boxes window i ≡ false) (λ i h. missed_low (box_at boxes i) window cut.axis cut.at h g) places all)
+none_reached boxes window (Above cut) places all g =
+    none_pass (is_touched boxes window) places
+    (All-weaker (λ i. IsTrue (is_above (box_at boxes i) cut)) (λ i. is_touched boxes window i ≡ false) (λ i h. missed_high (box_at boxes i) window cut.axis cut.at h g) places all)

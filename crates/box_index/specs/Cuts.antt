@@ -9,6 +9,8 @@ use Rattle.lattice_core.specs.declared.boxes.Box3.TheVariants.{Empty, Span}
 use Rattle.box_index.specs.declared.cut.Axis.{Axis}
 use Rattle.box_index.specs.declared.cut.Axis.TheVariants.{X, Y, Z}
 use Rattle.box_index.specs.declared.cut.Cut.{Cut}
+use Rattle.box_index.specs.declared.cut.Half.{Half}
+use Rattle.box_index.specs.declared.cut.Half.TheVariants.{AllPoints, Below, Above}
 
 -- the extent of a box along an axis
 abbrev pub extent_on : Box3 → Axis → Option Extent
@@ -56,3 +58,15 @@ starts_below b cut = of_low (is_open_or_below cut.at) (extent_on b cut.axis)
 
 abbrev pub ends_above : Box3 → Cut → Bool
 ends_above b cut = of_high (is_open_or_above cut.at) (extent_on b cut.axis)
+
+-- a box lies in a half of space, without touching the cut
+abbrev pub is_inside : Box3 → Half → Bool
+is_inside b AllPoints = true
+is_inside b (Below cut) = is_below b cut
+is_inside b (Above cut) = is_above b cut
+
+-- a box has points there
+abbrev pub does_reach : Box3 → Half → Bool
+does_reach b AllPoints = true
+does_reach b (Below cut) = starts_below b cut
+does_reach b (Above cut) = ends_above b cut

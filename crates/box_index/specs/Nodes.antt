@@ -1,15 +1,16 @@
 -- What stands in a tree of cuts.
-use Rattle.std.specs.Prelude.{ℕ, List, ◌++◌, Bool, ◌&&◌, not, IsTrue, All, slice_index_or}
+use Rattle.std.specs.Prelude.{◌≡◌, ◌≤◌, ℕ, List, [], ◌∷◌, ◌++◌, length, take, filter, Bool, ◌&&◌, not, IsTrue, All, slice_index_or}
 use Rattle.std.specs.List.Sorted.{IsPermutation}
 use Rattle.lattice_core.specs.declared.boxes.Box3.{Box3}
 use Rattle.lattice_core.specs.declared.boxes.Box3.TheVariants.{Empty}
 use Rattle.box_index.specs.declared.cut.Cut.{Cut}
 use Rattle.box_index.specs.declared.grow.Part.{Part}
 use Rattle.box_index.specs.declared.grow.Part.TheVariants.{Here, Low, High}
-use Rattle.box_index.specs.declared.node.Node.{Node, Leaf, Fork'}
+use Rattle.box_index.specs.declared.cut.Half.{Half}
+use Rattle.box_index.specs.declared.node.Node.{Node}
 use Rattle.box_index.specs.Places.{places_where}
 use Rattle.box_index.specs.Reaches.{has_points, do_touch}
-use Rattle.box_index.specs.Cuts.{is_below, is_above}
+use Rattle.box_index.specs.Cuts.{is_below, is_above, is_inside}
 
 -- the box at a place, or the empty one
 abbrev pub box_at : List Box3 → ℕ → Box3
@@ -28,22 +29,39 @@ lies b cut High = not (is_below b cut) && is_above b cut
 abbrev pub has_part : List Box3 → Cut → Part → ℕ → Bool
 has_part boxes cut part i = lies (box_at boxes i) cut part
 
--- the places that stand at a node and below it
-abbrev pub content : Node → List ℕ
-content (Leaf here) = here.items
-content (Fork' here cut p low q high) = here.items ++ (content low ++ content high)
+-- the places at all nodes
+abbrev pub content : List Node → List ℕ
+content [] = []
+content (node ∷ nodes) = node.here.items ++ content nodes
 
--- below each fork the boxes lie on their side of its cut
-abbrev pub IsSound : List Box3 → Node → Type 0
-IsSound boxes (Leaf here) = Unit {0}
-IsSound boxes (Fork' here cut p low q high) =
-    All (λ i. IsTrue (is_below (box_at boxes i) cut)) (content low) × All (λ i. IsTrue (is_above (box_at boxes i) cut)) (content high) × IsSound boxes low × IsSound boxes high
+-- the boxes at the places lie in a half of space
+abbrev pub AreInside : List Box3 → Half → List ℕ → Type 0
+AreInside boxes half places = All (λ i. IsTrue (is_inside (box_at boxes i) half)) places
 
--- a tree has the places, each as often as it is given
-pub record IsNodeOf (boxes : List Box3) (places : List ℕ) (node : Node) : Type 0 where
-  pub sound : IsSound boxes node
-  pub has_all : IsPermutation places (content node)
+-- the nodes below each node are there, and the boxes at it and below it lie in its half of space
+abbrev pub AreSound : List Box3 → List Node → Type 0
+AreSound boxes [] = Unit {0}
+AreSound boxes (node ∷ nodes) = (node.below ≤ length nodes) × AreInside boxes node.half (node.here.items ++ content (take node.below nodes)) × AreSound boxes nodes
 
--- a tree has the places of the boxes with points
-abbrev pub IsIndexOf : List Box3 → Node → Type 0
-IsIndexOf boxes root = IsNodeOf boxes (places_where has_points boxes) root
+-- a node with those below it
+pub record IsForked (half : Half) (here : List ℕ) (below nodes : List Node) : Type 0 where
+  pub root : Node
+  pub is : nodes ≡ root ∷ below
+  pub in_half : root.half ≡ half
+  pub places : root.here.items ≡ here
+  pub count : root.below ≡ length below
+
+-- nodes have the places, each as often as it is given
+pub record AreNodesOf (boxes : List Box3) (places : List ℕ) (nodes : List Node) : Type 0 where
+  pub sound : AreSound boxes nodes
+  pub has_all : IsPermutation places (content nodes)
+
+-- nodes have the places of the boxes with points
+abbrev pub IsIndexOf : List Box3 → List Node → Type 0
+IsIndexOf boxes nodes = AreNodesOf boxes (places_where has_points boxes) nodes
+
+-- a node was asked: what was found with what the nodes that are left have is what was found before with what all had
+pub record IsLeft (boxes : List Box3) (window : Box3) (node : Node) (behind rest : List Node) (old new : List ℕ) : Type 0 where
+  pub sound : AreSound boxes rest
+  pub fewer : length rest ≤ length behind
+  pub found : new ++ filter (is_touched boxes window) (content rest) ≡ old ++ filter (is_touched boxes window) (content (node ∷ behind))

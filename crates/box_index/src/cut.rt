@@ -1,7 +1,7 @@
 //! Cuts of space across an axis.
 
 ghost use Rattle.std.specs.Prelude.{◌≡◌};
-ghost use Rattle.box_index.specs.Cuts.{extent_on, is_below, is_above, starts_below, ends_above};
+ghost use Rattle.box_index.specs.Cuts.{extent_on, is_below, is_above, starts_below, ends_above, does_reach};
 
 use lattice_core::{Box3, Extent, Side};
 
@@ -17,6 +17,14 @@ pub(crate) enum Axis {
 pub(crate) struct Cut {
     pub axis: Axis,
     pub at: i64,
+}
+
+/// The points of all space, or those on one side of a cut.
+#[derive(Clone, Copy, Debug, PartialEq, Eq)]
+pub(crate) enum Half {
+    AllPoints,
+    Below(Cut),
+    Above(Cut),
 }
 
 /// The extent of a box along an axis.
@@ -59,8 +67,19 @@ pub(crate) fn is_above(b: &Box3, cut: Cut) -> bool
     }
 }
 
+/// Whether a box has points in a half of space.
+pub(crate) fn does_reach(b: &Box3, half: Half) -> bool
+    ensures { result ≡ does_reach b.now half }
+{
+    match half {
+        Half::AllPoints => true,
+        Half::Below(cut) => starts_below(b, cut),
+        Half::Above(cut) => ends_above(b, cut),
+    }
+}
+
 /// Whether a box begins below a cut.
-pub(crate) fn starts_below(b: &Box3, cut: Cut) -> bool
+fn starts_below(b: &Box3, cut: Cut) -> bool
     ensures { result ≡ starts_below b.now cut }
 {
     match extent_on(b, cut.axis) {
@@ -73,7 +92,7 @@ pub(crate) fn starts_below(b: &Box3, cut: Cut) -> bool
 }
 
 /// Whether a box ends above a cut.
-pub(crate) fn ends_above(b: &Box3, cut: Cut) -> bool
+fn ends_above(b: &Box3, cut: Cut) -> bool
     ensures { result ≡ ends_above b.now cut }
 {
     match extent_on(b, cut.axis) {

@@ -1,11 +1,11 @@
 //! The tree of cuts of some boxes.
 
-ghost use Rattle.std.specs.Prelude.{◌≡◌, ◌<◌, ◌^◌, filter, length, IfOk};
-ghost use Rattle.box_index.specs.Nodes.{has_part, IsNodeOf};
+ghost use Rattle.std.specs.Prelude.{◌≡◌, ◌<◌, ◌^◌, ◌++◌, filter, length, IfOk, IfSome};
+ghost use Rattle.box_index.specs.Nodes.{has_part, IsForked, AreInside, AreNodesOf};
 ghost use Rattle.box_index.specs.Places.{places_where};
 ghost use Rattle.box_index.specs.Reaches.{has_points};
 
-use crate::cut::{Cut, is_above, is_below};
+use crate::cut::{Cut, Half, is_above, is_below};
 use crate::node::Node;
 use crate::reach::has_points;
 use crate::spread::cut_for;
@@ -60,35 +60,67 @@ fn part_of(
     Ok(chosen)
 }
 
-/// The tree of the boxes at some places, with so many cuts at most from its root to a leaf.
+/// The nodes of one list, and behind them those of another.
+fn joined(mut nodes: Vec<Node>, more: Vec<Node>) -> Result<Vec<Node>, Memory>
+    ensures { IfOk result (λ v. v.items ≡ nodes.items ++ more.items) }
+{
+    for node in more {
+        nodes.push(node)?;
+    }
+    Ok(nodes)
+}
+
+/// A node with those below it.
+fn forked(
+    alloc: Global,
+    half: Half,
+    here: Vec<u32>,
+    below: Vec<Node>,
+) -> Result<Vec<Node>, Memory>
+    ensures { IfOk result (λ v. IsForked half here.items below.items v.items) }
+{
+    let mut nodes = Vec::new(alloc);
+    nodes.push(Node {
+        half,
+        here,
+        below: below.len(),
+    })?;
+    joined(nodes, below)
+}
+
+/// The cut for the boxes at some places, where one is wanted.
+fn wanted_cut(boxes: &[Box3], places: &[u32], cuts: u32) -> Option<Cut>
+    ensures { IfSome result (λ _. 0 < cuts) }
+{
+    if cuts == 0 || places.len() <= MOST_HERE {
+        return None;
+    }
+    cut_for(boxes, places)
+}
+
+/// The tree of the boxes at some places, which lie in a half of space, with so many cuts at most from its root to a leaf.
 pub(crate) fn grow(
     alloc: Global,
     boxes: &[Box3],
+    half: Half,
     places: Vec<u32>,
     cuts: u32,
-) -> Result<Node, Memory>
-    ensures { IfOk result (λ node. IsNodeOf boxes.now places.items node) }
+) -> Result<Vec<Node>, Memory>
+    requires inside { AreInside boxes.now half places.items }
+    ensures { IfOk result (λ nodes. AreNodesOf boxes.now places.items nodes.items) }
 {
-    if cuts == 0 || places.len() <= MOST_HERE {
-        return Ok(Node::Leaf { here: places });
-    }
-    let Some(cut) = cut_for(boxes, &places) else {
-        return Ok(Node::Leaf { here: places });
+    let Some(cut) = wanted_cut(boxes, &places, cuts) else {
+        return forked(alloc, half, places, Vec::new(alloc));
     };
     let here = part_of(alloc, boxes, &places, cut, Part::Here)?;
     if here.len() == places.len() {
-        return Ok(Node::Leaf { here: places });
+        return forked(alloc, half, places, Vec::new(alloc));
     }
     let low = part_of(alloc, boxes, &places, cut, Part::Low)?;
     let high = part_of(alloc, boxes, &places, cut, Part::High)?;
-    let low = grow(alloc, boxes, low, cuts - 1)?;
-    let high = grow(alloc, boxes, high, cuts - 1)?;
-    Ok(Node::Fork {
-        here,
-        cut,
-        low: Box::new(alloc, low)?,
-        high: Box::new(alloc, high)?,
-    })
+    let low = grow(alloc, boxes, Half::Below(cut), low, cuts - 1)?;
+    let high = grow(alloc, boxes, Half::Above(cut), high, cuts - 1)?;
+    forked(alloc, half, here, joined(low, high)?)
 }
 
 /// The places of the boxes that have points.

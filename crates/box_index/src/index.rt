@@ -10,8 +10,9 @@ ghost use Rattle.lattice_core.specs.Tiles.{tiles_of, MeetsTile};
 ghost use Rattle.box_index.specs.Reaches.{has_points, do_touch};
 ghost use Rattle.box_index.specs.Places.{ArePlacesOf};
 
+use crate::cut::Half;
 use crate::grow::{MOST_CUTS, filled_places, grow};
-use crate::node::{Node, add_below};
+use crate::node::{Node, add_reached};
 use lattice_core::{Box3, Ray, View, ray_box, tile_box};
 use memory_core::Memory;
 use std::alloc::Global;
@@ -21,7 +22,7 @@ use std::marker::Model;
 #[derive(Debug, Drop)]
 pub struct BoxIndex {
     boxes: Vec<Box3>,
-    root: Node,
+    nodes: Vec<Node>,
 }
 
 impl Model for BoxIndex {
@@ -33,7 +34,7 @@ impl Model for BoxIndex {
 
     ghost view = { λ a. a.boxes.items };
 
-    ghost invariant = { λ a. IsIndexOf a.boxes.items a.root };
+    ghost invariant = { λ a. IsIndexOf a.boxes.items a.nodes.items };
 }
 
 impl BoxIndex {
@@ -43,8 +44,8 @@ impl BoxIndex {
         ensures { IfOk result (λ index. index ≡ boxes.items) }
     {
         let places = filled_places(alloc, &boxes)?;
-        let root = grow(alloc, &boxes, places, MOST_CUTS)?;
-        Ok(BoxIndex { boxes, root })
+        let nodes = grow(alloc, &boxes, Half::AllPoints, places, MOST_CUTS)?;
+        Ok(BoxIndex { boxes, nodes })
     }
 
     /// The boxes.
@@ -59,7 +60,7 @@ impl BoxIndex {
         ensures { IfOk result (λ _. ArePlacesOf (λ b. IsTrue (has_points b && do_touch b window.now)) self.now out.new.items) }
     {
         out.clear();
-        add_below(&self.root, true, &self.boxes, window, out)?;
+        add_reached(&self.nodes, &self.boxes, window, out)?;
         out.sort_unstable();
         Ok(())
     }

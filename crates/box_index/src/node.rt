@@ -1,26 +1,20 @@
-//! A tree of cuts, with the places of boxes at its nodes.
+//! A tree of cuts as a list of nodes, with the places of boxes at them.
 
-ghost use Rattle.std.specs.Prelude.{◌≡◌, ◌++◌, [], IfOk, cond, filter};
-ghost use Rattle.box_index.specs.Nodes.{content, is_touched, IsSound};
+ghost use Rattle.std.specs.Prelude.{◌≡◌, ◌++◌, ◌∷◌, IfOk, filter};
+ghost use Rattle.box_index.specs.Nodes.{content, is_touched, AreSound, IsLeft};
 
-use crate::cut::{Cut, ends_above, starts_below};
+use crate::cut::{Half, does_reach};
 use crate::reach::do_touch;
 use lattice_core::Box3;
 use memory_core::Memory;
 
-/// Places of boxes. At a fork stand those of the boxes that its cut touches; the others stand below it, on their side of the
-/// cut.
+/// Places of boxes in a half of space. The nodes below it are the first of those that stand behind it in the list, and have
+/// places of boxes in the same half.
 #[derive(Debug, Drop)]
-pub(crate) enum Node {
-    Leaf {
-        here: Vec<u32>,
-    },
-    Fork {
-        here: Vec<u32>,
-        cut: Cut,
-        low: Box<Node>,
-        high: Box<Node>,
-    },
+pub(crate) struct Node {
+    pub half: Half,
+    pub here: Vec<u32>,
+    pub below: usize,
 }
 
 /// Whether the box at a place and another box, both with points, share one.
@@ -49,31 +43,38 @@ fn add_touched(
     Ok(())
 }
 
-/// Adds the places below a node, where it is reached, of the boxes that share a point with a window.
-pub(crate) fn add_below(
+/// Adds the places at a node of the boxes that share a point with a window, and gives the nodes that are still to be asked: those
+/// below a node are passed over with it where the window has no points in its half of space.
+fn visit<'a>(
     node: &Node,
-    is_reached: bool,
+    behind: &'a [Node],
+    boxes: &[Box3],
+    window: &Box3,
+    out: &mut Vec<u32>,
+) -> Result<&'a [Node], Memory>
+    requires sound { AreSound boxes.now (node.now ∷ behind.now) }
+    ensures { IfOk result (λ rest. IsLeft boxes.now window.now node.now behind.now rest.now out.old.items out.new.items) }
+{
+    if !does_reach(window, node.half) {
+        return Ok(&behind[node.below..]);
+    }
+    add_touched(&node.here, boxes, window, out)?;
+    Ok(behind)
+}
+
+/// Adds the places at the nodes of the boxes that share a point with a window.
+pub(crate) fn add_reached(
+    nodes: &[Node],
     boxes: &[Box3],
     window: &Box3,
     out: &mut Vec<u32>,
 ) -> Result<(), Memory>
-    requires sound { IsSound boxes.now node.now }
-    ensures { IfOk result (λ _. out.new.items ≡ out.old.items ++ cond is_reached (filter (is_touched boxes.now window.now) (content node.now)) []) }
+    requires sound { AreSound boxes.now nodes.now }
+    ensures { IfOk result (λ _. out.new.items ≡ out.old.items ++ filter (is_touched boxes.now window.now) (content nodes.now)) }
 {
-    if !is_reached {
-        return Ok(());
+    let mut rest = nodes;
+    while let Some((node, behind)) = rest.split_first() {
+        rest = visit(node, behind, boxes, window, out)?;
     }
-    match node {
-        Node::Leaf { here } => add_touched(here, boxes, window, out),
-        Node::Fork {
-            here,
-            cut,
-            low,
-            high,
-        } => {
-            add_touched(here, boxes, window, out)?;
-            add_below(low, starts_below(window, *cut), boxes, window, out)?;
-            add_below(high, ends_above(window, *cut), boxes, window, out)
-        }
-    }
+    Ok(())
 }

@@ -1,5 +1,5 @@
 -- What lies on one side of a cut is missed by a window that does not reach there.
-use Rattle.std.proofs.Common.{◌≡◌, ℤ, ◌<ℤ◌, ◌≤ℤ◌, ℕ, List, [], filter, All, Bool, true, false, cond, ◌&&◌, not, IsTrue, refl, sym, arith}
+use Rattle.std.proofs.Common.{◌≡◌, ℤ, ◌<ℤ◌, ◌≤ℤ◌, ℕ, List, [], filter, false, ◌&&◌, not, IsTrue, refl, sym, arith}
 use Rattle.std.specs.Ordering.{int_cmp, is_gt, is_lt}
 use Rattle.std.specs.declared.cmp.Ordering.{Ordering}
 use Rattle.std.specs.declared.cmp.Ordering.TheVariants.{Less, Equal, Greater}
@@ -14,7 +14,6 @@ use Rattle.lattice_core.specs.declared.boxes.Box3.{Box3}
 use Rattle.lattice_core.specs.declared.boxes.Box3.TheVariants.{Empty, Span}
 use Rattle.box_index.specs.declared.cut.Axis.{Axis}
 use Rattle.box_index.specs.declared.cut.Axis.TheVariants.{X, Y, Z}
-use Rattle.box_index.specs.declared.cut.Cut.{Cut}
 use Rattle.box_index.specs.declared.cut.Half.{Half}
 use Rattle.box_index.specs.declared.cut.Half.TheVariants.{AllPoints, Below, Above}
 use Rattle.box_index.specs.Reaches.{are_ordered, do_overlap, do_touch}

@@ -1,5 +1,5 @@
 -- Nodes: what is asked of them, and what is made.
-use Rattle.std.proofs.Common.{◌≡◌, ◌∙◌, ◌≤◌, ℕ, zero, suc, List, [], ◌∷◌, ◌++◌, length, take, drop, filter, All, Bool, true, false, cond, ◌&&◌, not, IsTrue, ap, sym, subst, refl, append_assoc, length-append, arith}
+use Rattle.std.proofs.Common.{◌≡◌, ◌∙◌, ℕ, zero, suc, List, [], ◌∷◌, ◌++◌, length, take, drop, filter, Bool, true, false, cond, ◌&&◌, not, IsTrue, ap, sym, subst, refl, append_assoc, length-append, arith}
 use Rattle.std.specs.List.Sorted.{IsPermutation}
 use Rattle.std.proofs.lemmas.List.{take-append-le, take-append-drop, take_all, length-drop, append-nil}
 use Rattle.std.proofs.lemmas.List.Elements.{filter-append, filter_passes, All-weaker}

@@ -71,12 +71,7 @@ fn joined(mut nodes: Vec<Node>, more: Vec<Node>) -> Result<Vec<Node>, Memory>
 }
 
 /// A node with those below it.
-fn forked(
-    alloc: Global,
-    half: Half,
-    here: Vec<u32>,
-    below: Vec<Node>,
-) -> Result<Vec<Node>, Memory>
+fn forked(alloc: Global, half: Half, here: Vec<u32>, below: Vec<Node>) -> Result<Vec<Node>, Memory>
     ensures { IfOk result (λ v. IsForked half here.items below.items v.items) }
 {
     let mut nodes = Vec::new(alloc);

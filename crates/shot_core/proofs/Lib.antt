@@ -30,3 +30,4 @@ pub mod Owning
 pub mod Passing
 pub mod LowestHits
 pub mod Seeing
+pub mod TilePicking

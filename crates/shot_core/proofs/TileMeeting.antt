@@ -1,5 +1,5 @@
 -- Which boxes meet the box of a tile's rays.
-use Rattle.std.proofs.Common.{◌≡◌, ◌↔◌, ◌<◌, ◌+◌, ℕ, List, [], ◌∷◌, ◌++◌, length, get_or, take, filter, Bool, true, cond, IsTrue, ap, sym, ◌∙◌, refl}
+use Rattle.std.proofs.Common.{◌≡◌, ◌↔◌, ◌<◌, ◌+◌, ℕ, List, [], ◌∷◌, ◌++◌, length, get_or, take, filter, Bool, true, cond, IsTrue, ap, sym, ◌∙◌}
 use Rattle.std.proofs.lemmas.List.Elements.{filter_more}
 use Rattle.lattice_core.specs.declared.boxes.Box3.{Box3}
 use Rattle.lattice_core.specs.declared.view.View.{View}
@@ -11,9 +11,7 @@ use Rattle.lattice_core.proofs.Boxing.{meets_is}
 use Rattle.lattice_core.proofs.Reaching.{reach_is}
 use Rattle.lattice_core.proofs.Tiling.{span_part}
 use Rattle.lattice_core.proofs.TileBoxes as tiles
-use Rattle.shot_core.specs.Regions.{Region}
-use Rattle.shot_core.specs.RegionBoxes.{region_box}
-use Rattle.shot_core.specs.Pruned.{share_points, ray_reach, tile_reach, meets_tile, TellsWhetherTileMet, kept_for}
+use Rattle.shot_core.specs.Pruned.{share_points, ray_reach, tile_reach, meets_tile, TellsWhetherTileMet}
 use Rattle.shot_core.proofs.Boxing.{has_points_tells, are_hull_and_meet, same_bool}
 
 pub sharing_tells : (a b : Box3) → IsTrue (share_points a b) ↔ Meets a b
@@ -25,10 +23,6 @@ sharing_tells a b =
 -- what tells whether two boxes meet is the test
 pub sharing_is : (a b : Box3) (r : Bool) → (IsTrue r ↔ Meets a b) → r ≡ share_points a b
 sharing_is a b r is = same_bool r (share_points a b) (λ h. (sharing_tells a b).1 (is.0 h)) (λ h. is.1 ((sharing_tells a b).0 h))
-
-filter_alike : {X : Type 0} (f g : X → Bool) (xs : List X) → ((x : X) → f x ≡ g x) → filter f xs ≡ filter g xs
-filter_alike f g [] h = refl
-filter_alike f g (x ∷ xs) h = ap (λ b. cond b (x ∷ filter f xs) (filter f xs)) (h x) ∙ ap (λ l. cond (g x) (x ∷ l) l) (filter_alike f g xs h)
 
 -- one more value of those that pass
 pub one_more : {X : Type 0} (f : X → Bool) (xs old new : List X) (i : ℕ) (x : X) (b : Bool) → i < length xs → x ≡ get_or xs i x → b ≡ f x → old ≡ filter f (take i xs)
@@ -42,18 +36,6 @@ module _ (view : View) (tile : ℕ) (checked : IsChecked view) (in_view : tile <
   tile_reach_is =
       tiles.tile_box_is view tile (ray_reach (tiles.first_ray view tile)) (ray_reach (tiles.last_ray view tile)) (tile_reach view tile) checked.cell (span_part view tile in_view)
       (reach_is (tiles.first_ray view tile)) (reach_is (tiles.last_ray view tile)) (are_hull_and_meet.hull (ray_reach (tiles.first_ray view tile)) (ray_reach (tiles.last_ray view tile)))
-
-  pub tile_met : (b rays : Box3) → IsTileBox rays view tile → share_points b rays ≡ meets_tile b view tile
-  tile_met b rays is =
-      let one = tiles.meets_tile view tile b rays is in
-      let two = tiles.meets_tile view tile b (tile_reach view tile) tile_reach_is in
-      same_bool (share_points b rays) (meets_tile b view tile)
-      (λ h. (sharing_tells b (tile_reach view tile)).1 (two.1 (one.0 ((sharing_tells b rays).0 h))))
-      (λ h. (sharing_tells b rays).1 (one.1 (two.0 ((sharing_tells b (tile_reach view tile)).0 h))))
-
-  -- the regions that meet the tile's box are those that are kept
-  pub kept_by : (rays : Box3) (regions : List Region) → IsTileBox rays view tile → filter (λ r. share_points (region_box r.body) rays) regions ≡ kept_for regions view tile
-  kept_by rays regions is = filter_alike (λ (r : Region). share_points (region_box r.body) rays) (λ (r : Region). meets_tile (region_box r.body) view tile) regions (λ r. tile_met (region_box r.body) rays is)
 
   -- a box that a ray of the tile meets meets the tile
   pub ray_met : (b : Box3) (column row : ℕ) → IsIn (span_of view tile) column row → MeetsRay b (pixel_ray view column row) → meets_tile b view tile ≡ true

@@ -41,9 +41,15 @@ region_code =
     code_by (ℕ × (List ℕ × RegionBody)) (coded× coded_ℕ (coded× (coded_list coded_ℕ) body_code)) (λ r. (r.place, (r.path, r.body)))
     (λ p. record { place = p.0; path = p.1.0; body = p.1.1 }) (λ _. refl)
 
--- the scene is sound, its instances are solids that were placed, and its regions' first instances are numbered
-pub record IsNumbered (regions : List Region) (firsts : List ℕ) : Type 0 where
+-- the boxes of regions, in their order
+abbrev pub region_boxes : List Region → List Box3
+region_boxes regions = map (λ r. tree_box (boxes_of r.body.instances) r.body.tree) regions
+
+-- the scene is sound, its instances are solids that were placed, its regions' first instances are numbered, and their boxes are
+-- those that are kept
+pub record IsNumbered (regions : List Region) (firsts : List ℕ) (boxes : List Box3) : Type 0 where
   pub sound : IsScene regions
   pub leaves : HaveInstances regions
   pub placed : HavePlacedSolids regions
   pub numbers : firsts ≡ firsts_from 0 regions
+  pub boxes_are : boxes ≡ region_boxes regions

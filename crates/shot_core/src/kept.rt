@@ -1,16 +1,17 @@
 //! The regions of a scene that a tile of a view needs, and those that may overlap another one.
 
-ghost use Rattle.std.specs.Prelude.{◌≡◌, ◌<◌, ◌++◌, ◌∷◌, [], IfOk, cond, filter};
+ghost use Rattle.std.specs.Prelude.{◌≡◌, ◌<◌, ◌++◌, ◌∷◌, [], All, IfOk, cond, length, map, slice_index_or};
 ghost use Rattle.lattice_core.specs.Views.{IsChecked};
 ghost use Rattle.lattice_core.specs.Tiles.{tiles_of};
 ghost use Rattle.shot_core.specs.Regions.{has_air};
 ghost use Rattle.shot_core.specs.RegionBoxes.{region_box};
 ghost use Rattle.shot_core.specs.Pruned.{share_points, kept_for};
+ghost use Rattle.shot_core.specs.Steps.{no_region};
 ghost use Rattle.shot_core.specs.Candidates.{do_touch, touches_some, is_candidate, candidates_of};
 
 use crate::region::SceneRegion;
 use crate::scene::Scene;
-use lattice_core::{Box3, View, boxes_meet, tile_box};
+use lattice_core::{Box3, View, boxes_meet};
 use memory_core::Memory;
 use std::alloc::Global;
 use std::sync::Arc;
@@ -50,17 +51,18 @@ fn reaches(region: &SceneRegion, place: &Box3) -> bool
     boxes_meet(&box_of(region), place)
 }
 
-/// Shares of the regions that reach a box, in their order.
-fn reaching(
+/// Shares of the regions at some places in their list.
+fn shares_of(
     alloc: Global,
     regions: &[SceneRegion],
-    place: &Box3,
+    places: &[u32],
 ) -> Result<Vec<SceneRegion>, Memory>
-    ensures { IfOk result (λ v. v.items ≡ filter (λ r. share_points (region_box r.body) place.now) regions.now) }
+    requires { All (λ i. i < length regions.now) places.now }
+    ensures { IfOk result (λ v. v.items ≡ map (λ i. slice_index_or regions.now i no_region) places.now) }
 {
     let mut kept = Vec::new(alloc);
-    for region in regions {
-        add_kept(&mut kept, region, reaches(region, place))?;
+    for place in places {
+        kept.push(share(&regions[*place as usize])?)?;
     }
     Ok(kept)
 }
@@ -73,8 +75,9 @@ pub fn kept_regions(alloc: Global, scene: &Scene, view: &View, tile: u32) -> Res
     requires tile { tile < tiles_of view.now }
     ensures { IfOk result (λ s. s ≡ kept_for scene.now view.now tile) }
 {
-    let rays = tile_box(view, tile);
-    let kept = reaching(alloc, scene.regions(), &rays)?;
+    let mut places = Vec::new(alloc);
+    scene.reach_tile(view, tile, &mut places)?;
+    let kept = shares_of(alloc, scene.regions(), &places)?;
     Scene::new(alloc, kept)
 }
 

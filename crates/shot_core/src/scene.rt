@@ -1,16 +1,19 @@
 use crate::limit::MOST_LEAVES;
 use crate::region::SceneRegion;
+use box_index::BoxIndex;
+use lattice_core::{Box3, View};
 use memory_core::Memory;
 use solid_set::Placed;
 use std::alloc::Global;
 use std::marker::Model;
 
-/// The regions of a list of names, in the order of their places, with the number of each region's first instance. Contracts
-/// see it as the list of regions.
+/// The regions of a list of names, in the order of their places, with the number of each region's first instance and an index
+/// of their boxes. Contracts see it as the list of regions.
 #[derive(Debug, Drop)]
 pub struct Scene {
     regions: Vec<SceneRegion>,
     firsts: Vec<u32>,
+    by_region: BoxIndex,
 }
 
 impl Model for Scene {
@@ -25,7 +28,7 @@ impl Model for Scene {
 
     ghost view = { λ s. s.regions.items };
 
-    ghost invariant = { λ s. IsNumbered s.regions.items s.firsts.items };
+    ghost invariant = { λ s. IsNumbered s.regions.items s.firsts.items s.by_region };
 }
 
 ghost use Rattle.std.specs.Prelude.{◌≡◌, ◌≤◌, true, false, nat_le, length, IfOk};
@@ -33,6 +36,7 @@ ghost use Rattle.shot_core.specs.declared.limit.TheConstants.{MOST_LEAVES};
 ghost use Rattle.std.specs.List.Sorted.{IsPartitionPoint};
 ghost use Rattle.shot_core.specs.Regions.{firsts_from, instances_of, HaveInstances, HavePlacedSolids};
 ghost use Rattle.shot_core.specs.Steps.{NeverFalls};
+ghost use Rattle.shot_core.specs.Prepared.{region_boxes};
 
 /// The number of each region's first instance.
 fn firsts_of(alloc: Global, regions: &[SceneRegion]) -> Result<Vec<u32>, Memory>
@@ -50,6 +54,17 @@ fn firsts_of(alloc: Global, regions: &[SceneRegion]) -> Result<Vec<u32>, Memory>
     Ok(firsts)
 }
 
+/// The boxes of the regions, in their order.
+fn boxes_of(alloc: Global, regions: &[SceneRegion]) -> Result<Vec<Box3>, Memory>
+    ensures { IfOk result (λ v. v.items ≡ region_boxes regions.now) }
+{
+    let mut boxes = Vec::new(alloc);
+    for region in regions {
+        boxes.push(region.body().bounds())?;
+    }
+    Ok(boxes)
+}
+
 /// How many of the numbers, which never fall, are at most a number.
 fn count_up_to(firsts: &[u32], number: u32) -> usize
     requires { NeverFalls firsts.now }
@@ -63,7 +78,10 @@ impl Scene {
     ghost use Rattle.std.specs.Prelude.{◌≡◌, ◌<◌, ◌≤◌, ◌^◌, IfOk, length, slice_get, slice_index_or};
     ghost use Rattle.std.specs.Option.{option_map, option_copied};
     ghost use Rattle.shot_core.specs.Regions.{IsScene, HaveInstances, HavePlacedSolids, instances_of, firsts_from};
-    ghost use Rattle.shot_core.specs.Prepared.{instance_of};
+    ghost use Rattle.lattice_core.specs.Views.{IsChecked};
+    ghost use Rattle.lattice_core.specs.Tiles.{tiles_of, MeetsTile};
+    ghost use Rattle.box_index.specs.Places.{ArePlacesOf};
+    ghost use Rattle.shot_core.specs.Prepared.{instance_of, region_boxes};
 
     /// The scene of regions whose places rise from at least 1, and whose bodies together have a size of at most
     /// `MOST_LEAVES` and at most as many solids.
@@ -72,7 +90,13 @@ impl Scene {
         ensures { IfOk result (λ s. s ≡ regions.items) }
     {
         let firsts = firsts_of(alloc, &regions)?;
-        Ok(Scene { regions, firsts })
+        let boxes = boxes_of(alloc, &regions)?;
+        let by_region = BoxIndex::build(alloc, boxes)?;
+        Ok(Scene {
+            regions,
+            firsts,
+            by_region,
+        })
     }
 
     /// The regions, in the order of their places.
@@ -83,6 +107,21 @@ impl Scene {
         ensures placed { HavePlacedSolids self.now }
     {
         &self.regions
+    }
+
+    /// Replaces `out` by the places in the list of the regions whose boxes meet the box of a tile's rays, in rising order. After
+    /// want of memory it may hold anything.
+    pub(crate) fn reach_tile(
+        &self,
+        view: &View,
+        tile: u32,
+        out: &mut Vec<u32>,
+    ) -> Result<(), Memory>
+        requires view { IsChecked view.now }
+        requires tile { tile < tiles_of view.now }
+        ensures { IfOk result (λ _. ArePlacesOf (λ b. MeetsTile b view.now tile) (region_boxes self.now) out.new.items) }
+    {
+        self.by_region.meets_tile(view, tile, out)
     }
 
     /// The number of a region's first instance. Instances are numbered from 0 over all regions.

@@ -1,4 +1,4 @@
-use Rattle.std.proofs.Common.{◌≡◌, ◌∙◌, ◌-◌, ◌≤◌, length, take, drop, sym, arith}
+use Rattle.std.proofs.Common.{◌∙◌, ◌-◌, length, take, drop, sym, arith}
 use Rattle.std.proofs.lemmas.List.{length-drop, take_all}
 use Rattle.box_index.proofs.Trees.{passed}
 use Rattle.box_index.proofs.node.visit.Goals as goal

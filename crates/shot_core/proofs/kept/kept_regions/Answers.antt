@@ -1,21 +1,39 @@
-use Rattle.std.proofs.Common.{◌∙◌, ap, sym, subst, filter, Bool}
+use Rattle.std.proofs.Common.{◌≡◌, ◌<◌, ◌∙◌, ℕ, List, All, length, get_or, map, ap, sym, subst}
 use Rattle.std.proofs.lemmas.Result.{IfOk-weaker}
 use Rattle.shot_core.specs.Regions.{Region, IsScene}
 use Rattle.shot_core.specs.RegionBoxes.{region_box}
-use Rattle.shot_core.specs.Pruned.{share_points}
+use Rattle.shot_core.specs.Pruned.{meets_tile, kept_for}
+use Rattle.shot_core.specs.Steps.{no_region}
 use Rattle.shot_core.proofs.Missing.{scene_left}
-use Rattle.shot_core.proofs.TileMeeting.{kept_by}
+use Rattle.shot_core.proofs.TilePicking.{picked_regions, places_within}
 use Rattle.shot_core.proofs.kept.kept_regions.Goals as goal
+
+pub shares_of-requires : goal.shares_of-requires
+shares_of-requires c =
+    let scene = c.args.scene.now in
+    let places = c.reach_tile.new.out.items in
+    let within : All (λ i. i < length scene) places = places_within c.args.view.now c.args.tile c.requires.view c.requires.tile scene places c.in_ok-reach_tile.ensures in
+    subst (λ (l : List ℕ). All (λ i. i < length c.regions.result.now) l) (sym c.deref.ensures.value)
+    (subst (λ (rs : List Region). All (λ i. i < length rs) places) (sym c.regions.ensures.value) within)
 
 pub new-requires : goal.new-requires
 new-requires c =
-    let keep : Region → Bool = λ r. share_points (region_box r.body) c.tile_box-rays.result in
-    subst IsScene (sym (c.in_ok-kept.ensures ∙ ap (filter keep) c.regions.ensures.value)) (scene_left keep c.args.scene.now c.regions.ensures.sound)
+    let scene = c.args.scene.now in
+    let view = c.args.view.now in
+    let tile = c.args.tile in
+    let places = c.reach_tile.new.out.items in
+    let kept : c.in_ok-kept.kept.items ≡ kept_for scene view tile =
+    c.in_ok-kept.ensures ∙ ap (λ (rs : List Region). map (λ i. get_or rs i no_region) c.deref.result.now) c.regions.ensures.value
+    ∙ ap (map (λ i. get_or scene i no_region)) c.deref.ensures.value ∙ picked_regions view tile c.requires.view c.requires.tile scene places c.in_ok-reach_tile.ensures in
+    subst IsScene (sym kept) (scene_left (λ r. meets_tile (region_box r.body) view tile) scene c.regions.ensures.sound)
 
 pub returns : goal.returns
 returns c =
-    let keep : Region → Bool = λ r. share_points (region_box r.body) c.tile_box-rays.result in
-    IfOk-weaker c.new.result _ _
-    (λ s e. e ∙ c.in_ok-kept.ensures ∙ ap (filter keep) c.regions.ensures.value
-    ∙ kept_by c.args.view.now c.args.tile c.requires.view c.requires.tile c.tile_box-rays.result c.args.scene.now c.tile_box-rays.ensures)
-    c.new.ensures
+    let scene = c.args.scene.now in
+    let view = c.args.view.now in
+    let tile = c.args.tile in
+    let places = c.reach_tile.new.out.items in
+    let kept : c.in_ok-kept.kept.items ≡ kept_for scene view tile =
+    c.in_ok-kept.ensures ∙ ap (λ (rs : List Region). map (λ i. get_or rs i no_region) c.deref.result.now) c.regions.ensures.value
+    ∙ ap (map (λ i. get_or scene i no_region)) c.deref.ensures.value ∙ picked_regions view tile c.requires.view c.requires.tile scene places c.in_ok-reach_tile.ensures in
+    IfOk-weaker c.new.result _ _ (λ s e. e ∙ kept) c.new.ensures

@@ -13,8 +13,9 @@ use lattice_core::Box3;
 use memory_core::Memory;
 use std::alloc::Global;
 
-/// The greatest number of places at a node without a cut, where a cut can be had.
-const MOST_HERE: usize = 8;
+/// The greatest number of places at a node without a cut, where a cut can be had. The scene of a tile mostly has fewer regions,
+/// and its index is made for each tile.
+const MOST_HERE: usize = 32;
 
 /// The greatest number of cuts from the root of a tree to a leaf.
 pub(crate) const MOST_CUTS: u32 = 16;
@@ -123,7 +124,7 @@ pub(crate) fn filled_places(alloc: Global, boxes: &[Box3]) -> Result<Vec<u32>, M
     requires { length boxes.now < 2 ^ 31 }
     ensures { IfOk result (λ v. v.items ≡ places_where has_points boxes.now) }
 {
-    let mut places = Vec::new(alloc);
+    let mut places = Vec::with_capacity(alloc, boxes.len())?;
     for i in 0..boxes.len() {
         if has_points(&boxes[i]) {
             places.push(i as u32)?;

@@ -60,7 +60,7 @@ fn shares_of(
     requires { All (λ i. i < length regions.now) places.now }
     ensures { IfOk result (λ v. v.items ≡ map (λ i. slice_index_or regions.now i no_region) places.now) }
 {
-    let mut kept = Vec::new(alloc);
+    let mut kept = Vec::with_capacity(alloc, places.len())?;
     for place in places {
         kept.push(share(&regions[*place as usize])?)?;
     }

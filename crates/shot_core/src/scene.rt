@@ -45,7 +45,7 @@ fn firsts_of(alloc: Global, regions: &[SceneRegion]) -> Result<Vec<u32>, Memory>
     ensures leaves { IfOk result (λ _. HaveInstances regions.now) }
     ensures placed { IfOk result (λ _. HavePlacedSolids regions.now) }
 {
-    let mut firsts = Vec::new(alloc);
+    let mut firsts = Vec::with_capacity(alloc, regions.len())?;
     let mut first = 0;
     for region in regions {
         firsts.push(first)?;
@@ -58,7 +58,7 @@ fn firsts_of(alloc: Global, regions: &[SceneRegion]) -> Result<Vec<u32>, Memory>
 fn boxes_of(alloc: Global, regions: &[SceneRegion]) -> Result<Vec<Box3>, Memory>
     ensures { IfOk result (λ v. v.items ≡ region_boxes regions.now) }
 {
-    let mut boxes = Vec::new(alloc);
+    let mut boxes = Vec::with_capacity(alloc, regions.len())?;
     for region in regions {
         boxes.push(region.body().bounds())?;
     }

@@ -3,3 +3,5 @@ pub mod TileLaws
 pub mod Led
 pub mod PictureLaws
 pub mod CheckLaws
+mod PlaceLaws
+mod FlightLaws

@@ -4,13 +4,17 @@ use Rattle.std.proofs.lemmas.List.{drop_more, get_or-map, length-map}
 use Rattle.std.proofs.lemmas.List.FromFn.{length-map-range_with_len}
 use Rattle.std.specs.List.{range_with_len}
 use Rattle.std.specs.Option.{option_map}
-use Rattle.std.specs.Prelude.{slice_get}
+use Rattle.std.specs.Prelude.{slice_get, slice_index_or, vec_len}
 use Rattle.std.proofs.lemmas.List.Elements.{All-cons, All-nil}
 use Rattle.tile_shot.specs.Same.{same_name}
 use Rattle.tile_shot.specs.Named.{TileName, NamedTile, is_small_name}
 use Rattle.lattice_core.specs.declared.view.View.{View}
-use Rattle.view_shot.specs.Kept.{after_picture, in_turn, is_kept, moved, put_in, reused, shot}
-use Rattle.view_shot.specs.Steps.{AreFresh, AreKept, CanPut, HasPut, IsPut, found, if_kept, lacking, with_small}
+use Rattle.std.specs.Arc.{arc_value}
+use Rattle.shot_core.specs.Regions.{Region}
+use Rattle.view_shot.specs.declared.job.TileJob.{TileJob}
+use Rattle.view_shot.specs.Jobs.{IsShotOf}
+use Rattle.view_shot.specs.Kept.{after_picture, in_turn, is_kept, moved, put_in, reused, shot, tile_name}
+use Rattle.view_shot.specs.Steps.{AreFresh, AreKept, AreLacking, CanPut, HasPut, IsPut, found, if_kept, lacking, with_small}
 use Rattle.view_shot.proofs.KeptLaws.{all_fresh_moved, are_kept_moved, differ, fresh_with}
 
 -- those that were found are reused
@@ -237,6 +241,9 @@ pub slots_long : (name : ℕ → TileName) (kept : List TileName) (n : ℕ) (nam
 slots_long name kept n names slots are is =
     sym (length-map slots (option_map key_of)) ∙ ap (length {A = Option TileName}) (are ∙ is) ∙ length-map (map name (range_with_len 0 n)) (if_kept kept) ∙ length-map-range_with_len name 0 n
 
+pub plan_long : (name : ℕ → TileName) (kept : List TileName) (n : ℕ) (names : List (Option TileName)) → names ≡ map (if_kept kept) (map name (range_with_len 0 n)) → length names ≡ n
+plan_long name kept n names is = ap (length {A = Option TileName}) is ∙ length-map (map name (range_with_len 0 n)) (if_kept kept) ∙ length-map-range_with_len name 0 n
+
 pub lacking_step : (o : Option TileName) (rest : List (Option TileName)) (from : ℕ) → lacking (o ∷ []) from ++ lacking rest (from + 1) ≡ lacking (o ∷ rest) from
 lacking_step None rest from = refl
 lacking_step (Some name) rest from = refl
@@ -258,6 +265,14 @@ shot_keys name [] (t ∷ ts) long each = absurd (omega (arith, long))
 shot_keys name (x ∷ xs) [] long each = absurd (omega (arith, long))
 shot_keys name (x ∷ xs) (t ∷ ts) long each =
     ap₂ (λ (k : TileName) (ks : List TileName). k ∷ ks) (each 0 x (omega arith)) (shot_keys name xs ts (omega (arith, long)) (λ i d lt. each (suc i) d (omega (arith, lt))))
+
+-- the tiles that a job of the lacking ones gives
+pub lacking_are_shot : (scene : List Region) (view : View) (names : List (Option TileName)) (job : TileJob) (all : List NamedTile) → arc_value job.scene ≡ scene → job.view ≡ view → job.tiles.items ≡ lacking names 0
+    → length all ≡ length job.tiles.items → ((i : ℕ) (d : NamedTile) → i < vec_len job.tiles → IsShotOf job i (slice_index_or all i d)) → AreLacking scene view names all
+lacking_are_shot scene view names job all of_scene of_view of_names long each =
+    shot_keys (tile_name (arc_value job.scene) job.view) all job.tiles.items long (λ i d lt. each i d (omega (arith, lt, job.tiles.ok.0)))
+    ∙ ap (map (tile_name (arc_value job.scene) job.view)) of_names
+    ∙ ap₂ (λ (s : List Region) (v : View). map (tile_name s v) (lacking names 0)) of_scene of_view
 
 pub both_ok : {A E : Type 0} {P Q R : A → Type 0} (r : Result A E) → IfOk r P → IfOk r Q → ((x : A) → P x → Q x → R x) → IfOk r R
 both_ok (Ok x) p q f = f x p q

@@ -6,7 +6,7 @@ use Rattle.view_shot.specs.Kept.{tile_name}
 use Rattle.view_shot.specs.Steps.{IsTileReport}
 use Rattle.view_shot.specs.declared.job.TileJob.{TileJob}
 use Rattle.view_shot.specs.declared.job.CheckJob.{CheckJob}
-use Rattle.view_shot.specs.declared.job.TilePairs.{TilePairs}
+use Rattle.view_shot.specs.declared.named.TilePairs.{TilePairs}
 
 -- the tile of the number that stands at this place of the job's list
 abbrev pub IsShotOf : TileJob → ℕ → NamedTile → Type 0

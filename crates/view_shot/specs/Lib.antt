@@ -1,4 +1,6 @@
 pub mod Kept
 pub mod Steps
 pub mod Jobs
+pub mod Named
+pub mod Flights
 pub mod Examples

@@ -10,7 +10,7 @@ use Rattle.shot_core.specs.declared.pair.Pair.{Pair}
 use Rattle.ppm_write.specs.Pictures.{IsCopied}
 use Rattle.tile_shot.specs.Named.{TileName, NamedTile, IsShot, is_small_name}
 use Rattle.tile_shot.specs.Reports.{tile_report}
-use Rattle.view_shot.specs.Kept.{is_kept, put_in}
+use Rattle.view_shot.specs.Kept.{is_kept, put_in, tile_name}
 
 -- all kept tiles have small bodies
 abbrev pub AreSmall : List TileName → Type 0
@@ -39,6 +39,10 @@ abbrev pub lacking : List (Option TileName) → ℕ → List ℕ
 lacking [] from = []
 lacking (None ∷ rest) from = from ∷ lacking rest (from + 1)
 lacking (Some name ∷ rest) from = lacking rest (from + 1)
+
+-- these are the tiles whose names were not found, in the order of their numbers
+abbrev pub AreLacking : List Region → View → List (Option TileName) → List NamedTile → Type 0
+AreLacking scene view names shot = map (λ (t : NamedTile). t.key) shot ≡ map (tile_name scene view) (lacking names 0)
 
 -- the names of tiles that are there
 abbrev pub names_of : List (Option NamedTile) → List (Option TileName)

@@ -1,16 +1,21 @@
 //! The overlaps of a scene on the rays of a view.
-ghost use Rattle.std.specs.Prelude.{◌≡◌, ◌≤◌, ◌<◌, ◌+◌, IfOk, IfErr, length, vec_len};
+ghost use Rattle.std.specs.Prelude.{◌≡◌, ◌≤◌, ◌<◌, ◌+◌, [], ℕ, IfOk, IfErr, length, slice_index_or, vec_len};
 ghost use Rattle.std.specs.Arc.{arc_value};
 ghost use Rattle.lattice_core.specs.Views.{IsChecked};
 ghost use Rattle.lattice_core.specs.Tiles.{tiles_of};
 ghost use Rattle.overlap_list.specs.declared.overlap.TheConstants.{MOST_PAIRS};
 ghost use Rattle.overlap_list.specs.Overlaps.{IsTooMany};
 ghost use Rattle.tile_shot.specs.Reports.{AddUp, is_in_tiles, report_of, spots_where, tile_report, view_report};
+ghost use Rattle.view_shot.specs.Flights.{IsReport};
 ghost use Rattle.view_shot.specs.Steps.{IsTileReport};
+ghost use Rattle.view_shot.specs.declared.work.Shot.{Shot as ShotValue};
 
 use crate::executor::{Executor, check_tiles};
-use crate::job::{CheckJob, TilePairs};
+use crate::job::CheckJob;
+use crate::named::TilePairs;
+use crate::work::Shot;
 use lattice_core::View;
+use memory_core::Memory;
 use outside_core::Gate;
 use overlap_list::{CheckFault, MOST_PAIRS};
 use shot_core::{Pair, Scene};
@@ -100,6 +105,122 @@ fn add_round<R: Threads + Sync, G: Gate + Sync>(
     Ok(())
 }
 
+/// The first tiles of a view, as a job.
+pub(crate) fn first_job(scene: &Arc<Scene>, view: &View) -> Result<CheckJob, Memory>
+    requires { IsChecked view.now }
+    ensures scene { IfOk result (λ job. arc_value job.scene ≡ arc_value scene.now) }
+    ensures view { IfOk result (λ job. job.view ≡ view.now) }
+    ensures first { IfOk result (λ job. job.first ≡ 0) }
+{
+    Ok(CheckJob {
+        scene: scene.clone()?,
+        view: *view,
+        first: 0,
+        count: view.tiles().min(MANY_TILES),
+    })
+}
+
+/// Adds the overlaps on the rays of a tile, which was shot, to those of the tiles before it.
+fn add_shot(
+    alloc: Global,
+    scene: &Scene,
+    view: &View,
+    tile: u32,
+    shot: &Shot,
+    report: &mut Vec<Pair>,
+) -> Result<(), CheckFault>
+    requires view { IsChecked view.now }
+    requires tile { tile < tiles_of view.now }
+    requires shot { IsReport scene.now view.now tile shot.now }
+    requires before { report.old.items ≡ report_of scene.now view.now (spots_where view.now (is_in_tiles view.now tile)) }
+    ensures added { IfOk result (λ _. AddUp report.old.items (tile_report scene.now view.now tile) report.new.items) }
+    ensures most { IfOk result (λ _. length report.old.items ≤ MOST_PAIRS → length report.new.items ≤ MOST_PAIRS) }
+    ensures fault { IfErr result (IsTooMany (length (view_report scene.now view.now))) }
+{
+    match shot {
+        Shot::Tile(_) => unreachable!(),
+        Shot::Pairs(pairs) => add_tile(alloc, scene, view, tile, pairs.pairs(), report),
+    }
+}
+
+/// Adds the overlaps on the rays of the first tiles, which were shot.
+pub(crate) fn add_shots(
+    alloc: Global,
+    scene: &Arc<Scene>,
+    view: &View,
+    shots: &[Shot],
+    report: &mut Vec<Pair>,
+) -> Result<(), CheckFault>
+    requires view { IsChecked view.now }
+    requires within { length shots.now ≤ tiles_of view.now }
+    requires shots { (i : ℕ) (d : ShotValue) → i < length shots.now → IsReport (arc_value scene.now) view.now i (slice_index_or shots.now i d) }
+    requires before { report.old.items ≡ [] }
+    ensures added { IfOk result (λ _. report.new.items ≡ report_of (arc_value scene.now) view.now (spots_where view.now (is_in_tiles view.now (length shots.now)))) }
+    ensures most { IfOk result (λ _. length report.new.items ≤ MOST_PAIRS) }
+    ensures fault { IfErr result (IsTooMany (length (view_report (arc_value scene.now) view.now))) }
+{
+    report_laws();
+    let _regions = scene.regions();
+    for i in 0..shots.len() {
+        add_shot(alloc, scene, view, i as u32, &shots[i], report)?;
+    }
+    Ok(())
+}
+
+/// The overlaps on all rays of a view, where those on the rays of the first tiles are known: the others are found tile by tile.
+pub(crate) fn check_rest<R: Threads + Sync, G: Gate + Sync>(
+    executor: &Executor<R, G>,
+    alloc: Global,
+    scene: &Arc<Scene>,
+    view: &View,
+    done: u32,
+    known: Vec<Pair>,
+) -> Result<Vec<Pair>, CheckFault>
+    requires view { IsChecked view.now }
+    requires within { done ≤ tiles_of view.now }
+    requires before { known.items ≡ report_of (arc_value scene.now) view.now (spots_where view.now (is_in_tiles view.now done)) }
+    requires most { length known.items ≤ MOST_PAIRS }
+    ensures pairs { IfOk result (λ report. report.items ≡ view_report (arc_value scene.now) view.now) }
+    ensures most { IfOk result (λ v. length v.items ≤ MOST_PAIRS) }
+    ensures fault { IfErr result (IsTooMany (length (view_report (arc_value scene.now) view.now))) }
+{
+    report_laws();
+    let _regions = scene.regions();
+    let tiles = view.tiles();
+    let mut report = known;
+    let mut first = done;
+    while first < tiles {
+        let count = round_size(report.len(), first, tiles - first);
+        add_round(executor, alloc, scene, view, first, count, &mut report)?;
+        first += count;
+    }
+    Ok(report)
+}
+
+/// The overlaps on all rays of a view, of which so many tiles were shot: the others are found tile by tile.
+pub(crate) fn check_behind<R: Threads + Sync, G: Gate + Sync>(
+    executor: &Executor<R, G>,
+    alloc: Global,
+    scene: &Arc<Scene>,
+    view: &View,
+    count: u32,
+    shots: &[Shot],
+) -> Result<Vec<Pair>, CheckFault>
+    requires view { IsChecked view.now }
+    requires within { count ≤ tiles_of view.now }
+    requires count { length shots.now ≡ count }
+    requires shots { (i : ℕ) (d : ShotValue) → i < length shots.now → IsReport (arc_value scene.now) view.now i (slice_index_or shots.now i d) }
+    ensures pairs { IfOk result (λ report. report.items ≡ view_report (arc_value scene.now) view.now) }
+    ensures most { IfOk result (λ v. length v.items ≤ MOST_PAIRS) }
+    ensures fault { IfErr result (IsTooMany (length (view_report (arc_value scene.now) view.now))) }
+{
+    let mut report = Vec::new(alloc);
+    match add_shots(alloc, scene, view, shots, &mut report) {
+        Ok(()) => check_rest(executor, alloc, scene, view, count, report),
+        Err(fault) => Err(fault),
+    }
+}
+
 /// The overlaps on all rays of a view, found tile by tile. `TooMany` comes exactly where there are over `MOST_PAIRS` of them.
 pub fn check_view<R: Threads + Sync, G: Gate + Sync>(
     executor: &Executor<R, G>,
@@ -112,15 +233,5 @@ pub fn check_view<R: Threads + Sync, G: Gate + Sync>(
     ensures most { IfOk result (λ v. length v.items ≤ MOST_PAIRS) }
     ensures fault { IfErr result (IsTooMany (length (view_report (arc_value scene.now) view.now))) }
 {
-    report_laws();
-    let _regions = scene.regions();
-    let tiles = view.tiles();
-    let mut report = Vec::new(alloc);
-    let mut first = 0;
-    while first < tiles {
-        let count = round_size(report.len(), first, tiles - first);
-        add_round(executor, alloc, scene, view, first, count, &mut report)?;
-        first += count;
-    }
-    Ok(report)
+    check_rest(executor, alloc, scene, view, 0, Vec::new(alloc))
 }

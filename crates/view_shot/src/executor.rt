@@ -3,8 +3,9 @@ ghost use Rattle.std.specs.Prelude.{◌≡◌, ◌≤◌, IfOk, vec_len};
 ghost use Rattle.tile_workers.specs.Results.{AreResults};
 ghost use Rattle.view_shot.specs.Jobs.{IsCheckOf, IsShotOf};
 
-use crate::job::{CheckJob, TileJob, TilePairs};
+use crate::job::{CheckJob, TileJob};
 use crate::kept::SharedTile;
+use crate::named::TilePairs;
 use memory_core::Memory;
 use outside_core::Gate;
 use std::alloc::Global;

@@ -3,14 +3,22 @@
 
 mod check;
 mod executor;
+mod flight;
 mod job;
 mod kept;
+mod named;
 mod picture;
 mod plan;
+mod work;
 
 pub use check::check_view;
 pub use executor::{Executor, Parallel};
-pub use job::{CheckJob, TileJob, TilePairs};
+pub use flight::{
+    CheckFlight, FlightJob, PictureFlight, Teller, gather_check, gather_view, post_check, post_view,
+};
+pub use job::{CheckJob, TileJob};
 pub use kept::{KeptTiles, SharedTile};
+pub use named::{NamedPairs, SharedPairs, TilePairs};
 pub use picture::{pixel_bytes, shoot_view};
 pub use plan::{Plan, plan_view};
+pub use work::Shot;

@@ -7,7 +7,7 @@ ghost use Rattle.lattice_core.specs.Tiles.{tiles_of};
 ghost use Rattle.ppm_write.specs.Pictures.{IsPictureOf};
 ghost use Rattle.tile_shot.specs.Pixels.{view_bytes};
 ghost use Rattle.view_shot.specs.Kept.{after_picture, in_turn, moved, tile_name, tile_names};
-ghost use Rattle.view_shot.specs.Steps.{AreKept, CanPut, HasPut, IsPut, IsTileOf, found, if_kept, lacking, names_of};
+ghost use Rattle.view_shot.specs.Steps.{AreKept, AreLacking, CanPut, HasPut, IsPut, IsTileOf, found, if_kept, lacking, names_of};
 
 use crate::executor::{Executor, shoot_tiles};
 use crate::job::TileJob;
@@ -71,10 +71,10 @@ fn reuse_all(
 }
 
 /// Puts a number at the end of the numbers, where the tile of that number is lacking.
-fn push_lacking(tiles: &mut Vec<u32>, slot: &Option<SharedTile>, tile: u32) -> Result<(), Memory>
-    ensures { OnOk result (tiles.new.items ≡ tiles.old.items ++ lacking (option_map (λ t. t.key) slot.now ∷ []) tile) }
+fn push_lacking(tiles: &mut Vec<u32>, name: &Option<TileKey>, tile: u32) -> Result<(), Memory>
+    ensures { OnOk result (tiles.new.items ≡ tiles.old.items ++ lacking (name.now ∷ []) tile) }
 {
-    match slot {
+    match name {
         Some(_) => Ok(()),
         None => {
             tiles.push(tile)?;
@@ -83,37 +83,53 @@ fn push_lacking(tiles: &mut Vec<u32>, slot: &Option<SharedTile>, tile: u32) -> R
     }
 }
 
-/// The numbers of the tiles that are lacking.
-fn lacking_tiles(alloc: Global, slots: &[Option<SharedTile>]) -> Result<Vec<u32>, Memory>
-    requires { length slots.now < 2 ^ 32 }
-    ensures tiles { IfOk result (λ tiles. tiles.items ≡ lacking (names_of slots.now) 0) }
+/// The numbers of the tiles that a plan lacks.
+fn lacking_tiles(alloc: Global, plan: &Plan) -> Result<Vec<u32>, Memory>
+    requires { length plan.now.names.items < 2 ^ 32 }
+    ensures tiles { IfOk result (λ tiles. tiles.items ≡ lacking plan.now.names.items 0) }
     ensures few { IfOk result (λ tiles. vec_len tiles < 2 ^ 32) }
 {
     let mut tiles = Vec::new(alloc);
-    for i in 0..slots.len() {
-        push_lacking(&mut tiles, &slots[i], i as u32)?;
+    for i in 0..plan.names.len() {
+        push_lacking(&mut tiles, &plan.names[i], i as u32)?;
     }
     Ok(tiles)
 }
 
-/// Shoots the tiles that are lacking, in the order of their numbers.
+/// The tiles that a plan lacks, in the order of their numbers, as a job.
+pub(crate) fn lacking_job(
+    alloc: Global,
+    scene: &Arc<Scene>,
+    view: &View,
+    plan: &Plan,
+) -> Result<TileJob, Memory>
+    requires view { IsChecked view.now }
+    requires plan { length plan.now.names.items ≡ tiles_of view.now }
+    ensures scene { IfOk result (λ job. arc_value job.scene ≡ arc_value scene.now) }
+    ensures view { IfOk result (λ job. job.view ≡ view.now) }
+    ensures tiles { IfOk result (λ job. job.tiles.items ≡ lacking plan.now.names.items 0) }
+{
+    let tiles = lacking_tiles(alloc, plan)?;
+    Ok(TileJob {
+        scene: scene.clone()?,
+        view: *view,
+        tiles,
+    })
+}
+
+/// Shoots the tiles that a plan lacks, in the order of their numbers.
 fn shoot_lacking<R: Threads + Sync, G: Gate + Sync>(
     executor: &Executor<R, G>,
     alloc: Global,
     scene: &Arc<Scene>,
     view: &View,
-    slots: &[Option<SharedTile>],
+    plan: &Plan,
 ) -> Result<Vec<SharedTile>, Memory>
     requires view { IsChecked view.now }
-    requires slots { length slots.now ≡ tiles_of view.now }
-    ensures { IfOk result (λ shot. map (λ t. t.key) shot.items ≡ map (tile_name (arc_value scene.now) view.now) (lacking (names_of slots.now) 0)) }
+    requires plan { length plan.now.names.items ≡ tiles_of view.now }
+    ensures { IfOk result (λ shot. AreLacking (arc_value scene.now) view.now plan.now.names.items shot.items) }
 {
-    let tiles = lacking_tiles(alloc, slots)?;
-    let job = TileJob {
-        scene: scene.clone()?,
-        view: *view,
-        tiles,
-    };
+    let job = lacking_job(alloc, scene, view, plan)?;
     shoot_tiles(executor, alloc, &job)
 }
 
@@ -159,6 +175,34 @@ fn put_next(
     }
 }
 
+/// The pixels of a view of a scene, put together from the tiles that are kept and those that were shot because the plan lacks
+/// them.
+pub(crate) fn join_view(
+    alloc: Global,
+    scene: &Scene,
+    view: &View,
+    plan: &Plan,
+    shot: &[SharedTile],
+    kept: &mut KeptTiles,
+) -> Result<Vec<u8>, Memory>
+    requires view { IsChecked view.now }
+    requires plan { plan.now.names.items ≡ map (if_kept kept.old) (tile_names scene.now view.now) }
+    requires shot { AreLacking scene.now view.now plan.now.names.items shot.now }
+    ensures pixels { IfOk result (λ picture. picture.items ≡ view_bytes scene.now view.now) }
+    ensures kept { OnOk result (kept.new ≡ after_picture kept.old (tile_names scene.now view.now)) }
+{
+    pixel_laws();
+    let _regions = scene.regions();
+    let slots = reuse_all(alloc, plan, kept)?;
+    let mut picture = black(alloc, view)?;
+    let mut next = 0;
+    for tile in 0..view.tiles() {
+        let slot = &slots[tile as usize];
+        put_next(view, tile, slot, shot, &mut next, kept, &mut picture)?;
+    }
+    Ok(picture)
+}
+
 /// The pixels of a view of a scene, row by row from the top, by a plan of what is kept. The tiles that are kept are reused, and
 /// go to the front in the order of their numbers; the others are shot, and then those with small bodies are put at the front in
 /// the order of their numbers. After want of memory anything may be kept.
@@ -175,15 +219,6 @@ pub fn shoot_view<R: Threads + Sync, G: Gate + Sync>(
     ensures pixels { IfOk result (λ picture. picture.items ≡ view_bytes (arc_value scene.now) view.now) }
     ensures kept { OnOk result (kept.new ≡ after_picture kept.old (tile_names (arc_value scene.now) view.now)) }
 {
-    pixel_laws();
-    let _regions = scene.regions();
-    let slots = reuse_all(alloc, plan, kept)?;
-    let shot = shoot_lacking(executor, alloc, scene, view, &slots)?;
-    let mut picture = black(alloc, view)?;
-    let mut next = 0;
-    for tile in 0..view.tiles() {
-        let slot = &slots[tile as usize];
-        put_next(view, tile, slot, &shot, &mut next, kept, &mut picture)?;
-    }
-    Ok(picture)
+    let shot = shoot_lacking(executor, alloc, scene, view, plan)?;
+    join_view(alloc, scene, view, plan, &shot, kept)
 }

@@ -1,13 +1,7 @@
-use Rattle.std.proofs.Common.{rules, ◌≡◌, ◌∙◌, ap, arith}
+use Rattle.std.proofs.Common.{◌∙◌}
 use Rattle.std.specs.Arc.{arc_value}
-use Rattle.lattice_core.specs.Tiles.{tiles_of}
-use Rattle.view_shot.proofs.CheckLaws.{first_report, no_report}
+use Rattle.view_shot.proofs.CheckLaws.{no_report}
 use Rattle.view_shot.proofs.check.check_view.Goals as goal
 
-pub loop-first-init : goal.loop-first-init
-loop-first-init g c = record { within = omega arith; report = c.new-report.ensures.items ∙ no_report (arc_value c.args.scene.now) c.args.view.now; most = search rules }
-
-pub returns-clause-pairs : goal.returns-clause-pairs
-returns-clause-pairs g c =
-    let end : c.loop-first.first ≡ tiles_of c.args.view.now = omega (arith, c.loop-first-test.false, c.loop-first.invariant.within, c.tiles-tiles.ensures.count) in
-    c.loop-first.invariant.report ∙ ap (first_report (arc_value c.args.scene.now) c.args.view.now) end ∙ c.report_laws.ensures.all (arc_value c.args.scene.now) c.args.view.now
+pub check_rest-requires-clause-before : goal.check_rest-requires-clause-before
+check_rest-requires-clause-before g c = λ κs h. c.new.ensures.items ∙ no_report (arc_value c.args.scene.now) c.args.view.now

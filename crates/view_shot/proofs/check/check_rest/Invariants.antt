@@ -2,7 +2,7 @@ use Rattle.std.proofs.Common.{◌≡◌, ◌≤◌, ◌-◌, length}
 use Rattle.std.specs.Arc.{arc_value}
 use Rattle.overlap_list.specs.declared.overlap.TheConstants.{MOST_PAIRS}
 use Rattle.view_shot.proofs.CheckLaws.{first_report}
-use Rattle.view_shot.proofs.check.check_view.Given as goal
+use Rattle.view_shot.proofs.check.check_rest.Given as goal
 
 abbrev pub decreases-loop-first : goal.decreases-loop-first
 decreases-loop-first g l = l.tiles - l.first

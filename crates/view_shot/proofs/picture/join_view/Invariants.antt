@@ -1,18 +1,17 @@
 use Rattle.std.proofs.Common.{map, filter}
-use Rattle.std.specs.Arc.{arc_value}
 use Rattle.ppm_write.specs.Pictures.{IsPictureOf}
 use Rattle.tile_shot.specs.Named.{is_small_name}
 use Rattle.view_shot.specs.Kept.{in_turn, moved, put_in, tile_name}
 use Rattle.view_shot.specs.Steps.{found, lacking}
 use Rattle.view_shot.proofs.TileLaws.{IsLeft}
 use Rattle.view_shot.proofs.PictureLaws.{IsLedPicture}
-use Rattle.view_shot.proofs.picture.shoot_view.Given as goal
+use Rattle.view_shot.proofs.picture.join_view.Given as goal
 
 abbrev pub invariant-loop-tile : goal.invariant-loop-tile
-invariant-loop-tile g l = record {
-  left : IsLeft (tile_name (arc_value l.scene) l.view) l.plan.names.items l.shot.items
-      (in_turn put_in (in_turn moved l.fn.kept (found l.plan.names.items)) (filter is_small_name (map (tile_name (arc_value l.scene) l.view) (lacking l.plan.names.items 0))))
+invariant-loop-tile l = record {
+  left : IsLeft (tile_name l.scene l.view) l.plan.names.items l.shot
+      (in_turn put_in (in_turn moved l.fn.kept (found l.plan.names.items)) (filter is_small_name (map (tile_name l.scene l.view) (lacking l.plan.names.items 0))))
       l.tile l.next l.kept;
   size : IsPictureOf l.view.w l.view.h l.picture.items;
-  led : IsLedPicture (arc_value l.scene) l.view l.tile l.picture.items;
+  led : IsLedPicture l.scene l.view l.tile l.picture.items;
 }

@@ -68,10 +68,12 @@ abbrev pub IsOfCheck : List Region → View → ℕ → Work → Type 0
 IsOfCheck scene view count (Picture job) = ⊥
 IsOfCheck scene view count (Check job) = (arc_value job.scene ≡ scene) × (job.view ≡ view) × (job.first ≡ 0) × (job.count ≡ count)
 
+-- both hold in one way at most, so a type can keep them
 pub of_picture_prop : (scene : List Region) (view : View) (names : List (Option TileName)) (work : Work) → IsProp (IsOfPicture scene view names work)
 of_picture_prop scene view names (Picture job) = hlevel (props, region_code, views.the_row.coded)
 of_picture_prop scene view names (Check job) = hlevel props
 
+-- and this one
 pub of_check_prop : (scene : List Region) (view : View) (count : ℕ) (work : Work) → IsProp (IsOfCheck scene view count work)
 of_check_prop scene view count (Picture job) = hlevel props
 of_check_prop scene view count (Check job) = hlevel (props, region_code, views.the_row.coded)

@@ -20,9 +20,11 @@ regions_at (place ∷ places) (body ∷ bodies) = record { place = place; path =
 abbrev pub IsNamedReport : TileName → List ℕ → Option (List Pair) → Type 0
 IsNamedReport key places pairs = IsTileReport (regions_at places key.bodies) key.view key.tile pairs
 
+-- each of these facts holds in one way at most
 report_prop : (scene : List Region) (view : View) (tile : ℕ) (pairs : Option (List Pair)) → IsProp (IsTileReport scene view tile pairs)
 report_prop scene view tile None = hlevel props
 report_prop scene view tile (Some pairs) = hlevel props
 
+-- so a type can keep it
 pub named_prop : (key : TileName) (places : List ℕ) (pairs : Option (List Pair)) → IsProp (IsNamedReport key places pairs)
 named_prop key places pairs = report_prop (regions_at places key.bodies) key.view key.tile pairs

@@ -11,3 +11,5 @@ pub mod KeepLaws
 pub mod TellLaws
 pub mod MoreLaws
 pub mod SessionLaws
+mod FlightLaws
+mod FlyLaws

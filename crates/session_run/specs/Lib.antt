@@ -1,6 +1,8 @@
 pub mod Own
 pub mod Replies
 pub mod Answers
+pub mod Pictures
+pub mod Flights
 pub mod Laws
 pub mod Kept
 pub mod Sessions

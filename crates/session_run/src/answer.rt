@@ -69,8 +69,8 @@ pub struct Answer {
 /// have. Contracts see the tiles as the list of their names, the last used first.
 #[derive(Drop)]
 pub struct Own {
-    used: u64,
-    kept: KeptTiles,
+    pub(crate) used: u64,
+    pub(crate) kept: KeptTiles,
 }
 
 impl Model for Own {
@@ -469,7 +469,7 @@ fn size(found: &Found) -> u64
 }
 
 /// The bytes that a session has used after an answer.
-fn used_with(used: u64, outcome: &Result<Found, Refusal>) -> u64
+pub(crate) fn used_with(used: u64, outcome: &Result<Found, Refusal>) -> u64
     requires { used_after used outcome.now ≤ most_used }
     ensures { result ≡ used_after used outcome.now }
 {

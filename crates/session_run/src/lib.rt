@@ -3,6 +3,7 @@
 
 mod answer;
 mod check;
+mod flight;
 mod keep;
 mod laws;
 mod limit;

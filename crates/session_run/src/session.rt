@@ -1,16 +1,20 @@
 //! Sessions: each runs its commands in sequence, over a table that other sessions share.
-ghost use Rattle.std.specs.Prelude.{◌≡◌, ◌≤◌, ◌<◌, ◌++◌, ◌∷◌, [], ℕ, true, false, IfOk, length, map, vec_len, vec_capacity};
+ghost use Rattle.std.specs.Prelude.{◌≡◌, ◌≤◌, ◌<◌, ◌++◌, ◌∷◌, [], ℕ, true, false, None, IfNone, IfOk, IfSome, IsSome, length, map, slice_set, vec_len, vec_capacity};
 ghost use Rattle.std.specs.Arc.{arc_value};
 ghost use Rattle.transcript.specs.Run.{answer_of, own_after};
 ghost use Rattle.session_merge.specs.Answered.{shown_as};
 ghost use Rattle.directory.specs.Walks.{Entries};
 ghost use Rattle.edit_core.specs.Modelling.{is_look};
 ghost use Rattle.session_run.specs.Answers.{core_answer};
+ghost use Rattle.session_run.specs.Flights.{Flies, HasRunOf, IsBegun, IsBegunNext, IsLook, IsReady, IsShot};
 ghost use Rattle.session_run.specs.Kept.{IsCurrent};
+ghost use Rattle.session_run.specs.Own.{OwnState};
+ghost use Rattle.session_run.specs.declared.answer.Answer.{Answer as AnyAnswer};
 ghost use Rattle.session_run.specs.Replies.{core_rules, most_used, nothing_used, table_outcome};
 ghost use Rattle.session_run.specs.Sessions.{HasRun, IsNext, IsCurrentPast, book_at};
 
 use crate::answer::{Answer, Found, Own, answer_look, lines_alone};
+use crate::flight::{Flight, post_shoot};
 use crate::keep::Keep;
 use command_set::{Command, Refusal};
 use directory::Directory;
@@ -22,10 +26,12 @@ use report_text::Body;
 use std::alloc::Global;
 use std::marker::Model;
 use std::sync::{Arc, Wait};
+use std::thread;
 use std::thread::Threads;
 use std::vec::Vec;
+use tile_pool::TilePool;
 use version_table::{Edited, Machine, Pass, Snapshot, VersionTable};
-use view_shot::{Executor, Parallel};
+use view_shot::{Executor, FlightJob, Parallel, Teller};
 
 /// A command, and another share of it, which goes to the table.
 #[derive(Drop)]
@@ -135,7 +141,7 @@ impl Course {
         requires table { pass.old.table ≡ table.now.id }
         requires call { 0 < pass.old.left }
         requires edits { is_look (arc_value share) ≡ false }
-        ensures { IsNext table.now.told.state (arc_value share) self.now.own pass.old pass.new result self.now.own }
+        ensures { (own : OwnState) → IsNext table.now.told.state (arc_value share) own pass.old pass.new result own }
     {
         let Edited { version, answer } = table.edit(rt, alloc, pass, share);
         let outcome = outcome_of_edit(alloc, answer);
@@ -231,6 +237,178 @@ impl Course {
     }
 }
 
+/// A command's answer, or its picture or check in flight.
+#[derive(Drop)]
+enum Begun<'a, G: Gate + Sync> {
+    Answered(Answer),
+    InFlight(Flight<'a, G>),
+}
+
+impl Course {
+    /// Puts the picture or the check that a command asks for into flight, with the directory of a version.
+    fn post<'a, R: Wait, G: Gate + Sync>(
+        &mut self,
+        pool: &TilePool<FlightJob<'a, G>>,
+        rt: &R,
+        alloc: Global,
+        teller: Teller<'a, G>,
+        version: u32,
+        directory: Arc<Directory>,
+        command: Arc<Command>,
+    ) -> Begun<'a, G>
+        requires shoots { IsShot (arc_value command) }
+        requires quota { self.old.own.used ≤ most_used }
+        requires current { IsCurrent self.old.keep version (arc_value directory).objects }
+        ensures begun { IsBegun (arc_value directory) version (arc_value command) self.old.own self.new.own result }
+        ensures quota { self.new.own.used ≤ most_used }
+        ensures current { IsCurrent self.new.keep version (arc_value directory).objects }
+        ensures session { self.new.session ≡ self.old.session }
+    {
+        let Command::Shoot(shoot) = &*command else {
+            unreachable!()
+        };
+        let own = &self.own;
+        let keep = &mut self.keep;
+        let posted = post_shoot(
+            pool, rt, alloc, teller, version, &directory, keep, own, shoot,
+        );
+        match posted {
+            Ok(Ok(flying)) => Begun::InFlight(Flight {
+                version,
+                directory,
+                command,
+                flying,
+            }),
+            Ok(Err(refusal)) => {
+                let outcome = Err(refusal);
+                Begun::Answered(Answer { version, outcome })
+            }
+            Err(_) => {
+                self.own.forget(&command);
+                let outcome = Err(Refusal::Memory);
+                Begun::Answered(Answer { version, outcome })
+            }
+        }
+    }
+
+    /// Adds a command that is no edit to the history. A picture or a check is put into flight there, and another command is
+    /// answered.
+    fn begin<'a, R: Threads + Wait + Sync, G: Gate + Sync>(
+        &mut self,
+        pool: &TilePool<FlightJob<'a, G>>,
+        rt: &R,
+        executor: &Executor<R, G>,
+        alloc: Global,
+        table: &VersionTable<Modeller>,
+        pass: &mut Pass<Modeller>,
+        teller: Teller<'a, G>,
+        task: Task,
+    ) -> Begun<'a, G>
+        requires table { pass.old.table ≡ table.now.id }
+        requires call { 0 < pass.old.left }
+        requires looks { is_look task ≡ true }
+        requires quota { self.old.own.used ≤ most_used }
+        requires current { IsCurrentPast self.old.keep table.now.told.state pass.old.seen }
+        ensures next { IsBegunNext table.now.told.state task self.old.own self.new.own pass.old pass.new result }
+        ensures quota { self.new.own.used ≤ most_used }
+        ensures current { IsCurrentPast self.new.keep table.now.told.state pass.new.seen }
+        ensures session { self.new.session ≡ self.old.session }
+    {
+        let Task { command, share } = task;
+        let Snapshot { version, state } = table.view(rt, pass, share);
+        match state {
+            Ok(directory) => {
+                if let Command::Shoot(_) = &*command {
+                    self.post(pool, rt, alloc, teller, version, directory, command)
+                } else {
+                    Begun::Answered(self.one(executor, alloc, version, &directory, &command))
+                }
+            }
+            Err(_) => {
+                self.own.forget(&command);
+                let outcome = Err(Refusal::Memory);
+                Begun::Answered(Answer { version, outcome })
+            }
+        }
+    }
+}
+
+/// A picture or a check in flight, with the place of its answer and the number of its command.
+#[derive(Drop)]
+struct Waiting<'a, G: Gate + Sync> {
+    place: usize,
+    number: u32,
+    flight: Flight<'a, G>,
+}
+
+/// The answers of a session so far. One of them only holds the place of that of a picture or a check in flight.
+#[derive(Drop)]
+struct Log<'a, G: Gate + Sync> {
+    answers: Vec<Answer>,
+    waiting: Option<Waiting<'a, G>>,
+}
+
+impl<'a, G: Gate + Sync> Log<'a, G> {
+    /// Gathers what is in flight, and puts the answer at its place.
+    fn settle<R: Threads + Sync>(
+        &mut self,
+        pool: &TilePool<FlightJob<'a, G>>,
+        rt: &R,
+        alloc: Global,
+        workers: u8,
+        session: u8,
+        gate: &G,
+        own: &mut Own,
+    )
+        requires workers { (1 ≤ workers) × (workers ≤ 16) }
+        requires quota { own.old.used ≤ most_used }
+        requires place { IfSome self.old.waiting (λ w. w.place < vec_len self.old.answers) }
+        requires flies { IfSome self.old.waiting (λ w. Flies (arc_value w.flight.directory) own.old (arc_value w.flight.command) w.flight.flying) }
+        requires shoots { IfSome self.old.waiting (λ w. IsShot (arc_value w.flight.command)) }
+        ensures some { IfSome self.old.waiting (λ w. (answer : AnyAnswer) × IsLook (arc_value w.flight.directory) w.flight.version (arc_value w.flight.command) own.old answer own.new × (self.new.answers.items ≡ slice_set self.old.answers.items w.place answer)) }
+        ensures none { IfNone self.old.waiting ((self.new.answers.items ≡ self.old.answers.items) × (own.new ≡ own.old)) }
+        ensures settled { self.new.waiting ≡ None }
+        ensures room { (vec_len self.new.answers ≡ vec_len self.old.answers) × (vec_capacity self.old.answers ≤ vec_capacity self.new.answers) }
+        ensures quota { own.new.used ≤ most_used }
+    {
+        let Some(waiting) = self.waiting.take() else {
+            return;
+        };
+        let Waiting {
+            place,
+            number,
+            flight,
+        } = waiting;
+        let executor = Executor::Parallel(Parallel {
+            rt,
+            workers,
+            session,
+            command: number,
+            gate,
+        });
+        self.answers[place] = flight.land(pool, &executor, alloc, own);
+    }
+
+    /// Holds the place of the answer of what is in flight.
+    fn hold(&mut self, number: u32, flight: Flight<'a, G>)
+        requires { vec_len self.old.answers < vec_capacity self.old.answers }
+        ensures items { (answer : AnyAnswer) × (self.new.answers.items ≡ self.old.answers.items ++ answer ∷ []) }
+        ensures some { IsSome self.new.waiting }
+        ensures waiting { IfSome self.new.waiting (λ w. (w.place ≡ vec_len self.old.answers) × (w.flight ≡ flight.entry)) }
+        ensures room { vec_capacity self.old.answers ≤ vec_capacity self.new.answers }
+    {
+        let place = self.answers.len();
+        let version = flight.version;
+        let outcome = Err(Refusal::Memory);
+        push_answer(&mut self.answers, Answer { version, outcome });
+        self.waiting = Some(Waiting {
+            place,
+            number,
+            flight,
+        });
+    }
+}
+
 impl Session {
     /// A session of these commands, which has used nothing. It takes the room for all answers, and a second share of
     /// each command.
@@ -294,6 +472,28 @@ impl Session {
         requires workers { (1 ≤ workers) × (workers ≤ 16) }
         ensures ran { HasRun table.now.told.state self.own self.commands pass.old pass.new result }
     {
+        match TilePool::new(alloc) {
+            Ok(pool) => run_served(self, rt, alloc, table, pass, workers, gate, &pool),
+            Err(_) => self.run_alone(rt, alloc, table, pass, workers, gate),
+        }
+    }
+
+    /// Runs all commands in sequence, and each picture and check whole before the next command.
+    fn run_alone<R: Threads + Wait + Sync, G: Gate + Sync>(
+        self,
+        rt: &R,
+        alloc: Global,
+        table: &VersionTable<Modeller>,
+        pass: &mut Pass<Modeller>,
+        workers: u8,
+        gate: &G,
+    ) -> Items<Answer>
+        requires table { pass.old.table ≡ table.now.id }
+        requires session { pass.old.session ≡ self.session }
+        requires calls { length self.commands ≤ pass.old.left }
+        requires workers { (1 ≤ workers) × (workers ≤ 16) }
+        ensures ran { HasRun table.now.told.state self.own self.commands pass.old pass.new result }
+    {
         let Session {
             mut course,
             tasks,
@@ -317,4 +517,120 @@ impl Session {
         }
         Items::of_vec(answers)
     }
+
+    /// Runs all commands in sequence. A picture or a check is posted to the pool, and gathered before the next command that is
+    /// no edit, and at the end.
+    fn run_over<'a, R: Threads + Wait + Sync, G: Gate + Sync>(
+        self,
+        pool: &TilePool<FlightJob<'a, G>>,
+        rt: &R,
+        alloc: Global,
+        table: &VersionTable<Modeller>,
+        pass: &mut Pass<Modeller>,
+        workers: u8,
+        gate: &'a G,
+    ) -> Items<Answer>
+        requires table { pass.old.table ≡ table.now.id }
+        requires session { pass.old.session ≡ self.session }
+        requires calls { length self.commands ≤ pass.old.left }
+        requires workers { (1 ≤ workers) × (workers ≤ 16) }
+        ensures ran { HasRun table.now.told.state self.own self.commands pass.old pass.new result }
+    {
+        let Session {
+            mut course,
+            tasks,
+            answers,
+        } = self;
+        // What it keeps may be of another directory than the table's.
+        course.keep = Keep::new(alloc);
+        let session = course.session;
+        let mut log = Log {
+            answers,
+            waiting: None,
+        };
+        let mut command: u32 = 0;
+        for task in tasks {
+            command = command.saturating_add(1);
+            if Modeller::looks(&task.command) {
+                log.settle(pool, rt, alloc, workers, session, gate, &mut course.own);
+                let executor = Executor::Parallel(Parallel {
+                    rt,
+                    workers,
+                    session,
+                    command,
+                    gate,
+                });
+                let teller = Teller {
+                    gate,
+                    session,
+                    command,
+                };
+                match course.begin(pool, rt, &executor, alloc, table, pass, teller, task) {
+                    Begun::Answered(answer) => push_answer(&mut log.answers, answer),
+                    Begun::InFlight(flight) => log.hold(command, flight),
+                }
+            } else {
+                let answer = course.edit(rt, alloc, table, pass, gate, task.share);
+                push_answer(&mut log.answers, answer);
+            }
+        }
+        log.settle(pool, rt, alloc, workers, session, gate, &mut course.own);
+        Items::of_vec(log.answers)
+    }
+}
+
+/// Has as many threads as are given serve the pool, until it is stopped.
+fn serve_all<'a, R: Threads + Wait + Sync, G: Gate + Sync>(
+    rt: &R,
+    alloc: Global,
+    pool: &TilePool<FlightJob<'a, G>>,
+    threads: u8,
+) {
+    let _served = thread::map_indices(
+        rt,
+        alloc,
+        usize::from(threads),
+        &|_| {
+            pool.serve(rt, alloc);
+        },
+    );
+}
+
+/// Runs a session while the other workers serve the pool.
+fn run_served<'a, R: Threads + Wait + Sync, G: Gate + Sync>(
+    session: Session,
+    rt: &R,
+    alloc: Global,
+    table: &VersionTable<Modeller>,
+    pass: &mut Pass<Modeller>,
+    workers: u8,
+    gate: &'a G,
+    pool: &TilePool<FlightJob<'a, G>>,
+) -> Items<Answer>
+    requires table { pass.old.table ≡ table.now.id }
+    requires session { pass.old.session ≡ session.session }
+    requires calls { length session.commands ≤ pass.old.left }
+    requires workers { (1 ≤ workers) × (workers ≤ 16) }
+    ensures ran { HasRun table.now.told.state session.own session.commands pass.old pass.new result }
+{
+    let mut waiting = Some(session);
+    let others = workers - 1;
+    let (_served, answers) = thread::join_mut(
+        rt,
+        &mut || serve_all(rt, alloc, pool, others),
+        &mut || -> Items<Answer>
+            requires table { pass.now.table ≡ table.now.id }
+            requires ready { IsReady waiting pass.now }
+            requires workers { (1 ≤ workers) × (workers ≤ 16) }
+            ensures ran { HasRunOf table.entry.now.told.state waiting.entry pass.entry.now pass.exit.now result }
+        {
+            let Some(session) = waiting.take() else {
+                unreachable!()
+            };
+            let answers = session.run_over(pool, rt, alloc, table, pass, workers, gate);
+            pool.stop(rt);
+            answers
+        },
+    );
+    answers
 }

@@ -135,6 +135,45 @@ impl Gate for WorkersMeet {
     }
 }
 
+/// Holds the commit of version 5 until tile 0 was begun, and each beginning of tile 0 until version 5 was committed.
+#[derive(Drop)]
+pub(crate) struct EditMeetsPicture {
+    begun: AtomicU32,
+    committed: AtomicU32,
+    holds: Holds,
+}
+
+impl EditMeetsPicture {
+    pub(crate) fn new() -> EditMeetsPicture {
+        EditMeetsPicture {
+            begun: AtomicU32::new(0),
+            committed: AtomicU32::new(0),
+            holds: Holds::new(),
+        }
+    }
+
+    /// Whether tile 0 was begun, version 5 committed, and each hold ended so.
+    pub(crate) fn have_met(&self) -> bool {
+        0 < counted(&self.begun) && counted(&self.committed) == 1 && self.holds.never_ended()
+    }
+}
+
+impl Gate for EditMeetsPicture {
+    fn at(&self, event: GateEvent) {
+        match event {
+            GateEvent::TileBegin { tile: 0, .. } => {
+                count(&self.begun);
+                self.holds.hold(&self.committed, 1);
+            }
+            GateEvent::Committed { version: 5, .. } => {
+                count(&self.committed);
+                self.holds.hold(&self.begun, 1);
+            }
+            _ => {}
+        }
+    }
+}
+
 /// How many commands, tiles and versions a record has room for.
 const COMMANDS: u32 = 10;
 

@@ -1,6 +1,6 @@
 //! Runs in which threads meet, and what a run tells its gate.
 
-use crate::gates::{EventRecord, SessionsMeet, WorkersMeet};
+use crate::gates::{EditMeetsPicture, EventRecord, SessionsMeet, WorkersMeet};
 use crate::running::run_script;
 use mged_top::Status;
 use std::test::Fail;
@@ -19,6 +19,15 @@ in b rpp 20 30 0 10 0 10
 r a.r u a
 r b.r u b
 rt p.ppm -z 0 15 100 1 32 16 a.r b.r
+";
+
+/// The same picture, and then an edit that gives one of the boxes another colour.
+const PICTURE_AND_EDIT: &[u8] = b"in a rpp 0 10 0 10 0 10
+in b rpp 20 30 0 10 0 10
+r a.r u a
+r b.r u b
+rt p.ppm -z 0 15 100 1 32 16 a.r b.r
+cattr b.r rgb 255 0 0
 ";
 
 /// The same picture, then with another colour of one box, and once more. One edit, between them, is refused.
@@ -68,6 +77,24 @@ fn two_workers_shoot_the_tiles_of_one_picture_at_once(rt: HostRuntime) -> Result
     assert!(rt;
         ended.sink.bytes().ends_with(b"\npicture p.ppm 32 16 tiles 2 shot 2 reused 0\n".as_slice())
     );
+    Ok(())
+}
+
+#[test]
+fn an_edit_is_committed_while_the_picture_before_it_is_shot(rt: HostRuntime) -> Result<(), Fail> {
+    let gate = EditMeetsPicture::new();
+    let ended = run_script(&rt, &["--workers", "2"], PICTURE_AND_EDIT, &gate)?;
+    assert!(rt; gate.have_met());
+    assert_eq!(rt; ended.status, Status::Done);
+    assert!(rt;
+        ended.sink.bytes().ends_with(
+            b"\n1.5 ok v4 1\npicture p.ppm 32 16 tiles 2 shot 2 reused 0\n1.6 ok v5 0\n".as_slice()
+        )
+    );
+    let [file] = ended.shelf.puts() else {
+        return Err(Fail::new("not one file"));
+    };
+    assert!(rt; is_white(file.bytes.items(), 25, 10) == Some(true));
     Ok(())
 }
 

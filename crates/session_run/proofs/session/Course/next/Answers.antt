@@ -3,4 +3,5 @@ use Rattle.session_run.proofs.session.Course.next.Goals as goal
 
 pub returns-clause-current : goal.returns-clause-current
 returns-clause-current g c =
-    current_next c.args.self.now.keep c.args.table.now.told.state c.edit.ensures.before _ c.args.pass.now c.edit.new.pass c.edit.ensures.adds c.requires.current
+    let next = c.edit.ensures c.args.self.now.own in
+    current_next c.args.self.now.keep c.args.table.now.told.state next.before _ c.args.pass.now c.edit.new.pass next.adds c.requires.current

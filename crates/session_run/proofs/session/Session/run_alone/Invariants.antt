@@ -2,7 +2,7 @@ use Rattle.std.proofs.Common.{◌≡◌, ◌≤◌, length, vec_len, vec_capacit
 use Rattle.session_run.specs.Replies.{most_used}
 use Rattle.session_run.specs.Sessions.{IsCurrentPast}
 use Rattle.session_run.proofs.SessionLaws.{Holds}
-use Rattle.session_run.proofs.session.Session.run.Given as goal
+use Rattle.session_run.proofs.session.Session.run_alone.Given as goal
 
 abbrev pub invariant-loop-task : goal.invariant-loop-task
 invariant-loop-task g l = record {

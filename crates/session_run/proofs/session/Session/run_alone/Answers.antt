@@ -6,7 +6,7 @@ use Rattle.session_run.specs.Sessions.{SessionView}
 use Rattle.session_run.specs.declared.answer.Answer.{Answer}
 use Rattle.session_run.specs.Own.{OwnState}
 use Rattle.session_run.proofs.SessionLaws.{Holds, holds_first, holds_next}
-use Rattle.session_run.proofs.session.Session.run.Goals as goal
+use Rattle.session_run.proofs.session.Session.run_alone.Goals as goal
 
 pub loop-task-init : goal.loop-task-init
 loop-task-init g c =

@@ -19,6 +19,7 @@ pub mod InBoxes
 pub mod Missing
 pub mod TileMeeting
 pub mod OwnClaims
+pub mod FeedLaws
 pub mod FirstHits
 pub mod KeptSeen
 pub mod KeptOverlaps

@@ -1,6 +1,7 @@
 //! The regions of a scene that a tile of a view needs, and those that may overlap another one.
 
 ghost use Rattle.std.specs.Prelude.{◌≡◌, ◌<◌, ◌++◌, ◌∷◌, [], All, IfOk, cond, length, map, slice_index_or};
+ghost use Rattle.std.specs.Arc.{arc_value};
 ghost use Rattle.lattice_core.specs.Views.{IsChecked};
 ghost use Rattle.lattice_core.specs.Tiles.{tiles_of};
 ghost use Rattle.shot_core.specs.Regions.{has_air};
@@ -9,8 +10,9 @@ ghost use Rattle.shot_core.specs.Pruned.{share_points, kept_for};
 ghost use Rattle.shot_core.specs.Steps.{no_region};
 ghost use Rattle.shot_core.specs.Candidates.{do_touch, touches_some, is_candidate, candidates_of};
 
-use crate::region::SceneRegion;
+use crate::region::{PrepRegion, SceneRegion};
 use crate::scene::Scene;
+use item_list::Items;
 use lattice_core::{Box3, View, boxes_meet};
 use memory_core::Memory;
 use std::alloc::Global;
@@ -79,6 +81,38 @@ pub fn kept_regions(alloc: Global, scene: &Scene, view: &View, tile: u32) -> Res
     scene.reach_tile(view, tile, &mut places)?;
     let kept = shares_of(alloc, scene.regions(), &places)?;
     Scene::new(alloc, kept)
+}
+
+/// What the regions at some places in their list are.
+fn bodies_at(
+    alloc: Global,
+    regions: &[SceneRegion],
+    places: &[u32],
+) -> Result<Items<Arc<PrepRegion>>, Memory>
+    requires { All (λ i. i < length regions.now) places.now }
+    ensures { IfOk result (λ bodies. map arc_value bodies ≡ map (λ i. (slice_index_or regions.now i no_region).body) places.now) }
+{
+    let mut bodies = Vec::with_capacity(alloc, places.len())?;
+    for place in places {
+        bodies.push(regions[*place as usize].body().clone()?)?;
+    }
+    Ok(Items::of_vec(bodies))
+}
+
+/// What the regions of `kept_regions` are, in their order. It makes no scene.
+pub fn kept_bodies(
+    alloc: Global,
+    scene: &Scene,
+    view: &View,
+    tile: u32,
+) -> Result<Items<Arc<PrepRegion>>, Memory>
+    requires view { IsChecked view.now }
+    requires tile { tile < tiles_of view.now }
+    ensures { IfOk result (λ bodies. map arc_value bodies ≡ map (λ r. r.body) (kept_for scene.now view.now tile)) }
+{
+    let mut places = Vec::new(alloc);
+    scene.reach_tile(view, tile, &mut places)?;
+    bodies_at(alloc, scene.regions(), &places)
 }
 
 fn has_air(region: &SceneRegion) -> bool

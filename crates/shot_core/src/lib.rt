@@ -2,6 +2,7 @@
 #![tactic(auto)]
 
 mod beside;
+mod digest;
 mod first;
 mod front;
 mod hit;
@@ -20,7 +21,7 @@ mod tree_box;
 mod tree_value;
 
 pub use first::Seen;
-pub use kept::{MOST_COMPARED, kept_regions, overlap_candidates};
+pub use kept::{MOST_COMPARED, kept_bodies, kept_regions, overlap_candidates};
 pub use laws::{box_laws, claim_box_laws, first_seen_laws, kept_laws, segment_laws};
 pub use limit::{MOST_LEAVES, limit_laws};
 pub use near::near_order;

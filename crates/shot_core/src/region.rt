@@ -1,3 +1,4 @@
+use crate::digest::body_digest;
 use crate::tree_box::tree_box;
 use bool_weave::{MaskNode, MaskTree};
 use item_list::Items;
@@ -12,8 +13,8 @@ use std::sync::Arc;
 /// The path of names that leads to a region.
 pub type PathText = Items<u8>;
 
-/// What a region is wherever it stands in a scene: its number, its air, its colour, its tree, its solids, its size and its
-/// box. Contracts see all but the last two, which are those of the tree.
+/// What a region is wherever it stands in a scene: its number, its air, its colour, its tree, its solids, its size, its box
+/// and its hash. Contracts see all but the last three, which follow from the others.
 #[derive(Debug, Drop)]
 pub struct PrepRegion {
     id: u32,
@@ -23,10 +24,12 @@ pub struct PrepRegion {
     solids: Vec<Placed>,
     size: u32,
     bounds: Box3,
+    digest: u64,
 }
 
 impl Model for PrepRegion {
-    ghost use Rattle.std.specs.Prelude.{map};
+    ghost use Rattle.std.specs.Prelude.{◌≡◌, map};
+    ghost use Rattle.shot_core.specs.Digests.{body_digest};
     ghost use Rattle.shot_core.specs.Regions.{RegionBody};
     ghost use Rattle.shot_core.specs.Prepared.{instance_of, IsPrepared, body_code};
 
@@ -36,7 +39,7 @@ impl Model for PrepRegion {
 
     ghost view = { λ s. record { id = s.id; air = s.air; rgb = s.rgb; tree = s.tree; instances = map instance_of s.solids.items } };
 
-    ghost invariant = { λ s. IsPrepared s.tree (map instance_of s.solids.items) s.size s.bounds };
+    ghost invariant = { λ s. IsPrepared s.tree (map instance_of s.solids.items) s.size s.bounds × (s.digest ≡ body_digest (record { id = s.id; air = s.air; rgb = s.rgb; tree = s.tree; instances = map instance_of s.solids.items })) };
 }
 
 ghost use Rattle.std.specs.Prelude.{◌≡◌, ◌<◌, ◌^◌, length, filter};
@@ -67,6 +70,7 @@ impl PrepRegion {
     ghost use Rattle.tree_forms.specs.Trees.{leaves};
     ghost use Rattle.shot_core.specs.Regions.{size_of, HasLeavesBelow, IsPlacedSolid};
     ghost use Rattle.shot_core.specs.Prepared.{instance_of, boxes_of};
+    ghost use Rattle.shot_core.specs.Digests.{body_digest};
     ghost use Rattle.shot_core.specs.TreeBoxes.{tree_box};
 
     /// The region of these parts. Leaf `i` of the tree stands for solid `i`.
@@ -84,6 +88,7 @@ impl PrepRegion {
     {
         let bounds = tree_box(alloc, tree.nodes(), &solids)?;
         let size = leaf_count(tree.nodes());
+        let digest = body_digest(id, air, &rgb, &tree, &solids);
         Ok(PrepRegion {
             id,
             air,
@@ -92,6 +97,7 @@ impl PrepRegion {
             solids,
             size,
             bounds,
+            digest,
         })
     }
 
@@ -145,6 +151,13 @@ impl PrepRegion {
         ensures { result ≡ tree_box (boxes_of self.now.instances) self.now.tree }
     {
         self.bounds
+    }
+
+    /// The hash of all that contracts see of it. It is taken once, as the name of each tile that shows the region wants it.
+    pub fn digest(&self) -> u64
+        ensures { result ≡ body_digest self.now }
+    {
+        self.digest
     }
 }
 

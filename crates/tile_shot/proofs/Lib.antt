@@ -1,7 +1,6 @@
 pub mod ShotLaws
 pub mod RowLaws
 pub mod BodyLaws
-pub mod FeedLaws
 pub mod TileLaws
 pub mod Merging
 pub mod Spotting

@@ -5,17 +5,13 @@ use Rattle.std.specs.Hash.{HashWrites}
 use Rattle.std.specs.Hash.FoldHasher as folding
 use Rattle.std.specs.Cmp.Lexicographic.{pointwise}
 use Rattle.region_attr.specs.contracts.attr.RgbPartialEq.TheImpl as colours
-use Rattle.region_attr.specs.contracts.attr.RgbHash.TheImpl as hashed_colours
 use Rattle.lattice_core.specs.contracts.boxes.Box3PartialEq.TheImpl as boxes
-use Rattle.lattice_core.specs.contracts.boxes.Box3Hash.TheImpl as hashed_boxes
 use Rattle.lattice_core.specs.contracts.view.ViewPartialEq.TheImpl as views
 use Rattle.lattice_core.specs.contracts.view.ViewHash.TheImpl as hashed_views
 use Rattle.solid_set.specs.contracts.surface.SurfacePartialEq.TheImpl as surfaces
-use Rattle.solid_set.specs.contracts.surface.SurfaceHash.TheImpl as hashed_surfaces
-use Rattle.bool_weave.specs.declared.mask.MaskNode.{MaskNode}
-use Rattle.bool_weave.specs.declared.mask.MaskNode.TheVariants as node
 use Rattle.bool_weave.specs.Masks.{mask_nodes}
 use Rattle.bool_weave.specs.contracts.mask.MaskNodePartialEq.TheImpl as nodes
+use Rattle.shot_core.specs.Digests.{body_digest}
 use Rattle.shot_core.specs.Regions.{Instance, RegionBody}
 use Rattle.tile_shot.specs.Named.{TileName}
 
@@ -31,27 +27,15 @@ same_body a b =
 abbrev pub same_name : TileName → TileName → Bool
 same_name a b = views.eq-value.it a.view b.view && ((a.tile == b.tile) && pointwise same_body a.bodies b.bodies)
 
--- what a hasher is fed of a node of a tree: its kind, and the number of a leaf
-abbrev pub node_input : MaskNode → HashWrites
-node_input (node.Leaf n) = fed.u8 0 ++ fed.u32 n
-node_input node.Never = fed.u8 1
-node_input node.U = fed.u8 2
-node_input node.N = fed.u8 3
-node_input node.Minus = fed.u8 4
+-- what a hasher is fed of the hash of a body
+abbrev pub digest_fed : RegionBody → HashWrites
+digest_fed body = fed.u64 (body_digest body)
 
-abbrev pub instance_input : Instance → HashWrites
-instance_input i = hashed_surfaces.hash_input-value.it i.surface ++ hashed_boxes.hash_input-value.it i.bounds
-
--- what a hasher is fed of a body: all that is compared of it
-abbrev pub body_input : RegionBody → HashWrites
-body_input b =
-    fed.u32 b.id ++ (fed.u32 b.air ++ (hashed_colours.hash_input-value.it b.rgb ++ (fed.slice node_input (mask_nodes b.tree) ++ fed.slice instance_input b.instances)))
-
--- all that is compared of a name: the view, the number of the tile, and the bodies
+-- a view, the number of a tile, and the hashes of the bodies
 abbrev pub name_input : TileName → HashWrites
-name_input key = hashed_views.hash_input-value.it key.view ++ (fed.u32 key.tile ++ fed.slice body_input key.bodies)
+name_input key = hashed_views.hash_input-value.it key.view ++ (fed.u32 key.tile ++ fed.slice digest_fed key.bodies)
 
--- the hash of all that is compared of a name
+-- the hash of a name
 unfoldable pub digest_of : TileName → ℕ
 digest_of name = folding.finish (fold folding.write folding.initial (name_input name))
 

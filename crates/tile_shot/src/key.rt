@@ -126,7 +126,20 @@ impl TileKey {
         requires tile { tile < tiles_of view.now }
         ensures { IfOk result (λ key. key ≡ name_of scene.now view.now tile) }
     {
-        let bodies = bodies_of(alloc, scene)?;
+        TileKey::of_bodies(alloc, bodies_of(alloc, scene)?, view, tile)
+    }
+
+    /// The name of a tile of a view in which the regions are these.
+    pub fn of_bodies(
+        alloc: Global,
+        bodies: Items<Arc<PrepRegion>>,
+        view: &View,
+        tile: u32,
+    ) -> Result<TileKey, Memory>
+        requires view { IsChecked view.now }
+        requires tile { tile < tiles_of view.now }
+        ensures { IfOk result (λ key. key ≡ record { view = view.now; tile = tile; bodies = map arc_value bodies }) }
+    {
         let digest = digest_of(view, tile, bodies.items());
         let bodies = Arc::new(alloc, bodies)?;
         Ok(TileKey {

@@ -20,5 +20,5 @@ pub use limit::{MOST_TILE_SIZE, limit_laws};
 pub use merge::merge_pairs;
 pub use report_law::report_laws;
 pub use shot_core::Pair;
-pub use small::has_small_bodies;
+pub use small::are_small;
 pub use tile::{Tile, shoot_tile};

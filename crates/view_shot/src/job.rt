@@ -8,7 +8,7 @@ use crate::kept::SharedTile;
 use crate::named::{SharedPairs, TilePairs, pairs_of_tile, places_of};
 use lattice_core::View;
 use memory_core::Memory;
-use shot_core::{Scene, kept_regions};
+use shot_core::{Scene, kept_bodies, kept_regions};
 use std::alloc::Global;
 use std::sync::Arc;
 use std::vec::Vec;
@@ -38,8 +38,8 @@ impl TileJob {
         ensures { IfOk result (λ key. key ≡ tile_name (arc_value self.now.scene) self.now.view (slice_index_or self.now.tiles.items i 0)) }
     {
         let tile = self.tiles[i as usize];
-        let kept = kept_regions(alloc, &self.scene, &self.view, tile)?;
-        TileKey::new(alloc, &kept, &self.view, tile)
+        let bodies = kept_bodies(alloc, &self.scene, &self.view, tile)?;
+        TileKey::of_bodies(alloc, bodies, &self.view, tile)
     }
 
     /// Another share of a tile, where it is named as that of a piece.

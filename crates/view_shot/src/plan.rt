@@ -8,10 +8,10 @@ ghost use Rattle.view_shot.specs.Steps.{found, if_kept};
 use crate::kept::KeptTiles;
 use lattice_core::View;
 use memory_core::Memory;
-use shot_core::{Scene, kept_regions};
+use shot_core::{Scene, kept_bodies};
 use std::alloc::Global;
 use std::vec::Vec;
-use tile_shot::{TileKey, has_small_bodies};
+use tile_shot::{TileKey, are_small};
 
 /// For each tile of a view what names it, where a tile of that name is kept.
 #[derive(Drop)]
@@ -34,11 +34,11 @@ fn look_up(
     if kept.is_empty() {
         return Ok(None);
     }
-    let regions = kept_regions(alloc, scene, view, tile)?;
-    if !has_small_bodies(&regions) {
+    let bodies = kept_bodies(alloc, scene, view, tile)?;
+    if !are_small(bodies.items()) {
         return Ok(None);
     }
-    let name = TileKey::new(alloc, &regions, view, tile)?;
+    let name = TileKey::of_bodies(alloc, bodies, view, tile)?;
     if kept.has(&name) {
         Ok(Some(name))
     } else {

@@ -14,11 +14,13 @@ leaf_count-size-requires c = omega (arith, c.requires.few, ap (λ ns. length (fi
 
 pub invariant_of-result : goal.invariant_of-result
 invariant_of-result c =
-    let counted : vec_len c.args.solids ≡ length (map instance_of c.args.solids.items) = search rules ∙ sym (length-map c.args.solids.items instance_of) in
-    record {
-      leaves = subst (λ n. HasLeavesBelow n c.args.tree) counted c.requires.leaves;
-      size_is = c.leaf_count-size.ensures ∙ ap (λ ns. length (filter is_leaf ns)) c.nodes-2.ensures ∙ leaves_counted c.args.tree;
-      bounds_is = c.in_ok-bounds.ensures
-          ∙ ap (λ l. tree_box (boxes_of (map instance_of l)) (mask_of c.nodes.result.now)) c.deref.ensures.value
-          ∙ ap (tree_box (boxes_of (map instance_of c.args.solids.items))) (ap mask_of c.nodes.ensures ∙ mask_back c.args.tree);
-    }
+    let counted : vec_len c.args.solids ≡ length (map instance_of c.args.solids.items) = search rules ∙ sym (length-map c.args.solids.items instance_of) in (
+      record {
+        leaves = subst (λ n. HasLeavesBelow n c.args.tree) counted c.requires.leaves;
+        size_is = c.leaf_count-size.ensures ∙ ap (λ ns. length (filter is_leaf ns)) c.nodes-2.ensures ∙ leaves_counted c.args.tree;
+        bounds_is = c.in_ok-bounds.ensures
+            ∙ ap (λ l. tree_box (boxes_of (map instance_of l)) (mask_of c.nodes.result.now)) c.deref.ensures.value
+            ∙ ap (tree_box (boxes_of (map instance_of c.args.solids.items))) (ap mask_of c.nodes.ensures ∙ mask_back c.args.tree);
+      },
+      search rules,
+    )

@@ -1,7 +1,7 @@
 use Rattle.std.proofs.Common.{◌≡◌, length, take, fold, flat_map}
 use Rattle.std.specs.Hash as fed
-use Rattle.tile_shot.specs.Same.{node_input}
-use Rattle.tile_shot.proofs.feed.feed_nodes.Given as goal
+use Rattle.shot_core.specs.Digests.{node_input}
+use Rattle.shot_core.proofs.digest.feed_nodes.Given as goal
 
 abbrev pub invariant-loop-node : goal.invariant-loop-node
 invariant-loop-node g l =

@@ -11,7 +11,7 @@ use Rattle.command_set.specs.declared.command.Command.{Command}
 use Rattle.directory.specs.Listing.{Listing}
 use Rattle.edit_core.specs.Modelling.{commits, is_look, next}
 use Rattle.command_set.specs.declared.refusal.Refusal.TheVariants.{Memory}
-use Rattle.session_run.specs.Flights.{Flies, IsBegun, IsBegunNext, IsLook, IsPostedNext, IsShot}
+use Rattle.session_run.specs.Flights.{Flies, IsBegun, IsBegunNext, IsLook, IsPostedNext, IsShooting}
 use Rattle.session_run.specs.Replies.{forgotten}
 use Rattle.session_run.specs.declared.session.Begun.{Begun}
 use Rattle.session_run.specs.declared.session.Begun.TheVariants.{Answered, InFlight}
@@ -77,7 +77,7 @@ abbrev pub IsOpen : {X : Type 0} → Listing → OwnState → List Command → P
 IsOpen opening first commands old new answers None own = Holds opening first commands old new answers own
 IsOpen opening first commands old new answers (Some w) own =
     IsAwaited opening first commands old new answers own (arc_value w.flight.directory) w.flight.version (arc_value w.flight.command) w.place
-    × Flies (arc_value w.flight.directory) own (arc_value w.flight.command) w.flight.flying × IsShot (arc_value w.flight.command)
+    × Flies (arc_value w.flight.directory) own (arc_value w.flight.command) w.flight.flying × IsShooting (arc_value w.flight.command)
 
 module _ {X : Type 0} (opening : Listing) (first own : OwnState) (commands : List Command) (old new : PassView Command) (answers : List Answer) where
   -- what is in flight is gathered
@@ -112,7 +112,7 @@ module _ {X : Type 0} (opening : Listing) (first own : OwnState) (commands : Lis
       (await_next opening first own commands command old new newer answers answer (arc_value w.flight.directory) w.flight.version (arc_value w.flight.command) w.place next h.0, h.1, h.2)
 
 -- a command was begun at the state that its entry finds
-pub begun_next : {X : Type 0} (opening : Listing) (command : Command) (own kept : OwnState) (old new : PassView Command) (d : Listing) (version : ℕ) (asked : Command) (begun : Begun X) → is_look command ≡ true → IsShot command
+pub begun_next : {X : Type 0} (opening : Listing) (command : Command) (own kept : OwnState) (old new : PassView Command) (d : Listing) (version : ℕ) (asked : Command) (begun : Begun X) → is_look command ≡ true → IsShooting command
     → (before : List (Noted Command)) → Adds before (note_of old.session command false) old new → version ≡ commits_in next commits opening new.seen → d ≡ state_after next opening new.seen → asked ≡ command
     → IsBegun d version asked own kept begun → IsBegunNext opening command own kept old new begun
 begun_next opening command own kept old new d version asked (Answered answer) looks shoots before adds version_is d_is asked_is is =
@@ -145,8 +145,8 @@ open_posted {X} opening first own kept commands command old mid new answers told
     subst (λ (o : OwnState). Flies d o asked f.flying) (sym posted.kept_is) (subst (λ (c : Command). Flies d own c f.flying) (sym posted.asked_is) flies) in
     subst
     (λ (x : Flight X).
-    IsAwaited opening first cs old new told kept (arc_value x.directory) x.version (arc_value x.command) w.place × Flies (arc_value x.directory) kept (arc_value x.command) x.flying × IsShot (arc_value x.command))
-    (sym at.1) (five, flown, subst IsShot (sym posted.asked_is) posted.shoots)
+    IsAwaited opening first cs old new told kept (arc_value x.directory) x.version (arc_value x.command) w.place × Flies (arc_value x.directory) kept (arc_value x.command) x.flying × IsShooting (arc_value x.command))
+    (sym at.1) (five, flown, subst IsShooting (sym posted.asked_is) posted.shoots)
 
 -- a session that has answered all its commands has run
 pub has_run : (opening : Listing) (first kept : OwnState) (commands : List Command) (old new : PassView Command) (answers : List Answer) → Holds opening first commands old new answers kept → HasRun opening first commands old new answers

@@ -48,8 +48,8 @@ Flies d own command (Picture p) = IsPictureFor d own command (arc_value p.flight
 Flies d own command (Check c) = IsCheckFor d own command (arc_value c.scene) (arc_value c.flight.scene) c.flight.view
 
 -- a command that shoots each ray of a view
-abbrev pub IsShot : Command → Type 0
-IsShot command = (shoot : Shoot) × (command ≡ IsShoot shoot)
+abbrev pub IsShooting : Command → Type 0
+IsShooting command = (shoot : Shoot) × (command ≡ IsShoot shoot)
 
 -- an answer, and what the session has of its own after it, are those of the command at this directory and version
 abbrev pub IsLook : Listing → ℕ → Command → OwnState → Answer → OwnState → Type 0
@@ -69,7 +69,7 @@ pub record IsPostedNext (opening : Listing) (command : Command) (own : OwnState)
   pub directory_is : d ≡ state_after next opening new.seen
   pub asked_is : asked ≡ command
   pub kept_is : kept ≡ own
-  pub shoots : IsShot command
+  pub shoots : IsShooting command
 
 -- a command was answered as the session's next entry, or is in flight from there
 abbrev pub IsBegunNext : {X : Type 0} → Listing → Command → OwnState → OwnState → PassView Command → PassView Command → Begun X → Type 0

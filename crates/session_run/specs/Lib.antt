@@ -8,3 +8,4 @@ pub mod Kept
 pub mod Sessions
 pub mod Examples
 pub mod SessionExamples
+pub mod FlightExamples

@@ -6,7 +6,7 @@ ghost use Rattle.command_set.specs.declared.command.Command.TheVariants.{Shoot a
 ghost use Rattle.command_set.specs.declared.command.Shoot.TheVariants.{Check as IsCheck, Picture as IsPicture};
 ghost use Rattle.directory.specs.Walks.{Entries};
 ghost use Rattle.scene_prep.specs.Outcomes.{IsSceneOf, prep_fault};
-ghost use Rattle.session_run.specs.Flights.{Flies, IsLook, IsShot};
+ghost use Rattle.session_run.specs.Flights.{Flies, IsLook, IsShooting};
 ghost use Rattle.session_run.specs.Kept.{IsCurrent};
 ghost use Rattle.session_run.specs.Replies.{forgotten, found_unless, most_used, outcome_of, tiles_by, tiles_with, within_quota};
 ghost use Rattle.session_run.specs.declared.answer.Found.{Found as AnyFound};
@@ -186,7 +186,7 @@ fn gather<'a, R: Threads + Sync, G: Gate + Sync>(
 ) -> Result<Result<Found, Refusal>, Memory>
     requires quota { own.old.used ≤ most_used }
     requires flies { Flies _directory.now own.old _command.now flying }
-    requires shoots { IsShot _command.now }
+    requires shoots { IsShooting _command.now }
     ensures outcome { IfOk result (λ outcome. outcome ≡ outcome_of _directory.now own.old _command.now) }
     ensures tiles { IfOk result (λ outcome. own.new.tiles ≡ tiles_by outcome (tiles_with _directory.now own.old.tiles _command.now) own.old.tiles) }
     ensures used { own.new.used ≡ own.old.used }
@@ -222,7 +222,7 @@ impl<'a, G: Gate + Sync> Flight<'a, G> {
     ) -> Answer
         requires quota { own.old.used ≤ most_used }
         requires flies { Flies (arc_value self.directory) own.old (arc_value self.command) self.flying }
-        requires shoots { IsShot (arc_value self.command) }
+        requires shoots { IsShooting (arc_value self.command) }
         ensures look { IsLook (arc_value self.entry.directory) self.entry.version (arc_value self.entry.command) own.old result own.new }
         ensures quota { own.new.used ≤ most_used }
     {

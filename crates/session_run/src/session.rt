@@ -6,7 +6,7 @@ ghost use Rattle.session_merge.specs.Answered.{shown_as};
 ghost use Rattle.directory.specs.Walks.{Entries};
 ghost use Rattle.edit_core.specs.Modelling.{is_look};
 ghost use Rattle.session_run.specs.Answers.{core_answer};
-ghost use Rattle.session_run.specs.Flights.{Flies, HasRunOf, IsBegun, IsBegunNext, IsLook, IsReady, IsShot};
+ghost use Rattle.session_run.specs.Flights.{Flies, HasRunOf, IsBegun, IsBegunNext, IsLook, IsReady, IsShooting};
 ghost use Rattle.session_run.specs.Kept.{IsCurrent};
 ghost use Rattle.session_run.specs.Own.{OwnState};
 ghost use Rattle.session_run.specs.declared.answer.Answer.{Answer as AnyAnswer};
@@ -256,7 +256,7 @@ impl Course {
         directory: Arc<Directory>,
         command: Arc<Command>,
     ) -> Begun<'a, G>
-        requires shoots { IsShot (arc_value command) }
+        requires shoots { IsShooting (arc_value command) }
         requires quota { self.old.own.used ≤ most_used }
         requires current { IsCurrent self.old.keep version (arc_value directory).objects }
         ensures begun { IsBegun (arc_value directory) version (arc_value command) self.old.own self.new.own result }
@@ -364,7 +364,7 @@ impl<'a, G: Gate + Sync> Log<'a, G> {
         requires quota { own.old.used ≤ most_used }
         requires place { IfSome self.old.waiting (λ w. w.place < vec_len self.old.answers) }
         requires flies { IfSome self.old.waiting (λ w. Flies (arc_value w.flight.directory) own.old (arc_value w.flight.command) w.flight.flying) }
-        requires shoots { IfSome self.old.waiting (λ w. IsShot (arc_value w.flight.command)) }
+        requires shoots { IfSome self.old.waiting (λ w. IsShooting (arc_value w.flight.command)) }
         ensures some { IfSome self.old.waiting (λ w. (answer : AnyAnswer) × IsLook (arc_value w.flight.directory) w.flight.version (arc_value w.flight.command) own.old answer own.new × (self.new.answers.items ≡ slice_set self.old.answers.items w.place answer)) }
         ensures none { IfNone self.old.waiting ((self.new.answers.items ≡ self.old.answers.items) × (own.new ≡ own.old)) }
         ensures settled { self.new.waiting ≡ None }

@@ -30,13 +30,27 @@ rt p.ppm -z 0 15 100 1 32 16 a.r b.r
 cattr b.r rgb 255 0 0
 ";
 
-/// The same picture, then with another colour of one box, and once more. One edit, between them, is refused.
+/// A check of the two boxes, and then an edit that gives one of them another colour.
+const CHECK_AND_EDIT: &[u8] = b"in a rpp 0 10 0 10 0 10
+in b rpp 20 30 0 10 0 10
+r a.r u a
+r b.r u b
+rtcheck -z 0 15 100 1 32 16 a.r b.r
+cattr b.r rgb 255 0 0
+";
+
+/// Two edits, and between them one that is refused.
+const REFUSED_EDIT: &[u8] = b"in a sph 0 0 0 1
+kill c
+in b sph 0 0 0 1
+";
+
+/// The same picture, then with another colour of one box, and once more.
 const THREE_PICTURES: &[u8] = b"in a rpp 0 10 0 10 0 10
 in b rpp 20 30 0 10 0 10
 r a.r u a
 r b.r u b
 rt p.ppm -z 0 15 100 1 32 16 a.r b.r
-kill c
 cattr b.r rgb 255 0 0
 rt p.ppm -z 0 15 100 1 32 16 a.r b.r
 rt p.ppm -z 0 15 100 1 32 16 a.r b.r
@@ -99,16 +113,39 @@ fn an_edit_is_committed_while_the_picture_before_it_is_shot(rt: HostRuntime) -> 
 }
 
 #[test]
-fn tiles_that_are_not_kept_are_begun_and_accepted_edits_are_told(
-    rt: HostRuntime,
-) -> Result<(), Fail> {
+fn an_edit_is_committed_while_the_check_before_it_is_shot(rt: HostRuntime) -> Result<(), Fail> {
+    let gate = EditMeetsPicture::new();
+    let ended = run_script(&rt, &["--workers", "2"], CHECK_AND_EDIT, &gate)?;
+    assert!(rt; gate.have_met());
+    assert_eq!(rt; ended.status, Status::Done);
+    assert!(rt;
+        ended
+            .sink
+            .bytes()
+            .ends_with(b"\n1.5 ok v4 0\n1.6 ok v5 0\n".as_slice())
+    );
+    Ok(())
+}
+
+#[test]
+fn tiles_that_are_not_kept_are_begun(rt: HostRuntime) -> Result<(), Fail> {
     let gate = EventRecord::new(rt.alloc())?;
     let ended = run_script(&rt, &[], THREE_PICTURES, &gate)?;
-    assert_eq!(rt; ended.status, Status::SomeRefused);
-    assert!(rt; gate.has_begun(&[(5, 0), (5, 1), (8, 1)]));
+    assert_eq!(rt; ended.status, Status::Done);
+    assert!(rt; gate.has_begun(&[(5, 0), (5, 1), (7, 1)]));
     assert!(rt; gate.has_committed_once(&[1, 2, 3, 4, 5]));
     assert!(rt;
         ended.sink.bytes().ends_with(b"\npicture p.ppm 32 16 tiles 2 shot 0 reused 2\n".as_slice())
     );
+    Ok(())
+}
+
+#[test]
+fn accepted_edits_are_told_and_refused_ones_are_not(rt: HostRuntime) -> Result<(), Fail> {
+    let gate = EventRecord::new(rt.alloc())?;
+    let ended = run_script(&rt, &[], REFUSED_EDIT, &gate)?;
+    assert_eq!(rt; ended.status, Status::SomeRefused);
+    assert!(rt; gate.has_begun(&[]));
+    assert!(rt; gate.has_committed_once(&[1, 2]));
     Ok(())
 }

@@ -455,8 +455,9 @@ impl Session {
     }
 
     /// Runs all commands in sequence, each as an entry of the history. It takes no memory for the list of answers.
-    /// At most so many threads as there are workers shoot the tiles of a picture or a check, this one among them. The gate is
-    /// told after each accepted edit, and before each tile that is shot.
+    /// At most so many threads as there are workers shoot the tiles of a picture or a check, this one among them; when the later
+    /// tiles of a large check begin, some may still be at an earlier one. The gate is told after each accepted edit, and before
+    /// each tile that is shot.
     pub fn run<R: Threads + Wait + Sync, G: Gate + Sync>(
         self,
         rt: &R,

@@ -138,7 +138,7 @@ not_with_a_later_version look = let versions : 1 ≡ 0 = ap (λ (a : run.Answer 
 
 not_of_a_later_directory : ¬ IsLook one_half 0 picture nothing_used (record { version = 0; outcome = Err (Missing (codes "h")) }) nothing_used
 unfolding place_cmp digits regions_of_name size_of_name
-not_of_a_later_directory look = let refused : 1 ≡ 0 = ap (λ (a : run.Answer File). cond (run.answer_refuses a) 1 0) look.0 in omega (arith, refused)
+not_of_a_later_directory look = let refused : ◌≡◌ {A = ℕ} 1 0 = ap {B = ℕ} (λ (a : run.Answer File). cond (run.answer_refuses a) 1 0) look.0 in omega (arith, refused)
 
 abbrev before_an_edit : List (Noted Command)
 before_an_edit = note_of 1 picture false ∷ note_of 1 kill false ∷ []

@@ -13,6 +13,7 @@ use name_core::Name;
 use std::alloc::Global;
 use std::marker::Model;
 use std::sync::Arc;
+use std::vec::VecCloneMethods;
 
 /// Where the name stands.
 fn place_in<V: Drop>(entries: &[(Name, Arc<V>)], name: &Name) -> Option<usize>
@@ -68,11 +69,12 @@ impl<V: Drop> Bucket<V> {
         }
     }
 
-    /// The same pairs again. They share every value.
+    /// The same pairs again, with room for one more. They share every value.
     pub(crate) fn copy(&self) -> Result<Bucket<V>, Memory>
         ensures { IfOk result (λ p. p ≡ self.now) }
     {
-        let entries = self.entries.clone()?;
+        let mut entries = Vec::with_capacity(*self.entries.allocator(), self.entries.len() + 1)?;
+        VecCloneMethods::extend_from_slice(&mut entries, &self.entries)?;
         Ok(Bucket { entries })
     }
 

@@ -32,7 +32,7 @@ pub(crate) fn put_page<V: Drop>(
 }
 
 /// Adds a pair on the last page, or on a new one where that is full, and answers the number of that page. A last page that
-/// is shared is copied.
+/// is shared and takes the pair is copied.
 pub(crate) fn push_pair<V: Drop>(
     alloc: Global,
     pages: &mut Shares<Page<V>>,
@@ -44,14 +44,14 @@ pub(crate) fn push_pair<V: Drop>(
     ensures number { IfOk result (λ n. n ≡ last_number pages.new) }
 {
     let last = match pages.take_last() {
-        Some(share) => Page::own(share)?,
+        Some(share) => share,
         None => {
             pages.push(alloc, Page::of_pair(alloc, 0, name, value)?)?;
             return Ok(0);
         }
     };
     if last.pairs().len() < MOST_PAIRS {
-        let page = last.with(name, value)?;
+        let page = Page::own(last)?.with(name, value)?;
         let number = page.number();
         pages.push(alloc, page)?;
         return Ok(number);
@@ -59,7 +59,7 @@ pub(crate) fn push_pair<V: Drop>(
     let Some(number) = last.number().checked_add(1) else {
         return Err(Memory);
     };
-    pages.push(alloc, last)?;
+    pages.push_share(last)?;
     pages.push(alloc, Page::of_pair(alloc, number, name, value)?)?;
     Ok(number)
 }

@@ -1,8 +1,7 @@
 use Rattle.std.proofs.Common.{◌≡◌, ◌≢◌, ◌⊎◌, ◌<◌, ◌∙◌, ◌++◌, ◌∷◌, [], ◌+◌, ℕ, Bool, zero, suc, true, false, true≢false, cond, length, List, Option, ap, add-one, arith, subst, sym, refl, inl, inr, Some, None, IsSome, take, drop}
-use Rattle.std.specs.Prelude.{slice_get, nat_eq}
-use Rattle.std.specs.Option.{option_map}
+use Rattle.std.specs.Prelude.{slice_get, nat_eq, unwrap_or}
 use Rattle.std.specs.List.{AllByRecursion, IsDistinct}
-use Rattle.std.specs.Map.{keys_of}
+use Rattle.std.specs.Map.{lookup, keys_of}
 use Rattle.std.proofs.lemmas.Map.Keys.{IsDistinct-head, IsDistinct-tail}
 use Rattle.indexmap.specs.IndexMap.{insert_entry}
 use Rattle.name_core.specs.declared.name.Name.{Name}
@@ -127,16 +126,13 @@ renamed_next a b own counts i m v old now new at distinct apart some h made n = 
         ∙ h n
         ∙ same_by a b own (take i counts) (take (suc i) counts) old n (inr (sym (next_other counts i m v n at (λ e. t.1 (sym e)))))
 
--- ---- what stands at a place of the counts
-pub count_at : (counts : Counts) (i m : ℕ) → option_map (λ e. e.0) (slice_get counts i) ≡ Some m → (v : ℕ) × (slice_get counts i ≡ Some (m, v))
-count_at [] i m h = cc
-count_at ((k, w) ∷ counts) zero m h = let same : k ≡ m = cc in (w, ap (λ (x : ℕ). Some (x, w)) same)
-count_at ((k, w) ∷ counts) (suc i) m h = count_at counts i m h
-
-pub count_past : (counts : Counts) (i : ℕ) → option_map (λ e. e.0) (slice_get counts i) ≡ None → ¬ (i < length counts)
-count_past [] i h lt = omega (arith, lt)
-count_past (e ∷ counts) zero h lt = cc
-count_past (e ∷ counts) (suc i) h lt = count_past counts i h (omega (arith, lt))
+-- ---- a page that has a pair
+pub page_there : (pages : Pages) (n : ℕ) → 0 < length (page_of pages n) → IsSome (lookup (nat_eq n) pages)
+page_there pages n some = by (lookup (nat_eq n) pages) some
+  where
+    by : (o : Option Entries) → 0 < length (unwrap_or o []) → IsSome o
+    by None lt = absurd (omega (arith, lt))
+    by (Some es) lt = refl
 
 -- ---- all pages
 pub beside : (own n : ℕ) (here there : Entries) → own ≢ n → cond (nat_eq own n) here there ≡ there

@@ -1,11 +1,15 @@
-use Rattle.std.proofs.Common.{◌≡◌, ◌≢◌, inl, inr, ◌<◌, ◌+◌, ◌^◌, ◌∙◌, ℕ, zero, suc, Bool, true, false, cond, nat_eq, List, [], ◌∷◌, length, take, refl, ap, sym, subst, arith, Option, None, Some}
-use Rattle.std.specs.Prelude.{slice_get, unwrap_or}
-use Rattle.std.specs.Map.{keys_of}
-use Rattle.std.specs.List.{IsDistinct, AllByRecursion}
-use Rattle.std.proofs.lemmas.Map.Keys.{IsDistinct-head, IsDistinct-tail}
+use Rattle.std.proofs.Common.{◌≡◌, ◌≢◌, inl, inr, ◌<◌, ◌+◌, ◌^◌, ◌∙◌, ℕ, zero, suc, Bool, true, false, cond, nat_eq, List, [], ◌∷◌, ◌++◌, length, take, remove, refl, ap, sym, subst, arith, Option, None, Some, IsSome}
+use Rattle.std.specs.Prelude.{slice_get, slice_set, slice_index_or, unwrap_or}
+use Rattle.std.specs.Cmp.{nat_eq_equiv}
+use Rattle.std.specs.Map.{lookup, keys_of, set_value}
+use Rattle.std.specs.List.{IsDistinct, AllByRecursion, list_any}
+use Rattle.std.proofs.lemmas.Map.{keys-set_value, lookup-set_value, lookup-remove_entry}
+use Rattle.std.proofs.lemmas.Map.Keys.{IsDistinct-head, IsDistinct-tail, IsDistinct-cons, IsDistinct-push}
 use Rattle.name_core.specs.declared.name.Name.{Name}
 use Rattle.name_core.specs.Same.{same_name}
 use Rattle.shared_pages.specs.Buckets.{Shelves, value_of, Gives}
+use Rattle.shared_pages.specs.Named.{IsFirst}
+use Rattle.shared_pages.proofs.BucketLemmas.{first_removed, first_value}
 use Rattle.shared_pages.proofs.NameLemmas.{name_tells}
 use Rattle.object_pages.proofs.PageLemmas.{number_tells}
 use Rattle.object_pages.specs.Tallies.{count_on, tally_of, leaves_on}
@@ -17,6 +21,109 @@ Counts = List (ℕ × ℕ)
 pub no_counts : (t : Counts) → length t ≡ 0 → t ≡ []
 no_counts [] none = refl
 no_counts (c ∷ t) none = absurd (omega (arith, none))
+
+pub no_place : (t : Counts) (i : ℕ) → slice_get t i ≡ None → i < length t → ⊥
+no_place [] i none lt = omega (arith, lt)
+no_place (c ∷ t) zero none lt = let wrong : ◌≡◌ {A = Option (ℕ × ℕ)} (Some c) None = none in cc
+no_place (c ∷ t) (suc i) none lt = no_place t i none (omega (arith, lt))
+
+-- ---- a page given another count
+choice : (b : Bool) (v w : Option ℕ) → unwrap_or (cond b v w) 0 ≡ cond b (unwrap_or v 0) (unwrap_or w 0)
+choice true v w = refl
+choice false v w = refl
+
+there : (t : Counts) (i page : ℕ) → IsFirst (nat_eq page) t i → IsSome (lookup (nat_eq page) t)
+there [] i page h = absurd h
+there (c ∷ t) zero page h = rw h refl
+there (c ∷ t) (suc i) page h = rw h.0 (there t i page h.1)
+
+set_in : (t : Counts) (i page v : ℕ) → IsFirst (nat_eq page) t i → slice_set t i (page, v) ≡ set_value (nat_eq page) t v
+set_in [] i page v h = absurd h
+set_in ((k, w) ∷ t) zero page v h = elim (number_tells page k) [ inl s ↦ rw s.0 (ap (λ (n : ℕ). (n, v) ∷ t) s.1) | inr s ↦ (let wrong : true ≡ false = sym h ∙ s.0 in cc) ]
+set_in ((k, w) ∷ t) (suc i) page v h = rw h.0 (ap (λ (l : Counts). (k, w) ∷ l) (set_in t i page v h.1))
+
+pub found_count : (t : Counts) (i page : ℕ) (e : ℕ × ℕ) → IsFirst (nat_eq page) t i → e ≡ slice_index_or t i e → e.1 ≡ count_on t page
+found_count t i page e h at = ap (λ (o : Option ℕ). unwrap_or o 0) (first_value (nat_eq page) t i e h at)
+
+pub none_counted : (t : Counts) (page : ℕ) → lookup (nat_eq page) t ≡ None → count_on t page ≡ 0
+none_counted t page none = ap (λ (o : Option ℕ). unwrap_or o 0) none
+
+pub count_set : (t : Counts) (i page v : ℕ) → IsFirst (nat_eq page) t i → (n : ℕ) → count_on (slice_set t i (page, v)) n ≡ cond (nat_eq page n) v (count_on t n)
+count_set t i page v h n =
+    ap (λ (l : Counts). count_on l n) (set_in t i page v h)
+    ∙ ap (λ (o : Option ℕ). unwrap_or o 0) (lookup-set_value nat_eq_equiv (nat_eq page) (nat_eq_equiv.congr page) n v t (there t i page h))
+    ∙ choice (nat_eq page n) (Some v) (lookup (nat_eq n) t)
+
+pub distinct_set : (t : Counts) (i page v : ℕ) → IsFirst (nat_eq page) t i → IsDistinct nat_eq (keys_of t) → IsDistinct nat_eq (keys_of (slice_set t i (page, v)))
+distinct_set t i page v h distinct =
+    subst (λ (l : List ℕ). IsDistinct nat_eq l) (sym (ap (λ (l : Counts). keys_of l) (set_in t i page v h) ∙ keys-set_value (nat_eq page) t v)) distinct
+
+-- ---- a page more
+none_any : (t : Counts) (page : ℕ) → lookup (nat_eq page) t ≡ None → list_any (nat_eq page) (keys_of t) ≡ false
+none_any [] page none = refl
+none_any ((k, w) ∷ t) page none =
+    elim (number_tells page k) [
+      | inl s ↦ let wrong : ◌≡◌ {A = Option ℕ} (Some w) None = rw s.0 at none in cc
+      | inr s ↦ rw s.0 (none_any t page (rw s.0 at none))
+    ]
+
+keys_pushed : (t : Counts) (page v : ℕ) → keys_of (t ++ (page, v) ∷ []) ≡ keys_of t ++ page ∷ []
+keys_pushed [] page v = refl
+keys_pushed (c ∷ t) page v = ap (λ (l : List ℕ). c.0 ∷ l) (keys_pushed t page v)
+
+pub count_pushed : (t : Counts) (page v : ℕ) → lookup (nat_eq page) t ≡ None → (n : ℕ) → count_on (t ++ (page, v) ∷ []) n ≡ cond (nat_eq page n) v (count_on t n)
+count_pushed [] page v none n =
+    elim (number_tells page n) [
+      | inl s ↦ elim (number_tells n page) [ inl r ↦ rw (s.0, r.0) refl | inr r ↦ absurd (r.1 (sym s.1)) ]
+      | inr s ↦ elim (number_tells n page) [ inl r ↦ absurd (s.1 (sym r.1)) | inr r ↦ rw (s.0, r.0) refl ]
+    ]
+count_pushed ((k, w) ∷ t) page v none n =
+    elim (number_tells page k) [
+      | inl s ↦ let wrong : ◌≡◌ {A = Option ℕ} (Some w) None = rw s.0 at none in cc
+      | inr s ↦ elim (number_tells n k) [
+        | inl r ↦ elim (number_tells page n) [ inl q ↦ absurd (s.1 (q.1 ∙ r.1)) | inr q ↦ rw (r.0, q.0) refl ]
+        | inr r ↦ rw r.0 (count_pushed t page v (rw s.0 at none) n)
+      ]
+    ]
+
+pub distinct_pushed : (t : Counts) (page v : ℕ) → lookup (nat_eq page) t ≡ None → IsDistinct nat_eq (keys_of t) → IsDistinct nat_eq (keys_of (t ++ (page, v) ∷ []))
+distinct_pushed t page v none distinct =
+    subst (λ (l : List ℕ). IsDistinct nat_eq l) (sym (keys_pushed t page v)) (IsDistinct-push nat_eq_equiv (keys_of t) page distinct (none_any t page none))
+
+-- ---- a page less
+pub count_removed : (t : Counts) (i page : ℕ) → IsFirst (nat_eq page) t i → IsDistinct nat_eq (keys_of t) → (n : ℕ) → count_on (remove t i) n ≡ cond (nat_eq page n) 0 (count_on t n)
+count_removed t i page h distinct n =
+    ap (λ (l : Counts). count_on l n) (first_removed (nat_eq page) t i h)
+    ∙ ap (λ (o : Option ℕ). unwrap_or o 0) (lookup-remove_entry nat_eq_equiv (nat_eq page) (nat_eq_equiv.congr page) n t distinct)
+    ∙ choice (nat_eq page n) None (lookup (nat_eq n) t)
+
+apart_removed : (m : ℕ) (t : Counts) (i : ℕ) → AllByRecursion (λ k. nat_eq m k ≡ false) (keys_of t) → AllByRecursion (λ k. nat_eq m k ≡ false) (keys_of (remove t i))
+apart_removed m [] zero h = h
+apart_removed m [] (suc i) h = h
+apart_removed m (c ∷ t) zero h = h.1
+apart_removed m (c ∷ t) (suc i) h = (h.0, apart_removed m t i h.1)
+
+pub distinct_removed : (t : Counts) (i : ℕ) → IsDistinct nat_eq (keys_of t) → IsDistinct nat_eq (keys_of (remove t i))
+distinct_removed [] zero h = h
+distinct_removed [] (suc i) h = h
+distinct_removed (c ∷ t) zero h = IsDistinct-tail nat_eq c.0 (keys_of t) h
+distinct_removed (c ∷ t) (suc i) h =
+    IsDistinct-cons nat_eq c.0 (keys_of (remove t i)) (apart_removed c.0 t i (IsDistinct-head nat_eq c.0 (keys_of t) h)) (distinct_removed t i (IsDistinct-tail nat_eq c.0 (keys_of t) h))
+
+-- ---- the sum and the rest
+pub added_at : (old new : ℕ → ℕ) (page v leaves : ℕ) → ((n : ℕ) → new n ≡ cond (nat_eq page n) v (old n)) → v ≡ old page + leaves → (n : ℕ) → new n ≡ old n + cond (nat_eq page n) leaves 0
+added_at old new page v leaves h is n =
+    elim (number_tells page n) [
+      | inl s ↦ let now : new n ≡ v = h n ∙ ap (λ b. cond b v (old n)) s.0 in rw s.0 (omega (arith, now, is, ap old s.1))
+      | inr s ↦ let now : new n ≡ old n = h n ∙ ap (λ b. cond b v (old n)) s.0 in rw s.0 (omega (arith, now))
+    ]
+
+pub taken_at : (old new : ℕ → ℕ) (page v leaves : ℕ) → ((n : ℕ) → new n ≡ cond (nat_eq page n) v (old n)) → v + leaves ≡ old page → (n : ℕ) → new n + cond (nat_eq page n) leaves 0 ≡ old n
+taken_at old new page v leaves h is n =
+    elim (number_tells page n) [
+      | inl s ↦ let now : new n ≡ v = h n ∙ ap (λ b. cond b v (old n)) s.0 in rw s.0 (omega (arith, now, is, ap old s.1))
+      | inr s ↦ let now : new n ≡ old n = h n ∙ ap (λ b. cond b v (old n)) s.0 in rw s.0 (omega (arith, now))
+    ]
 
 -- ---- a name given other counts
 given_choice : (b : Bool) (v w : Option Counts) → unwrap_or (cond b v w) [] ≡ cond b (unwrap_or v []) (unwrap_or w [])

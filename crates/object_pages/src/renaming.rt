@@ -124,8 +124,8 @@ fn rename_users(
     };
     let mut renamed = pages;
     for place in 0..tally.len() {
-        if let Some(number) = tally.page_at(place) {
-            if number != own && tally.on(number) > 0 {
+        if let Some((number, leaves)) = tally.at(place) {
+            if number != own && leaves > 0 {
                 renamed = rename_page(alloc, renamed, number, old, new)?;
             }
         }

@@ -2,26 +2,42 @@ ghost use Rattle.std.specs.Prelude.{◌≡◌, ◌≤◌, ◌<◌, ◌+◌, ◌^
 ghost use Rattle.std.specs.List.{IsDistinct};
 ghost use Rattle.std.specs.Option.{option_map};
 ghost use Rattle.std.specs.Map.{keys_of, values_of};
+ghost use Rattle.shared_pages.specs.Named.{IsFound};
 ghost use Rattle.object_pages.specs.Tallies.{count_on};
 
-use indexmap::IndexMap;
 use memory_core::Memory;
 use std::alloc::Global;
 use std::marker::Model;
 
-/// How many leaves name one name, by the number of the page on which they stand. No page stands twice. Contracts see it as
-/// the list of the numbers and the counts.
+/// Where the page of the number stands.
+fn place_in(counts: &[(u64, u64)], page: u64) -> Option<usize>
+    ensures { IsFound (nat_eq page) counts.now result }
+{
+    for place in 0..counts.len() {
+        if page == counts[place].0 {
+            return Some(place);
+        }
+    }
+    None
+}
+
+/// How many leaves name one name, by the number of the page on which they stand, in one piece of memory. No page stands
+/// twice. Contracts see it as the list of the numbers and the counts.
 #[derive(Drop)]
 pub(crate) struct Tally {
-    counts: IndexMap<u64, u64>,
+    counts: Vec<(u64, u64)>,
 }
 
 impl Model for Tally {
-    ghost use Rattle.std.specs.Prelude.{List, ℕ};
+    ghost use Rattle.std.specs.Prelude.{List, ℕ, nat_eq};
+    ghost use Rattle.std.specs.List.{IsDistinct};
+    ghost use Rattle.std.specs.Map.{keys_of};
 
     ghost Value = { List (ℕ × ℕ) };
 
-    ghost view = { λ s. s.counts.entries };
+    ghost view = { λ s. s.counts.items };
+
+    ghost invariant = { λ s. IsDistinct nat_eq (keys_of s.counts.items) };
 }
 
 impl Tally {
@@ -30,7 +46,7 @@ impl Tally {
         ensures { result ≡ [] }
     {
         Tally {
-            counts: IndexMap::new(alloc),
+            counts: Vec::new(alloc),
         }
     }
 
@@ -46,19 +62,19 @@ impl Tally {
     pub(crate) fn page_at(&self, place: usize) -> Option<u64>
         ensures { result ≡ option_map (λ c. c.0) (slice_get self.now place) }
     {
-        match self.counts.get_index(place) {
-            Some((page, _leaves)) => Some(*page),
+        match self.counts.get(place) {
+            Some(count) => Some(count.0),
             None => None,
         }
     }
 
-    /// How many leaves stand on the page of the number.
-    pub(crate) fn on(&self, page: u64) -> u64
-        ensures { result ≡ count_on self.now page }
+    /// The number of the page at the place, counted from 0, and how many leaves stand on it, or `None` exactly past the end.
+    pub(crate) fn at(&self, place: usize) -> Option<(u64, u64)>
+        ensures { result ≡ slice_get self.now place }
     {
-        match self.counts.get(&page) {
-            Some(leaves) => *leaves,
-            None => 0,
+        match self.counts.get(place) {
+            Some(count) => Some(*count),
+            None => None,
         }
     }
 
@@ -67,46 +83,52 @@ impl Tally {
         requires { sum (values_of self.now) < 2 ^ 64 }
         ensures { result ≡ sum (values_of self.now) }
     {
-        self.counts.values().sum()
+        self.counts.iter().map(|count| count.1).sum()
     }
 
-    /// The same counts again.
+    /// The same counts again, with room for one page more.
     pub(crate) fn copy(&self) -> Result<Tally, Memory>
         ensures { IfOk result (λ t. t ≡ self.now) }
     {
-        let counts = self.counts.clone()?;
+        let mut counts = Vec::with_capacity(*self.counts.allocator(), self.counts.len() + 1)?;
+        counts.extend_from_slice(&self.counts)?;
         Ok(Tally { counts })
     }
 
-    /// The counts with so many leaves on the page of the number. A page with none is left out.
-    fn set(self, page: u64, leaves: u64) -> Result<Tally, Memory>
-        ensures { IfOk result (λ t. (n : ℕ) → count_on t n ≡ cond (nat_eq page n) leaves (count_on self n)) }
-    {
-        let Tally { mut counts } = self;
-        if leaves == 0 {
-            let _old = counts.shift_remove(&page);
-        } else {
-            let _old = counts.insert(page, leaves)?;
-        }
-        Ok(Tally { counts })
-    }
-
-    /// The counts with so many leaves more on the page of the number.
+    /// The counts with so many leaves more on the page of the number. A page with none is left out.
     pub(crate) fn add(self, page: u64, leaves: u64) -> Result<Tally, Memory>
         requires { count_on self page + leaves < 2 ^ 64 }
         ensures { IfOk result (λ t. (n : ℕ) → count_on t n ≡ count_on self n + cond (nat_eq page n) leaves 0) }
     {
-        let sum = self.on(page) + leaves;
-        self.set(page, sum)
+        let Tally { mut counts } = self;
+        if let Some(place) = place_in(&counts, page) {
+            let sum = counts[place].1 + leaves;
+            counts[place] = (page, sum);
+            return Ok(Tally { counts });
+        }
+        if leaves == 0 {
+            return Ok(Tally { counts });
+        }
+        counts.push((page, leaves))?;
+        Ok(Tally { counts })
     }
 
-    /// The counts with so many leaves less on the page of the number.
+    /// The counts with so many leaves less on the page of the number. A page with none is left out.
     pub(crate) fn take(self, page: u64, leaves: u64) -> Result<Tally, Memory>
         requires { leaves ≤ count_on self page }
         ensures { IfOk result (λ t. (n : ℕ) → count_on t n + cond (nat_eq page n) leaves 0 ≡ count_on self n) }
     {
-        let rest = self.on(page) - leaves;
-        self.set(page, rest)
+        let Tally { mut counts } = self;
+        let Some(place) = place_in(&counts, page) else {
+            return Ok(Tally { counts });
+        };
+        let rest = counts[place].1 - leaves;
+        if rest == 0 {
+            let _count = counts.remove(place);
+            return Ok(Tally { counts });
+        }
+        counts[place] = (page, rest);
+        Ok(Tally { counts })
     }
 
     /// The counts with those of the other added.
@@ -114,10 +136,13 @@ impl Tally {
         requires room { (n : ℕ) → count_on self n + count_on more.now n < 2 ^ 64 }
         ensures { IfOk result (λ t. (n : ℕ) → count_on t n ≡ count_on self n + count_on more.now n) }
     {
+        if self.counts.is_empty() {
+            return more.copy();
+        }
         let mut joined = self;
         for place in 0..more.len() {
-            if let Some((page, leaves)) = more.counts.get_index(place) {
-                joined = joined.add(*page, *leaves)?;
+            if let Some((page, leaves)) = more.at(place) {
+                joined = joined.add(page, leaves)?;
             }
         }
         Ok(joined)

@@ -1,5 +1,5 @@
 //! Tests that need fakes or types of this language: counters of steps, adapters over readers and writers, gates, a version
-//! table that threads share, jobs that several threads run, and kept values. Those of sessions stand in `session_tests`. The
+//! table that threads share, jobs that several threads run, also while their owner goes on, and kept values. Those of sessions stand in `session_tests`. The
 //! other cases of these layers are rows of tables.
 #![tactic(auto)]
 
@@ -11,6 +11,8 @@ mod counting;
 mod gates;
 #[cfg(test)]
 mod kept_tiles;
+#[cfg(test)]
+mod pools;
 #[cfg(test)]
 mod versions;
 #[cfg(test)]

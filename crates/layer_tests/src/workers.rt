@@ -1,4 +1,4 @@
-ghost use Rattle.std.specs.Prelude.{◌≡◌, IfOk};
+ghost use Rattle.std.specs.Prelude.{◌≡◌, ◌↔◌, IfOk, IfSome, IsSome};
 
 use memory_core::Memory;
 use outside_core::{Gate, GateEvent, OpenGate};
@@ -28,6 +28,8 @@ impl Job for Tens {
 
     ghost gives = { λ job i out. out ≡ 10 * i + 3 };
 
+    ghost names = { λ job i out. out ≡ 10 * i + 3 };
+
     fn count(&self) -> u32 {
         self.pieces
     }
@@ -42,6 +44,11 @@ impl Job for Tens {
         }
         self.count_one(&self.run, i);
         Ok(10 * u64::from(i) + 3)
+    }
+
+    fn again(&self, _alloc: Global, i: u32, out: &u64) -> Result<Option<u64>, Memory> {
+        count(&self.faults);
+        Ok(known(*out, 10 * u64::from(i) + 3))
     }
 }
 
@@ -83,7 +90,19 @@ impl Tens {
     }
 }
 
-fn no_counts(alloc: Global, pieces: u32) -> Result<Vec<AtomicU32>, Memory> {
+/// A number, where it is this one.
+pub(crate) fn known(number: u64, expected: u64) -> Option<u64>
+    ensures known { IsSome result ↔ (number ≡ expected) }
+    ensures same { IfSome result (λ n. n ≡ expected) }
+{
+    if number == expected {
+        Some(number)
+    } else {
+        None
+    }
+}
+
+pub(crate) fn no_counts(alloc: Global, pieces: u32) -> Result<Vec<AtomicU32>, Memory> {
     let mut counts = Vec::new(alloc);
     for _ in 0..pieces {
         counts.push(AtomicU32::new(0))?;
@@ -91,7 +110,7 @@ fn no_counts(alloc: Global, pieces: u32) -> Result<Vec<AtomicU32>, Memory> {
     Ok(counts)
 }
 
-fn count(one: &AtomicU32) {
+pub(crate) fn count(one: &AtomicU32) {
     one.fetch_add(1, Ordering::SeqCst);
 }
 
@@ -99,7 +118,7 @@ fn count_at(counts: &[AtomicU32], i: u32) -> Option<u32> {
     Some(counts.get(i as usize)?.load(Ordering::SeqCst))
 }
 
-fn are_one(counts: &[AtomicU32]) -> bool {
+pub(crate) fn are_one(counts: &[AtomicU32]) -> bool {
     counts.iter().all(|one| one.load(Ordering::SeqCst) == 1)
 }
 
@@ -120,6 +139,8 @@ impl Job for Scarce {
 
     ghost gives = { λ job i out. out ≡ i };
 
+    ghost names = { λ job i out. out ≡ i };
+
     fn count(&self) -> u32 {
         20
     }
@@ -130,6 +151,10 @@ impl Job for Scarce {
 
     fn run(&self, _alloc: Global, i: u32) -> Result<u32, Memory> {
         if i == self.at { Err(Memory) } else { Ok(i) }
+    }
+
+    fn again(&self, _alloc: Global, i: u32, out: &u32) -> Result<Option<u32>, Memory> {
+        if *out == i { Ok(Some(i)) } else { Ok(None) }
     }
 }
 

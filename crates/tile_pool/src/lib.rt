@@ -1,10 +1,8 @@
 //! Jobs in flight: their pieces are run by threads that serve a pool, while their owner goes on and gathers the results later.
 #![tactic(auto)]
 
-mod job;
 mod pool;
 mod posted;
 mod state;
 
-pub use job::PoolJob;
 pub use pool::{Ticket, TilePool};

@@ -2,29 +2,30 @@ ghost use Rattle.std.specs.Prelude.{◌≡◌, IfOk, vec_len};
 ghost use Rattle.std.specs.Arc.{arc_value};
 ghost use Rattle.tile_workers.specs.Results.{AreResults};
 
-use crate::job::PoolJob;
 use crate::posted::Posted;
 use crate::state::State;
 use memory_core::Memory;
 use std::alloc::Global;
 use std::marker::Model;
 use std::sync::{Arc, Condvar, Mutex, Wait};
+use tile_workers::Job;
 
 /// Jobs in flight. It is shared by those who post and gather jobs and by the threads that run their pieces meanwhile. With no
-/// such thread, or none that gets on, the same results are gathered.
+/// such thread, or none that gets on, the same results are gathered. It tells no gate of the pieces: a job that is to be told of
+/// does so itself.
 #[derive(Drop)]
-pub struct TilePool<J: PoolJob + Drop> {
+pub struct TilePool<J: Job + Drop> {
     state: Mutex<State<J>>,
     changed: Condvar,
 }
 
 /// The right to gather what a job gives. Contracts see it as its job.
 #[derive(Drop)]
-pub struct Ticket<J: PoolJob + Drop> {
+pub struct Ticket<J: Job + Drop> {
     posted: Arc<Posted<J>>,
 }
 
-impl<J: PoolJob + Drop> Model for Ticket<J> {
+impl<J: Job + Drop> Model for Ticket<J> {
     ghost use Rattle.std.specs.Arc.{arc_value};
 
     ghost Value = { J };
@@ -32,7 +33,7 @@ impl<J: PoolJob + Drop> Model for Ticket<J> {
     ghost view = { λ s. arc_value (arc_value s.posted).job };
 }
 
-impl<J: PoolJob + Drop> TilePool<J> {
+impl<J: Job + Drop> TilePool<J> {
     /// A pool with no job, and with room for one. `Memory` where there is none for it.
     pub fn new(alloc: Global) -> Result<TilePool<J>, Memory> {
         Ok(TilePool {

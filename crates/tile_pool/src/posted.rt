@@ -3,16 +3,16 @@ ghost use Rattle.std.specs.Prelude.{◌≡◌, ◌<◌, IfOk, IfSome, vec_len};
 ghost use Rattle.std.specs.Arc.{arc_value};
 ghost use Rattle.tile_workers.specs.Results.{AreResults};
 
-use crate::job::PoolJob;
 use memory_core::Memory;
 use once_cell::race::OnceBox;
 use std::alloc::Global;
 use std::sync::Arc;
 use std::sync::atomic::{AtomicU64, Ordering};
+use tile_workers::Job;
 
 /// A job with a cell for each of its pieces, which is set once with the piece's result. Pieces are taken in their order.
 #[derive(Drop)]
-pub(crate) struct Posted<J: PoolJob + Drop> {
+pub(crate) struct Posted<J: Job + Drop> {
     job: Arc<J>,
     cells: Vec<OnceBox<J::Out>>,
     taken: AtomicU64,
@@ -20,7 +20,7 @@ pub(crate) struct Posted<J: PoolJob + Drop> {
 }
 
 /// Cells with nothing in them.
-fn empty_cells<J: PoolJob + Drop>(alloc: Global, job: &J) -> Result<Vec<OnceBox<J::Out>>, Memory>
+fn empty_cells<J: Job + Drop>(alloc: Global, job: &J) -> Result<Vec<OnceBox<J::Out>>, Memory>
     ensures { IfOk result (λ cells. vec_len cells ≡ J.pieces job.now) }
 {
     let mut cells = Vec::new(alloc);
@@ -30,7 +30,7 @@ fn empty_cells<J: PoolJob + Drop>(alloc: Global, job: &J) -> Result<Vec<OnceBox<
     Ok(cells)
 }
 
-impl<J: PoolJob + Drop> Posted<J> {
+impl<J: Job + Drop> Posted<J> {
     /// A job of which no piece is taken.
     pub(crate) fn new(alloc: Global, job: Arc<J>) -> Result<Posted<J>, Memory>
         ensures { IfOk result (λ posted. arc_value posted.job ≡ arc_value job) }

@@ -1,20 +1,20 @@
 //! What the threads of a pool share under its lock.
 ghost use Rattle.std.specs.Prelude.{◌≡◌, [], IfOk, false, true};
 
-use crate::job::PoolJob;
 use crate::posted::Posted;
 use memory_core::Memory;
 use std::alloc::Global;
 use std::sync::Arc;
+use tile_workers::Job;
 
 /// The jobs in flight, in the order in which they were posted, and whether those who serve are to stop.
 #[derive(Drop)]
-pub(crate) struct State<J: PoolJob + Drop> {
+pub(crate) struct State<J: Job + Drop> {
     jobs: Vec<Arc<Posted<J>>>,
     stopped: bool,
 }
 
-impl<J: PoolJob + Drop> State<J> {
+impl<J: Job + Drop> State<J> {
     /// No job, with room for one.
     pub(crate) fn new(alloc: Global) -> Result<State<J>, Memory>
         ensures { IfOk result (λ state. (state.jobs.items ≡ []) × (state.stopped ≡ false)) }

@@ -1,5 +1,5 @@
 -- Results of pieces that are run one after the other.
-use Rattle.std.proofs.Common.{arith, ap, subst, sym, refl, ◌∙◌, ◌≡◌, ◌<◌, ◌≤◌, ◌+◌, ◌++◌, ◌⊎◌, inl, inr, ℕ, zero, suc, List, [], ◌∷◌, length, get_or}
+use Rattle.std.proofs.Common.{arith, subst, sym, refl, ◌≡◌, ◌<◌, ◌≤◌, ◌+◌, ◌++◌, ◌⊎◌, inl, inr, ℕ, zero, suc, List, [], ◌∷◌, length, get_or}
 use Rattle.std.proofs.lemmas.Bool.{cases_lt}
 use Rattle.tile_workers.specs.Results.{AreResults}
 use Rattle.std.proofs.lemmas.List.{get_or_push}

@@ -4,3 +4,4 @@ pub mod Jobs
 pub mod Named
 pub mod Flights
 pub mod Examples
+pub mod FlightExamples

@@ -1,19 +1,18 @@
 //! The overlaps of a scene on the rays of a view.
-ghost use Rattle.std.specs.Prelude.{◌≡◌, ◌≤◌, ◌<◌, ◌+◌, [], ℕ, IfOk, IfErr, length, slice_index_or, vec_len};
+ghost use Rattle.std.specs.Prelude.{◌≡◌, ◌≤◌, ◌<◌, ◌+◌, IfOk, IfErr, length};
 ghost use Rattle.std.specs.Arc.{arc_value};
 ghost use Rattle.lattice_core.specs.Views.{IsChecked};
 ghost use Rattle.lattice_core.specs.Tiles.{tiles_of};
 ghost use Rattle.overlap_list.specs.declared.overlap.TheConstants.{MOST_PAIRS};
 ghost use Rattle.overlap_list.specs.Overlaps.{IsTooMany};
 ghost use Rattle.tile_shot.specs.Reports.{AddUp, is_in_tiles, report_of, spots_where, tile_report, view_report};
-ghost use Rattle.view_shot.specs.Flights.{IsReport};
+ghost use Rattle.view_shot.specs.Flights.{posted_of};
+ghost use Rattle.view_shot.specs.Jobs.{AreReports};
 ghost use Rattle.view_shot.specs.Steps.{IsTileReport};
-ghost use Rattle.view_shot.specs.declared.work.Shot.{Shot as ShotValue};
 
 use crate::executor::{Executor, check_tiles};
 use crate::job::CheckJob;
-use crate::named::TilePairs;
-use crate::work::Shot;
+use crate::named::{SharedPairs, TilePairs};
 use lattice_core::View;
 use memory_core::Memory;
 use outside_core::Gate;
@@ -28,7 +27,7 @@ use tile_shot::{merge_pairs, report_laws};
 /// How many tiles are shot at first, and at least.
 const FEW_TILES: u32 = 16;
 
-/// How many tiles are shot at a time at most.
+/// How many tiles are shot at a time at most, and posted of a check.
 const MANY_TILES: u32 = 1_024;
 
 /// How many tiles are shot next, where so many pairs overlap on those before them: fewer where each has many, as the pairs of
@@ -68,6 +67,38 @@ fn add_tile(
     }
 }
 
+/// Adds the overlaps on the rays of tiles that were shot, from a first one on, to those of the tiles before them.
+fn add_tiles(
+    alloc: Global,
+    scene: &Scene,
+    view: &View,
+    first: u32,
+    shots: &[SharedPairs],
+    report: &mut Vec<Pair>,
+) -> Result<(), CheckFault>
+    requires view { IsChecked view.now }
+    requires within { first + length shots.now ≤ tiles_of view.now }
+    requires shots { AreReports scene.now view.now first (length shots.now) shots.now }
+    requires before { report.old.items ≡ report_of scene.now view.now (spots_where view.now (is_in_tiles view.now first)) }
+    ensures added { IfOk result (λ _. report.new.items ≡ report_of scene.now view.now (spots_where view.now (is_in_tiles view.now (first + length shots.now)))) }
+    ensures most { IfOk result (λ _. length report.old.items ≤ MOST_PAIRS → length report.new.items ≤ MOST_PAIRS) }
+    ensures fault { IfErr result (IsTooMany (length (view_report scene.now view.now))) }
+{
+    report_laws();
+    let _regions = scene.regions();
+    for i in 0..shots.len() {
+        add_tile(
+            alloc,
+            scene,
+            view,
+            first + i as u32,
+            shots[i].pairs(),
+            report,
+        )?;
+    }
+    Ok(())
+}
+
 /// Adds the overlaps on the rays of so many tiles to those of the tiles before them.
 fn add_round<R: Threads + Sync, G: Gate + Sync>(
     executor: &Executor<R, G>,
@@ -85,8 +116,6 @@ fn add_round<R: Threads + Sync, G: Gate + Sync>(
     ensures most { IfOk result (λ _. length report.old.items ≤ MOST_PAIRS → length report.new.items ≤ MOST_PAIRS) }
     ensures fault { IfErr result (IsTooMany (length (view_report (arc_value scene.now) view.now))) }
 {
-    report_laws();
-    let _regions = scene.regions();
     let Ok(share) = scene.clone() else {
         return Err(CheckFault::Memory);
     };
@@ -96,13 +125,10 @@ fn add_round<R: Threads + Sync, G: Gate + Sync>(
         first,
         count,
     };
-    let Ok(shot) = check_tiles(executor, alloc, &job) else {
+    let Ok(shots) = check_tiles(executor, alloc, &job) else {
         return Err(CheckFault::Memory);
     };
-    for i in 0..count {
-        add_tile(alloc, scene, view, first + i, &shot[i as usize], report)?;
-    }
-    Ok(())
+    add_tiles(alloc, scene, view, first, &shots, report)
 }
 
 /// The first tiles of a view, as a job.
@@ -111,6 +137,7 @@ pub(crate) fn first_job(scene: &Arc<Scene>, view: &View) -> Result<CheckJob, Mem
     ensures scene { IfOk result (λ job. arc_value job.scene ≡ arc_value scene.now) }
     ensures view { IfOk result (λ job. job.view ≡ view.now) }
     ensures first { IfOk result (λ job. job.first ≡ 0) }
+    ensures count { IfOk result (λ job. job.count ≡ posted_of view.now) }
 {
     Ok(CheckJob {
         scene: scene.clone()?,
@@ -118,53 +145,6 @@ pub(crate) fn first_job(scene: &Arc<Scene>, view: &View) -> Result<CheckJob, Mem
         first: 0,
         count: view.tiles().min(MANY_TILES),
     })
-}
-
-/// Adds the overlaps on the rays of a tile, which was shot, to those of the tiles before it.
-fn add_shot(
-    alloc: Global,
-    scene: &Scene,
-    view: &View,
-    tile: u32,
-    shot: &Shot,
-    report: &mut Vec<Pair>,
-) -> Result<(), CheckFault>
-    requires view { IsChecked view.now }
-    requires tile { tile < tiles_of view.now }
-    requires shot { IsReport scene.now view.now tile shot.now }
-    requires before { report.old.items ≡ report_of scene.now view.now (spots_where view.now (is_in_tiles view.now tile)) }
-    ensures added { IfOk result (λ _. AddUp report.old.items (tile_report scene.now view.now tile) report.new.items) }
-    ensures most { IfOk result (λ _. length report.old.items ≤ MOST_PAIRS → length report.new.items ≤ MOST_PAIRS) }
-    ensures fault { IfErr result (IsTooMany (length (view_report scene.now view.now))) }
-{
-    match shot {
-        Shot::Tile(_) => unreachable!(),
-        Shot::Pairs(pairs) => add_tile(alloc, scene, view, tile, pairs.pairs(), report),
-    }
-}
-
-/// Adds the overlaps on the rays of the first tiles, which were shot.
-pub(crate) fn add_shots(
-    alloc: Global,
-    scene: &Arc<Scene>,
-    view: &View,
-    shots: &[Shot],
-    report: &mut Vec<Pair>,
-) -> Result<(), CheckFault>
-    requires view { IsChecked view.now }
-    requires within { length shots.now ≤ tiles_of view.now }
-    requires shots { (i : ℕ) (d : ShotValue) → i < length shots.now → IsReport (arc_value scene.now) view.now i (slice_index_or shots.now i d) }
-    requires before { report.old.items ≡ [] }
-    ensures added { IfOk result (λ _. report.new.items ≡ report_of (arc_value scene.now) view.now (spots_where view.now (is_in_tiles view.now (length shots.now)))) }
-    ensures most { IfOk result (λ _. length report.new.items ≤ MOST_PAIRS) }
-    ensures fault { IfErr result (IsTooMany (length (view_report (arc_value scene.now) view.now))) }
-{
-    report_laws();
-    let _regions = scene.regions();
-    for i in 0..shots.len() {
-        add_shot(alloc, scene, view, i as u32, &shots[i], report)?;
-    }
-    Ok(())
 }
 
 /// The overlaps on all rays of a view, where those on the rays of the first tiles are known: the others are found tile by tile.
@@ -204,18 +184,18 @@ pub(crate) fn check_behind<R: Threads + Sync, G: Gate + Sync>(
     scene: &Arc<Scene>,
     view: &View,
     count: u32,
-    shots: &[Shot],
+    shots: &[SharedPairs],
 ) -> Result<Vec<Pair>, CheckFault>
     requires view { IsChecked view.now }
     requires within { count ≤ tiles_of view.now }
     requires count { length shots.now ≡ count }
-    requires shots { (i : ℕ) (d : ShotValue) → i < length shots.now → IsReport (arc_value scene.now) view.now i (slice_index_or shots.now i d) }
+    requires shots { AreReports (arc_value scene.now) view.now 0 count shots.now }
     ensures pairs { IfOk result (λ report. report.items ≡ view_report (arc_value scene.now) view.now) }
     ensures most { IfOk result (λ v. length v.items ≤ MOST_PAIRS) }
     ensures fault { IfErr result (IsTooMany (length (view_report (arc_value scene.now) view.now))) }
 {
     let mut report = Vec::new(alloc);
-    match add_shots(alloc, scene, view, shots, &mut report) {
+    match add_tiles(alloc, scene, view, 0, shots, &mut report) {
         Ok(()) => check_rest(executor, alloc, scene, view, count, report),
         Err(fault) => Err(fault),
     }

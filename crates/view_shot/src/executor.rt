@@ -1,11 +1,12 @@
 //! Who shoots the tiles of a view: the calling thread alone, or several threads.
 ghost use Rattle.std.specs.Prelude.{◌≡◌, ◌≤◌, IfOk, vec_len};
+ghost use Rattle.std.specs.Arc.{arc_value};
 ghost use Rattle.tile_workers.specs.Results.{AreResults};
-ghost use Rattle.view_shot.specs.Jobs.{IsCheckOf, IsShotOf};
+ghost use Rattle.view_shot.specs.Jobs.{AreReports, GivesTile};
 
 use crate::job::{CheckJob, TileJob};
 use crate::kept::SharedTile;
-use crate::named::TilePairs;
+use crate::named::SharedPairs;
 use memory_core::Memory;
 use outside_core::Gate;
 use std::alloc::Global;
@@ -43,7 +44,7 @@ pub(crate) fn shoot_tiles<R: Threads + Sync, G: Gate + Sync>(
     job: &TileJob,
 ) -> Result<Vec<SharedTile>, Memory>
     ensures len { IfOk result (λ all. vec_len all ≡ vec_len job.now.tiles) }
-    ensures each { IfOk result (λ all. AreResults (IsShotOf job.now) (vec_len job.now.tiles) all.items) }
+    ensures each { IfOk result (λ all. AreResults (GivesTile job.now) (vec_len job.now.tiles) all.items) }
 {
     match executor {
         Executor::Sequential => shoot_alone(alloc, job),
@@ -58,9 +59,9 @@ pub(crate) fn check_tiles<R: Threads + Sync, G: Gate + Sync>(
     executor: &Executor<R, G>,
     alloc: Global,
     job: &CheckJob,
-) -> Result<Vec<TilePairs>, Memory>
+) -> Result<Vec<SharedPairs>, Memory>
     ensures len { IfOk result (λ all. vec_len all ≡ job.now.count) }
-    ensures each { IfOk result (λ all. AreResults (IsCheckOf job.now) job.now.count all.items) }
+    ensures each { IfOk result (λ all. AreReports (arc_value job.now.scene) job.now.view job.now.first job.now.count all.items) }
 {
     match executor {
         Executor::Sequential => shoot_alone(alloc, job),

@@ -8,14 +8,15 @@ ghost use Rattle.overlap_list.specs.Overlaps.{IsTooMany};
 ghost use Rattle.outside_core.specs.declared.gate.GateEvent.TheVariants.{TileBegin};
 ghost use Rattle.tile_shot.specs.Pixels.{view_bytes};
 ghost use Rattle.tile_shot.specs.Reports.{view_report};
-ghost use Rattle.view_shot.specs.Flights.{IsOfCheck, IsOfPicture, IsTile, of_check_prop, of_picture_prop, pieces_of};
+ghost use Rattle.view_shot.specs.Flights.{HasPairs, IsOfCheck, IsOfPicture, IsTile, of_check_prop, of_picture_prop, pieces_of, posted_of};
 ghost use Rattle.view_shot.specs.Kept.{after_picture, tile_names};
 ghost use Rattle.view_shot.specs.Steps.{if_kept};
-ghost use Rattle.view_shot.specs.declared.work.Shot.TheVariants.{Tile as IsTileShot};
+ghost use Rattle.view_shot.specs.declared.work.Shot.TheVariants.{Pairs as PairsShot, Tile as IsTileShot};
 
 use crate::check::{check_behind, first_job};
 use crate::executor::Executor;
 use crate::kept::{KeptTiles, SharedTile};
+use crate::named::SharedPairs;
 use crate::picture::{join_view, lacking_job};
 use crate::plan::Plan;
 use crate::work::{Shot, Work};
@@ -28,7 +29,8 @@ use std::alloc::Global;
 use std::sync::{Arc, Wait};
 use std::thread::Threads;
 use std::vec::Vec;
-use tile_pool::{PoolJob, Ticket, TilePool};
+use tile_pool::{Ticket, TilePool};
+use tile_workers::Job;
 
 /// A gate that is told of each tile of a session's command before it is shot.
 #[derive(Drop)]
@@ -60,12 +62,14 @@ impl<'a, G: Gate> FlightJob<'a, G> {
     }
 }
 
-impl<'a, G: Gate + Sync> PoolJob for FlightJob<'a, G> {
-    ghost use Rattle.view_shot.specs.Flights.{GivesShot, NamesShot, pieces_of};
+impl<'a, G: Gate + Sync> Job for FlightJob<'a, G> {
+    ghost use Rattle.view_shot.specs.Flights.{GivesShot, NamesShot, pieces_of, tile_of};
 
     type Out = Shot;
 
     ghost pieces = { λ job. pieces_of job.work };
+
+    ghost tiles = { λ job. tile_of job.work };
 
     ghost gives = { λ job. GivesShot job.work };
 
@@ -73,6 +77,10 @@ impl<'a, G: Gate + Sync> PoolJob for FlightJob<'a, G> {
 
     fn count(&self) -> u32 {
         self.work.count()
+    }
+
+    fn tile(&self, i: u32) -> u32 {
+        self.work.tile(i)
     }
 
     fn run(&self, alloc: Global, i: u32) -> Result<Shot, Memory> {
@@ -165,10 +173,11 @@ pub struct CheckFlight<'a, G: Gate + Sync> {
     pub(crate) scene: Arc<Scene>,
     pub(crate) view: View,
     /// How many tiles were posted.
-    count: u32,
+    pub(crate) count: u32,
     ticket: Ticket<FlightJob<'a, G>>,
     pub(crate) ghost checked: { IsChecked view },
     pub(crate) ghost posted: { IsOfCheck (arc_value scene) view count ticket.work } by { of_check_prop (arc_value scene) view count ticket.work },
+    pub(crate) ghost first: { count ≡ posted_of view },
 }
 
 /// Puts the first tiles of a check into flight, and shoots none of them. `Memory` where there is none for the job.
@@ -183,6 +192,7 @@ pub fn post_check<'a, R: Wait, G: Gate + Sync>(
     requires view { IsChecked view.now }
     ensures scene { IfOk result (λ flight. arc_value flight.scene ≡ arc_value scene.now) }
     ensures view { IfOk result (λ flight. flight.view ≡ view.now) }
+    ensures count { IfOk result (λ flight. flight.count ≡ posted_of view.now) }
 {
     let tiles = first_job(scene, view)?;
     let count = tiles.count;
@@ -196,6 +206,18 @@ pub fn post_check<'a, R: Wait, G: Gate + Sync>(
         count,
         ticket,
     })
+}
+
+/// The pairs that were shot, in their order.
+fn into_pairs(alloc: Global, shots: Vec<Shot>) -> Result<Vec<SharedPairs>, Memory>
+    requires { All HasPairs shots.items }
+    ensures { IfOk result (λ pairs. map PairsShot pairs.items ≡ shots.items) }
+{
+    let mut pairs = Vec::new(alloc);
+    for shot in shots {
+        pairs.push(shot.into_pairs())?;
+    }
+    Ok(pairs)
 }
 
 /// The overlaps on all rays of a view whose check is in flight, as `check_view` gives them. The calling thread shoots the
@@ -217,8 +239,11 @@ pub fn gather_check<'a, R: Threads + Sync, G: Gate + Sync>(
         count,
         ticket,
     } = flight;
-    match pool.gather(alloc, ticket) {
-        Ok(shots) => check_behind(executor, alloc, &scene, &view, count, &shots),
+    let Ok(shots) = pool.gather(alloc, ticket) else {
+        return Err(CheckFault::Memory);
+    };
+    match into_pairs(alloc, shots) {
+        Ok(pairs) => check_behind(executor, alloc, &scene, &view, count, &pairs),
         Err(_) => Err(CheckFault::Memory),
     }
 }

@@ -1,11 +1,10 @@
 //! The pieces of a view, each of which one thread can shoot.
-ghost use Rattle.std.specs.Prelude.{◌≤◌, ◌<◌, ◌+◌, ◌^◌, All, IfOk, vec_len};
+ghost use Rattle.std.specs.Prelude.{◌≤◌, ◌<◌, ◌+◌, ◌^◌, All, vec_len};
 ghost use Rattle.lattice_core.specs.Views.{IsChecked};
 ghost use Rattle.lattice_core.specs.Tiles.{tiles_of};
-ghost use Rattle.view_shot.specs.Steps.{IsTileReport};
 
 use crate::kept::SharedTile;
-use crate::named::{SharedPairs, TilePairs, pairs_of_tile, places_of};
+use crate::named::{SharedPairs, places_of};
 use lattice_core::View;
 use memory_core::Memory;
 use shot_core::{Scene, kept_bodies, kept_regions};
@@ -27,9 +26,8 @@ pub struct TileJob {
 }
 
 impl TileJob {
-    ghost use Rattle.std.specs.Prelude.{◌≡◌, ◌<◌, ◌↔◌, IfOk, IfSome, IsSome, slice_index_or, vec_len};
+    ghost use Rattle.std.specs.Prelude.{◌≡◌, ◌<◌, IfOk, slice_index_or, vec_len};
     ghost use Rattle.std.specs.Arc.{arc_value};
-    ghost use Rattle.view_shot.specs.Jobs.{IsShotOf};
     ghost use Rattle.view_shot.specs.Kept.{tile_name};
 
     /// What names the tile of a piece.
@@ -41,29 +39,11 @@ impl TileJob {
         let bodies = kept_bodies(alloc, &self.scene, &self.view, tile)?;
         TileKey::of_bodies(alloc, bodies, &self.view, tile)
     }
-
-    /// Another share of a tile, where it is named as that of a piece.
-    pub(crate) fn again(
-        &self,
-        alloc: Global,
-        i: u32,
-        shot: &SharedTile,
-    ) -> Result<Option<SharedTile>, Memory>
-        requires { i < vec_len self.now.tiles }
-        ensures names { IfOk result (λ again. IsSome again ↔ IsShotOf self.now i shot.now) }
-        ensures gives { IfOk result (λ again. IfSome again (IsShotOf self.now i)) }
-    {
-        if *shot.tile().key() == self.name(alloc, i)? {
-            Ok(Some(shot.share()?))
-        } else {
-            Ok(None)
-        }
-    }
 }
 
 impl Job for TileJob {
     ghost use Rattle.std.specs.Prelude.{slice_index_or, vec_len};
-    ghost use Rattle.view_shot.specs.Jobs.{IsShotOf};
+    ghost use Rattle.view_shot.specs.Jobs.{GivesTile, IsShotOf};
 
     type Out = SharedTile;
 
@@ -71,7 +51,9 @@ impl Job for TileJob {
 
     ghost tiles = { λ job i. slice_index_or job.tiles.items i 0 };
 
-    ghost gives = { IsShotOf };
+    ghost gives = { GivesTile };
+
+    ghost names = { IsShotOf };
 
     fn count(&self) -> u32 {
         self.tiles.len() as u32
@@ -85,7 +67,18 @@ impl Job for TileJob {
         let tile = self.tiles[i as usize];
         let kept = kept_regions(alloc, &self.scene, &self.view, tile)?;
         let shot = shoot_tile(alloc, &kept, &self.view, tile)?;
+        let _shot = shot.bytes();
         SharedTile::new(alloc, shot)
+    }
+
+    /// Another share of a tile, where it is named as that of a piece.
+    fn again(&self, alloc: Global, i: u32, out: &SharedTile) -> Result<Option<SharedTile>, Memory> {
+        let _shot = out.tile().bytes();
+        if *out.tile().key() == self.name(alloc, i)? {
+            Ok(Some(out.share()?))
+        } else {
+            Ok(None)
+        }
     }
 }
 
@@ -100,48 +93,9 @@ pub struct CheckJob {
     pub(crate) ghost within: { first + count ≤ tiles_of view },
 }
 
-/// The pairs of a tile, found among the regions that are kept for it.
-fn check_kept(alloc: Global, scene: &Scene, view: &View, tile: u32) -> Result<TilePairs, Memory>
-    requires view { IsChecked view.now }
-    requires tile { tile < tiles_of view.now }
-    ensures { IfOk result (λ shot. IsTileReport scene.now view.now tile shot.pairs) }
-{
-    report_laws();
-    let _regions = scene.regions();
-    let kept = kept_regions(alloc, scene, view, tile)?;
-    pairs_of_tile(alloc, &kept, view, tile)
-}
-
-impl Job for CheckJob {
-    ghost use Rattle.std.specs.Prelude.{◌+◌};
-    ghost use Rattle.view_shot.specs.Jobs.{IsCheckOf};
-
-    type Out = TilePairs;
-
-    ghost pieces = { λ job. job.count };
-
-    ghost tiles = { λ job i. job.first + i };
-
-    ghost gives = { IsCheckOf };
-
-    fn count(&self) -> u32 {
-        self.count
-    }
-
-    fn tile(&self, i: u32) -> u32 {
-        self.first + i
-    }
-
-    fn run(&self, alloc: Global, i: u32) -> Result<TilePairs, Memory> {
-        check_kept(alloc, &self.scene, &self.view, self.first + i)
-    }
-}
-
 impl CheckJob {
-    ghost use Rattle.std.specs.Prelude.{◌<◌, ◌↔◌, IfOk, IfSome, IsSome};
-    ghost use Rattle.std.specs.Arc.{arc_value};
-    ghost use Rattle.view_shot.specs.Flights.{NamesCheck};
-    ghost use Rattle.view_shot.specs.Jobs.{IsCheckOf};
+    ghost use Rattle.std.specs.Prelude.{◌<◌};
+    ghost use Rattle.view_shot.specs.Jobs.{IsCheckOf, NamesCheck};
     ghost use Rattle.view_shot.specs.Named.{IsNamedReport};
     ghost use Rattle.view_shot.specs.declared.named.NamedPairs.{NamedPairs as Held};
 
@@ -153,13 +107,32 @@ impl CheckJob {
         report_laws();
         let _regions = self.scene.regions();
     }
+}
 
-    /// The pairs of the tile of a piece, with what names them.
-    pub(crate) fn run_named(&self, alloc: Global, i: u32) -> Result<SharedPairs, Memory>
-        requires { i < self.now.count }
-        ensures names { IfOk result (λ shared. NamesCheck self.now i (arc_value shared.named)) }
-        ensures gives { IfOk result (λ shared. IsCheckOf self.now i (arc_value shared.named).pairs) }
-    {
+impl Job for CheckJob {
+    ghost use Rattle.std.specs.Prelude.{◌+◌};
+    ghost use Rattle.std.specs.Arc.{arc_value};
+    ghost use Rattle.view_shot.specs.Jobs.{IsCheckOf, NamesCheck};
+
+    type Out = SharedPairs;
+
+    ghost pieces = { λ job. job.count };
+
+    ghost tiles = { λ job i. job.first + i };
+
+    ghost gives = { λ job i shared. IsCheckOf job i (arc_value shared.named).pairs };
+
+    ghost names = { λ job i shared. NamesCheck job i (arc_value shared.named) };
+
+    fn count(&self) -> u32 {
+        self.count
+    }
+
+    fn tile(&self, i: u32) -> u32 {
+        self.first + i
+    }
+
+    fn run(&self, alloc: Global, i: u32) -> Result<SharedPairs, Memory> {
         self.piece_law(i);
         let tile = self.first + i;
         let kept = kept_regions(alloc, &self.scene, &self.view, tile)?;
@@ -168,24 +141,20 @@ impl CheckJob {
     }
 
     /// Another share of pairs, where they are named as those of a piece.
-    pub(crate) fn again(
+    fn again(
         &self,
         alloc: Global,
         i: u32,
-        shot: &SharedPairs,
-    ) -> Result<Option<SharedPairs>, Memory>
-        requires { i < self.now.count }
-        ensures names { IfOk result (λ again. IsSome again ↔ NamesCheck self.now i (arc_value shot.now.named)) }
-        ensures gives { IfOk result (λ again. IfSome again (λ shared. IsCheckOf self.now i (arc_value shared.named).pairs)) }
-    {
+        out: &SharedPairs,
+    ) -> Result<Option<SharedPairs>, Memory> {
         self.piece_law(i);
-        let _right = shot.pairs();
+        let _right = out.pairs();
         let tile = self.first + i;
         let kept = kept_regions(alloc, &self.scene, &self.view, tile)?;
         let key = TileKey::new(alloc, &kept, &self.view, tile)?;
         let places = places_of(alloc, &kept)?;
-        if shot.is_of(&key, &places) {
-            Ok(Some(shot.share()?))
+        if out.is_of(&key, &places) {
+            Ok(Some(out.share()?))
         } else {
             Ok(None)
         }

@@ -1,7 +1,7 @@
 //! The work of a job in flight, and what its pieces give.
 ghost use Rattle.std.specs.Prelude.{◌≡◌, ◌<◌, ◌↔◌, IfOk, IfSome, IsSome};
-ghost use Rattle.view_shot.specs.Flights.{GivesShot, IsTile, NamesShot, pieces_of, tile_of};
-ghost use Rattle.view_shot.specs.declared.work.Shot.TheVariants.{Tile as IsTileShot};
+ghost use Rattle.view_shot.specs.Flights.{HasPairs, GivesShot, IsTile, NamesShot, pieces_of, tile_of};
+ghost use Rattle.view_shot.specs.declared.work.Shot.TheVariants.{Pairs as PairsShot, Tile as IsTileShot};
 
 use crate::job::{CheckJob, TileJob};
 use crate::kept::SharedTile;
@@ -54,7 +54,7 @@ impl Work {
     {
         match self {
             Work::Picture(job) => Ok(Shot::Tile(job.run(alloc, i)?)),
-            Work::Check(job) => Ok(Shot::Pairs(job.run_named(alloc, i)?)),
+            Work::Check(job) => Ok(Shot::Pairs(job.run(alloc, i)?)),
         }
     }
 
@@ -85,6 +85,17 @@ impl Shot {
         match self {
             Shot::Tile(tile) => tile,
             Shot::Pairs(_) => unreachable!(),
+        }
+    }
+
+    /// The pairs that were shot.
+    pub(crate) fn into_pairs(self) -> SharedPairs
+        requires { HasPairs self }
+        ensures { self ≡ PairsShot result }
+    {
+        match self {
+            Shot::Tile(_) => unreachable!(),
+            Shot::Pairs(pairs) => pairs,
         }
     }
 }

@@ -8,5 +8,5 @@ loop-i-preserved g c =
     let len : length c.loop-i.all.items ≡ c.loop-i.i = search rules in
     record {
       len = search rules;
-      each = subst (AreResults (g.J.Job.gives c.args.job.now) _) (sym c.in_ok-push.ensures.items) (results_more (g.J.Job.gives c.args.job.now) c.loop-i.i c.loop-i.all.items c.in_ok-run.field-0 len c.loop-i.invariant.each c.in_ok-run.ensures);
+      each = subst (AreResults (g.J.Job.gives c.args.job.now) _) (sym c.in_ok-push.ensures.items) (results_more (g.J.Job.gives c.args.job.now) c.loop-i.i c.loop-i.all.items c.in_ok-run.field-0 len c.loop-i.invariant.each c.in_ok-run.ensures.gives);
     }

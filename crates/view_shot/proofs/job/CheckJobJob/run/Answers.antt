@@ -4,7 +4,7 @@ use Rattle.shot_core.specs.Pruned.{kept_for}
 use Rattle.shot_core.specs.Regions.{Region}
 use Rattle.tile_shot.specs.Named.{name_of}
 use Rattle.view_shot.specs.Named.{places_of}
-use Rattle.view_shot.proofs.job.CheckJob.run_named.Goals as goal
+use Rattle.view_shot.proofs.job.CheckJobJob.run.Goals as goal
 
 pub returns-clause-gives : goal.returns-clause-gives
 returns-clause-gives c =

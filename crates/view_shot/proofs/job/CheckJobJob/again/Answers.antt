@@ -6,7 +6,7 @@ use Rattle.tile_shot.specs.Named.{name_of}
 use Rattle.view_shot.specs.Jobs.{IsCheckOf}
 use Rattle.view_shot.specs.Named.{places_of}
 use Rattle.view_shot.specs.declared.named.NamedPairs.{NamedPairs}
-use Rattle.view_shot.proofs.job.CheckJob.again.Goals as goal
+use Rattle.view_shot.proofs.job.CheckJobJob.again.Goals as goal
 
 pub returns-then-is_of-clause-gives : goal.returns-then-is_of-clause-gives
 returns-then-is_of-clause-gives c =
@@ -14,5 +14,5 @@ returns-then-is_of-clause-gives c =
     let here : c.in_ok-kept.kept ≡ kept_for (arc_value job.scene) job.view (job.first + c.args.i) = c.in_ok-kept.ensures ∙ ap (λ (s : List Region). kept_for s job.view (job.first + c.args.i)) c.deref.ensures in
     let same = c.is_of.ensures.0 c.if-is_of.true in
     subst (λ (named : NamedPairs). IsCheckOf job c.args.i named.pairs) (sym c.in_ok-share.ensures)
-    (c.piece_law.ensures (arc_value c.args.shot.now.named) c.pairs-right.ensures.right
+    (c.piece_law.ensures (arc_value c.args.out.now.named) c.pairs-right.ensures.right
     (same.0 ∙ c.in_ok-key.ensures ∙ ap (λ (s : List Region). name_of s job.view (job.first + c.args.i)) here, same.1 ∙ c.in_ok-places.ensures ∙ ap places_of here))

@@ -97,7 +97,6 @@ impl<J: Job + Drop> TilePool<J> {
         ensures each { IfOk result (λ all. AreResults (J.gives ticket) (J.pieces ticket) all.items) }
     {
         let Ticket { posted } = ticket;
-        posted.run_rest(alloc);
         posted.results(alloc)
     }
 }

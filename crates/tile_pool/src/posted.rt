@@ -74,10 +74,12 @@ impl<J: Job + Drop> Posted<J> {
         true
     }
 
-    /// Runs the pieces that are left.
-    pub(crate) fn run_rest(&self, alloc: Global) {
+    /// Runs pieces until the cell of this one is set, or no piece is left to be taken.
+    fn run_until_set(&self, alloc: Global, i: u32)
+        requires { i < J.pieces (arc_value self.now.job) }
+    {
         for _ in 0..self.job.count() {
-            if !self.run_next(alloc) {
+            if self.cells[i as usize].get().is_some() || !self.run_next(alloc) {
                 break;
             }
         }
@@ -96,13 +98,15 @@ impl<J: Job + Drop> Posted<J> {
         self.job.run(alloc, i)
     }
 
-    /// The results of all pieces, in their order.
+    /// The results of all pieces, in their order. Each is asked for as soon as those before it are there, so that what asking
+    /// costs is paid while other threads still run pieces.
     pub(crate) fn results(&self, alloc: Global) -> Result<Vec<J::Out>, Memory>
         ensures len { IfOk result (λ all. vec_len all ≡ J.pieces (arc_value self.now.job)) }
         ensures each { IfOk result (λ all. AreResults (J.gives (arc_value self.now.job)) (J.pieces (arc_value self.now.job)) all.items) }
     {
         let mut all = Vec::new(alloc);
         for i in 0..self.job.count() {
+            self.run_until_set(alloc, i);
             all.push(self.result_of(alloc, i)?)?;
         }
         Ok(all)

@@ -8,6 +8,7 @@ mod name_set;
 mod object_pages;
 mod references;
 mod renaming;
+mod shared_tally;
 mod tally;
 mod users;
 

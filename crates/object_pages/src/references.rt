@@ -7,6 +7,7 @@ ghost use Rattle.object_pages.specs.Members.{node_names, times, name_of_node};
 ghost use Rattle.object_pages.specs.Tallies.{count_on, tally_of, leaves_on, Exchanges, MovesCounts};
 
 use crate::change::{Change, change_of};
+use crate::shared_tally::SharedTally;
 use crate::tally::Tally;
 use comb_tree::CombNode;
 use memory_core::Memory;
@@ -18,7 +19,7 @@ use std::marker::Model;
 /// How many leaves of each page name each name. Contracts see the counts, and by `leaves_on` that of a name and a page.
 #[derive(Drop)]
 pub(crate) struct References {
-    tallies: SharedMap<Tally>,
+    tallies: SharedMap<SharedTally>,
 }
 
 impl Model for References {
@@ -52,14 +53,17 @@ impl References {
     pub(crate) fn tally(&self, name: &Name) -> Option<&Tally>
         ensures { option_copied result ≡ value_of self.now name.now }
     {
-        self.tallies.get(name)
+        match self.tallies.get(name) {
+            Some(shared) => Some(shared.tally()),
+            None => None,
+        }
     }
 
     /// A copy of the counts of a name.
     fn tally_copy(&self, alloc: Global, name: &Name) -> Result<Tally, Memory>
         ensures { IfOk result (λ t. t ≡ tally_of self.now name.now) }
     {
-        match self.tallies.get(name) {
+        match self.tally(name) {
             Some(tally) => tally.copy(),
             None => Ok(Tally::new(alloc)),
         }
@@ -74,7 +78,8 @@ impl References {
             let tallies = tallies.remove(alloc, name)?;
             return Ok(References { tallies });
         }
-        let tallies = tallies.put(alloc, name, tally)?;
+        let shared = SharedTally::of_tally(alloc, tally)?;
+        let tallies = tallies.put(alloc, name, shared)?;
         Ok(References { tallies })
     }
 
@@ -154,7 +159,7 @@ impl References {
         ensures { IfOk result (λ t. (n : ℕ) → count_on t n ≡ leaves_on self.now new.now n + leaves_on self.now old.now n) }
     {
         let joined = self.tally_copy(alloc, new)?;
-        match self.tallies.get(old) {
+        match self.tally(old) {
             Some(tally) => joined.and(tally),
             None => Ok(joined),
         }

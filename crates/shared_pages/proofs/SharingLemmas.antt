@@ -1,4 +1,4 @@
-use Rattle.std.proofs.Common.{◌≡◌, ◌∙◌, Bool, true, false, List, [], ◌∷◌, ◌++◌, refl, ap}
+use Rattle.std.proofs.Common.{◌≡◌, ◌∙◌, Bool, true, false, List, [], ◌∷◌, refl, ap}
 use Rattle.std.specs.Arc.{arc_value}
 use Rattle.std.specs.declared.sync.Arc.{Arc}
 use Rattle.std.specs.List.{AllZip}
@@ -13,12 +13,6 @@ module _ {K V Z : Type 0} where
   values_same [] (f ∷ fs) h = absurd h
   values_same (e ∷ es) [] h = absurd h
   values_same (e ∷ es) (f ∷ fs) h = (λ j. (h.0.0 j, h.0.1 j) ∷ values_shared fs) ∙ ap (λ l. (e.0, arc_value e.1) ∷ l) (values_same es fs h.1)
-
-  -- the pairs that are added to none
-  pub values_copied : (es more start new added : List (K × Arc V Z)) → more ≡ es → start ≡ [] → new ≡ start ++ added → AllZip (λ p q. (q.0 ≡ p.0) × (arc_value q.1 ≡ arc_value p.1)) more added
-      → values_shared new ≡ values_shared es
-  values_copied es more start new added same none is h =
-      ap (λ l. values_shared l) (is ∙ ap (λ l. l ++ added) none) ∙ values_same more added h ∙ ap (λ l. values_shared l) same
 
   pub values_removed : (test : K → Bool) (es : List (K × Arc V Z)) → values_shared (remove_entry test es) ≡ remove_entry test (values_shared es)
   values_removed test [] = refl

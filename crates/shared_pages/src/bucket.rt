@@ -1,6 +1,5 @@
 ghost use Rattle.std.specs.Prelude.{◌≡◌, [], cond, OnOk, OnErr, IfOk};
-ghost use Rattle.std.specs.Arc.{arc_value};
-ghost use Rattle.std.specs.Option.{option_copied, option_map};
+ghost use Rattle.std.specs.Option.{option_copied};
 ghost use Rattle.std.specs.List.{IsDistinct};
 ghost use Rattle.std.specs.Map.{lookup, keys_of, remove_entry};
 ghost use Rattle.indexmap.specs.IndexMap.{insert_entry};
@@ -8,15 +7,14 @@ ghost use Rattle.name_core.specs.declared.name.Name.{Name as Bytes};
 ghost use Rattle.name_core.specs.Same.{same_name};
 ghost use Rattle.shared_pages.specs.Named.{IsFound};
 
+use crate::again::Again;
 use memory_core::Memory;
 use name_core::Name;
 use std::alloc::Global;
 use std::marker::Model;
-use std::sync::Arc;
-use std::vec::VecCloneMethods;
 
 /// Where the name stands.
-fn place_in<V: Drop>(entries: &[(Name, Arc<V>)], name: &Name) -> Option<usize>
+fn place_in<V: Drop>(entries: &[(Name, V)], name: &Name) -> Option<usize>
     ensures { IsFound (same_name name.now) entries.now result }
 {
     for place in 0..entries.len() {
@@ -27,11 +25,23 @@ fn place_in<V: Drop>(entries: &[(Name, Arc<V>)], name: &Name) -> Option<usize>
     None
 }
 
-/// A few names with their shared values, in one piece of memory. No name stands twice, and a copy shares the values.
-/// Contracts see it as the list of the names and the values.
+/// The same pairs, with room for one more.
+fn with_room<V: Again>(alloc: Global, pairs: &[(Name, V)]) -> Result<Vec<(Name, V)>, Memory>
+    ensures { IfOk result (λ p. p.items ≡ pairs.now) }
+{
+    let mut entries = Vec::with_capacity(alloc, pairs.len() + 1)?;
+    for pair in pairs {
+        entries.push((pair.0, pair.1.again()?))?;
+    }
+    Ok(entries)
+}
+
+/// A few names with their values, in one piece of memory: the values stand in it themselves, so a copy costs one piece of
+/// memory and what the copies of the values cost. No name stands twice. Contracts see it as the list of the names and the
+/// values.
 #[derive(Drop)]
 pub struct Bucket<V> {
-    entries: Vec<(Name, Arc<V>)>,
+    entries: Vec<(Name, V)>,
 }
 
 impl<V> Model for Bucket<V> {
@@ -40,16 +50,15 @@ impl<V> Model for Bucket<V> {
     ghost use Rattle.std.specs.Map.{keys_of};
     ghost use Rattle.name_core.specs.declared.name.Name.{Name as Bytes};
     ghost use Rattle.name_core.specs.Same.{same_name};
-    ghost use Rattle.shared_pages.specs.Sharing.{values_shared};
 
     ghost Value = { List (Bytes × V) };
 
-    ghost view = { λ s. values_shared s.entries.items };
+    ghost view = { λ s. s.entries.items };
 
-    ghost invariant = { λ s. IsDistinct same_name (keys_of (values_shared s.entries.items)) };
+    ghost invariant = { λ s. IsDistinct same_name (keys_of s.entries.items) };
 }
 
-impl<V: Drop> Bucket<V> {
+impl<V: Again> Bucket<V> {
     /// No pairs. It takes no memory until one is put in.
     pub(crate) fn new(alloc: Global) -> Bucket<V>
         ensures { result ≡ [] }
@@ -64,23 +73,22 @@ impl<V: Drop> Bucket<V> {
         ensures { option_copied result ≡ lookup (same_name name.now) self.now }
     {
         match place_in(&self.entries, name) {
-            Some(place) => Some(&*self.entries[place].1),
+            Some(place) => Some(&self.entries[place].1),
             None => None,
         }
     }
 
-    /// The same pairs again, with room for one more. They share every value.
+    /// The same pairs again, with room for one more.
     pub(crate) fn copy(&self) -> Result<Bucket<V>, Memory>
         ensures { IfOk result (λ p. p ≡ self.now) }
     {
-        let mut entries = Vec::with_capacity(*self.entries.allocator(), self.entries.len() + 1)?;
-        VecCloneMethods::extend_from_slice(&mut entries, &self.entries)?;
+        let entries = with_room(*self.entries.allocator(), &self.entries)?;
         Ok(Bucket { entries })
     }
 
     /// Gives the name this value: in its place where it has one, else at the end.
-    pub(crate) fn insert(&mut self, name: &Name, value: Arc<V>) -> Result<(), Memory>
-        ensures ok { OnOk result (self.new ≡ insert_entry same_name self.old name.now (arc_value value)) }
+    pub(crate) fn insert(&mut self, name: &Name, value: V) -> Result<(), Memory>
+        ensures ok { OnOk result (self.new ≡ insert_entry same_name self.old name.now value) }
         ensures err { OnErr result (self.new ≡ self.old) }
     {
         if let Some(place) = place_in(&self.entries, name) {
@@ -91,7 +99,7 @@ impl<V: Drop> Bucket<V> {
         Ok(())
     }
 
-    /// Takes the name and its share of the value out, where it has one.
+    /// Takes the name and its value out, where it has one.
     pub(crate) fn remove(&mut self, name: &Name)
         ensures pairs { self.new ≡ remove_entry (same_name name.now) self.old }
         ensures distinct { IsDistinct same_name (keys_of self.old) }
@@ -102,8 +110,8 @@ impl<V: Drop> Bucket<V> {
     }
 
     /// Gives the name this value, or none.
-    pub(crate) fn change(&mut self, name: &Name, value: Option<Arc<V>>) -> Result<(), Memory>
-        ensures { OnOk result ((a : Bytes) → lookup (same_name a) self.new ≡ cond (same_name name.now a) (option_map arc_value value) (lookup (same_name a) self.old)) }
+    pub(crate) fn change(&mut self, name: &Name, value: Option<V>) -> Result<(), Memory>
+        ensures { OnOk result ((a : Bytes) → lookup (same_name a) self.new ≡ cond (same_name name.now a) value (lookup (same_name a) self.old)) }
     {
         match value {
             Some(value) => self.insert(name, value)?,

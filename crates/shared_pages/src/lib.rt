@@ -1,6 +1,7 @@
 //! Values by name, held so that a copy shares them all and a change copies only what it touches.
 #![tactic(auto)]
 
+mod again;
 mod blank;
 mod bucket;
 mod edit;
@@ -16,6 +17,7 @@ mod shares;
 mod spot;
 mod walk;
 
+pub use again::Again;
 pub use limit::{MOST_PAIRS, limit_laws};
 pub use map::SharedMap;
 pub use page::Page;

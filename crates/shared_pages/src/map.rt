@@ -1,9 +1,9 @@
 ghost use Rattle.std.specs.Prelude.{◌≡◌, ◌<◌, None, Some, IfOk, []};
-ghost use Rattle.std.specs.Arc.{arc_value};
-ghost use Rattle.std.specs.Option.{option_copied, option_map, unwrap_or};
+ghost use Rattle.std.specs.Option.{option_copied, unwrap_or};
 ghost use Rattle.name_core.specs.declared.name.Name.{Name as Bytes};
 ghost use Rattle.shared_pages.specs.Buckets.{value_of, bucket_at, shelf_of, row_of, bucket_of, Gives};
 
+use crate::again::Again;
 use crate::bucket::Bucket;
 use crate::hash::number_of;
 use crate::shares::Shares;
@@ -39,7 +39,7 @@ pub(crate) fn slot_of(name: &Name) -> Slot
 }
 
 /// Values by name. A copy shares them all, and a change touches only the shelf, the row and the bucket of its name: what a
-/// copy shares is copied first, and what none shares is changed where it stands. Contracts see its pairs, and by `value_of`
+/// copy shares is copied first, with the values of that bucket, and what none shares is changed where it stands. Contracts see its pairs, and by `value_of`
 /// the value of each name.
 #[derive(Drop)]
 pub struct SharedMap<V> {
@@ -56,7 +56,7 @@ impl<V> Model for SharedMap<V> {
     ghost view = { λ s. shared_or_none s.root };
 }
 
-impl<V: Drop> SharedMap<V> {
+impl<V: Again> SharedMap<V> {
     /// No values. It takes no memory.
     pub fn new(alloc: Global) -> SharedMap<V>
         ensures { (a : Bytes) → value_of result a ≡ None }
@@ -118,13 +118,8 @@ impl<V: Drop> SharedMap<V> {
     }
 
     /// The map in which the name has this value, or none.
-    fn changed(
-        self,
-        alloc: Global,
-        name: &Name,
-        value: Option<Arc<V>>,
-    ) -> Result<SharedMap<V>, Memory>
-        ensures { IfOk result (Gives self name.now (option_map arc_value value)) }
+    fn changed(self, alloc: Global, name: &Name, value: Option<V>) -> Result<SharedMap<V>, Memory>
+        ensures { IfOk result (Gives self name.now value) }
     {
         let slot = slot_of(name);
         let mut shelves = self.owned(alloc)?;
@@ -144,8 +139,7 @@ impl<V: Drop> SharedMap<V> {
     pub fn put(self, alloc: Global, name: &Name, value: V) -> Result<SharedMap<V>, Memory>
         ensures { IfOk result (Gives self name.now (Some value)) }
     {
-        let share = Arc::new(alloc, value)?;
-        self.changed(alloc, name, Some(share))
+        self.changed(alloc, name, Some(value))
     }
 
     /// The map in which the name has no value. It takes this map over, and what copies of this map share stays as it is for

@@ -1,4 +1,4 @@
-use Rattle.std.proofs.Common.{arith, refl, sym, None, Some}
+use Rattle.std.proofs.Common.{arith, sym, None, Some}
 use Rattle.object_pages.proofs.TallyLemmas.{leaves_given, no_counts}
 use Rattle.object_pages.proofs.references.References.put.Goals as goal
 
@@ -8,4 +8,4 @@ returns-then-len-eq0 c =
 
 pub returns : goal.returns
 returns c =
-    leaves_given c.self.inside.tallies c.args.self c.in_ok-tallies-2.tallies c.args.name.now (Some c.args.tally) c.args.tally refl c.self.view_is c.in_ok-tallies-2.ensures
+    leaves_given c.self.inside.tallies c.args.self c.in_ok-tallies-2.tallies c.args.name.now (Some c.in_ok-shared.shared) c.args.tally c.in_ok-shared.ensures c.self.view_is c.in_ok-tallies-2.ensures

@@ -3,9 +3,7 @@ use Rattle.std.specs.List.{IsDistinct}
 use Rattle.std.specs.Map.{lookup, keys_of, remove_entry}
 use Rattle.name_core.specs.Same.{same_name}
 use Rattle.shared_pages.specs.Named.{IsFirst}
-use Rattle.shared_pages.specs.Sharing.{values_shared}
 use Rattle.shared_pages.proofs.BucketLemmas.{first_within, first_removed, none_removed, distinct_removed}
-use Rattle.shared_pages.proofs.SharingLemmas.{values_removed}
 use Rattle.shared_pages.proofs.bucket.Bucket.remove.Goals as goal
 
 pub remove-entry-requires : goal.remove-entry-requires
@@ -16,19 +14,17 @@ remove-entry-requires g c =
 pub invariant_of-self : goal.invariant_of-self
 invariant_of-self g c =
     let first = subst (λ l. IsFirst (same_name c.args.name.now) l c.in-Some.place) c.deref.ensures.value c.in-Some.ensures in
-    let left =
-    ap (λ l. values_shared l) (c.remove-entry.ensures.items ∙ first_removed (same_name c.args.name.now) c.self.inside.entries.items c.in-Some.place first)
-    ∙ values_removed (same_name c.args.name.now) c.self.inside.entries.items in
-    subst (λ l. IsDistinct same_name (keys_of l)) (sym left) (distinct_removed (same_name c.args.name.now) (values_shared c.self.inside.entries.items) c.self.invariant)
+    let left = c.remove-entry.ensures.items ∙ first_removed (same_name c.args.name.now) c.self.inside.entries.items c.in-Some.place first in
+    subst (λ l. IsDistinct same_name (keys_of l)) (sym left) (distinct_removed (same_name c.args.name.now) c.self.inside.entries.items c.self.invariant)
 
 pub returns-in-Some-clause-pairs : goal.returns-in-Some-clause-pairs
 returns-in-Some-clause-pairs g c =
     let first = subst (λ l. IsFirst (same_name c.args.name.now) l c.in-Some.place) c.deref.ensures.value c.in-Some.ensures in
-    ap (λ l. values_shared l) (c.remove-entry.ensures.items ∙ first_removed (same_name c.args.name.now) c.self.inside.entries.items c.in-Some.place first)
-    ∙ values_removed (same_name c.args.name.now) c.self.inside.entries.items ∙ ap (λ l. remove_entry (same_name c.args.name.now) l) c.self.view_is
+    c.remove-entry.ensures.items ∙ first_removed (same_name c.args.name.now) c.self.inside.entries.items c.in-Some.place first
+    ∙ ap (λ l. remove_entry (same_name c.args.name.now) l) c.self.view_is
 
 pub returns-in_default-clause-pairs : goal.returns-in_default-clause-pairs
 returns-in_default-clause-pairs g c =
     let none = subst (λ l. lookup (same_name c.args.name.now) l ≡ None) c.deref.ensures.value c.in_default.ensures in
-    sym c.self.view_is ∙ ap (λ l. values_shared l) (none_removed (same_name c.args.name.now) c.self.inside.entries.items none)
-    ∙ values_removed (same_name c.args.name.now) c.self.inside.entries.items ∙ ap (λ l. remove_entry (same_name c.args.name.now) l) c.self.view_is
+    sym c.self.view_is ∙ none_removed (same_name c.args.name.now) c.self.inside.entries.items none
+    ∙ ap (λ l. remove_entry (same_name c.args.name.now) l) c.self.view_is

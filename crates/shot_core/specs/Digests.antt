@@ -27,6 +27,6 @@ abbrev pub body_input : RegionBody → HashWrites
 body_input b =
     fed.u32 b.id ++ (fed.u32 b.air ++ (hashed_colours.hash_input-value.it b.rgb ++ (fed.slice node_input (mask_nodes b.tree) ++ fed.slice instance_input b.instances)))
 
--- the hash of that
+-- the hash of what a hasher is fed of a body
 unfoldable pub body_digest : RegionBody → ℕ
 body_digest body = folding.finish (fold folding.write folding.initial (body_input body))

@@ -1,4 +1,4 @@
-use Rattle.std.proofs.Common.{Bor, ◌≡◌, inl, inr, ◌≤◌, ◌+◌, ◌<◌, ◌∙◌, ℕ, true, false, List, [], ◌∷◌, ◌++◌, take, length, get_or, refl, ap, sym, subst, arith, Option, None, Some, IsSome, Result}
+use Rattle.std.proofs.Common.{Bor, ◌≡◌, inl, inr, ◌≤◌, ◌+◌, ◌<◌, ◌∙◌, ℕ, min, true, false, List, [], ◌∷◌, ◌++◌, take, length, get_or, refl, ap, sym, subst, arith, Option, None, Some, IsSome, Result}
 use Rattle.std.specs.Prelude.{◌||◌, is_some, not, unwrap_or}
 use Rattle.std.specs.List.{IsDistinct, list_any}
 use Rattle.std.specs.Map.{keys_of}
@@ -9,24 +9,26 @@ use Rattle.name_core.specs.declared.name.Name.{Name}
 use Rattle.name_core.specs.Same.{same_name}
 use Rattle.comb_tree.specs.Changes.{is_among}
 use Rattle.object_set.specs.Objects.{Parts}
+use Rattle.object_set.specs.declared.object.Body.{Body}
+use Rattle.object_set.specs.declared.object.Body.TheVariants.{Solid, Comb}
 use Rattle.shared_pages.specs.Buckets.{Shelves, value_of}
 use Rattle.shared_pages.proofs.NameLemmas.{name_tells}
 use Rattle.object_pages.specs.Entries.{HoldsUsers}
-use Rattle.object_pages.proofs.EntryLemmas.{none_left}
-use Rattle.object_pages.proofs.NamesLemmas.{in_or_not, in_head, in_left, in_right, not_in_push}
+use Rattle.object_pages.proofs.EntryLemmas.{none_left, push_here, same_or_apart}
+use Rattle.object_pages.proofs.NamesLemmas.{in_or_not, in_head, in_left, in_right, not_in_cons, not_in_push}
 use Rattle.object_pages.proofs.ReferenceLemmas.{apart_missing}
 use Rattle.directory.specs.declared.fault.DirFault.{DirFault}
 use Rattle.directory.specs.declared.fault.DirFault.TheVariants.{Missing}
-use Rattle.directory.specs.Closed.{IsRelaxing, relaxed}
-use Rattle.directory.specs.Depths.{depth_kept, AreDepths}
+use Rattle.directory.specs.Closed.{IsRelaxing, depth_step, relaxed}
+use Rattle.directory.specs.Depths.{depth_kept, AreDepths, AreTouched}
 use Rattle.directory.specs.Edits.{when, appended, replaced, removed, remove_fault, renamed_all, without_all, judged, judged_by, Makes}
 use Rattle.directory.specs.Keeping.{IsKept}
-use Rattle.directory.specs.Walks.{Entries, object_of, IsSound, depth_within, most_depth, most_objects, unbounded, deepest}
+use Rattle.directory.specs.Walks.{Entries, object_of, IsSound, body_weight, body_depth, depth_over, depth_within, most_depth, most_objects, unbounded, deepest}
 use Rattle.directory.proofs.AloneLemmas.{judged_none_by}
 use Rattle.directory.proofs.EditLemmas.{remove_within, within_walk, within_combinations}
 use Rattle.directory.proofs.RelaxLemmas.{copy_begins, put_begins, replace_begins, rename_begins, without_goes}
 use Rattle.directory.proofs.TakeLemmas.{nothing_distinct}
-use Rattle.directory.proofs.WalkLemmas.{depth_met, greatest_bound}
+use Rattle.directory.proofs.WalkLemmas.{depth_met, greatest_bound, missing_zero}
 use Rattle.directory.proofs.WholeLemmas.{look_filtered, without_sound}
 use Rattle.directory.proofs.TellLemmas.{nothing_sound, judged_sound}
 
@@ -60,10 +62,35 @@ pub begins : (es new : Entries) (levels now : Shelves ℕ) (touched : List Name)
 begins es new levels now touched kept is same none =
     begins_by es new levels now [] touched is same (λ x. ap (λ (l : List Name). is_among l x) none) (copy_begins es (depth_kept levels) kept.sound kept.known)
 
-pub append_begins : (es new : Entries) (a : Name) (o : Parts) (levels now : Shelves ℕ) (touched : List Name) → IsKept es levels → new ≡ appended es a o → now ≡ levels → SameNames (a ∷ []) touched
+-- a solid lies as deep as what is not there
+no_weight : (b : Body) (below : Name → ℕ) → body_weight b ≡ 0 → body_depth b below ≡ 0
+no_weight (Solid solid) below e = refl
+no_weight (Comb attr tree) below e = absurd (omega (arith, e))
+
+solid_begins : (es : Entries) (a : Name) (o : Parts) (levels : Shelves ℕ) → IsKept es levels → object_of es a ≡ None → body_weight o.body ≡ 0 → IsRelaxing (appended es a o) (depth_kept levels) [] []
+solid_begins es a o levels kept none solid =
+    let h = put_begins es a o (depth_kept levels) kept.sound kept.known in
+    record {
+      closed = λ x out. elim (same_or_apart x a) [
+        | inl e ↦ ap (depth_kept levels) e ∙ at ∙ ap (depth_step (appended es a o) (depth_kept levels)) (sym e)
+        | inr apart ↦ h.closed x (not_in_cons a [] x apart refl)
+      ];
+      low = h.low;
+    }
+  where
+    step : depth_step (appended es a o) (depth_kept levels) a ≡ 0
+    step = ap (λ (p : Option Parts). min unbounded (depth_over p (depth_kept levels))) (push_here es a o none) ∙ ap (min unbounded) (no_weight o.body (depth_kept levels) solid)
+
+    at : depth_kept levels a ≡ depth_step (appended es a o) (depth_kept levels) a
+    at = kept.known a ∙ missing_zero unbounded es a none ∙ sym step
+
+pub append_begins : (es new : Entries) (a : Name) (o : Parts) (levels now : Shelves ℕ) (touched : List Name) → IsKept es levels → object_of es a ≡ None → new ≡ appended es a o → now ≡ levels → AreTouched a o touched
     → IsRelaxing new (depth_kept now) touched []
-append_begins es new a o levels now touched kept is same names =
-    begins_by (appended es a o) new levels now (a ∷ []) touched is same names (put_begins es a o (depth_kept levels) kept.sound kept.known)
+append_begins es new a o levels now touched kept none is same names =
+    elim names [
+      | inl solid ↦ begins_by (appended es a o) new levels now [] touched is same (λ x. ap (λ (l : List Name). is_among l x) solid.1) (solid_begins es a o levels kept none solid.0)
+      | inr them ↦ begins_by (appended es a o) new levels now (a ∷ []) touched is same them (put_begins es a o (depth_kept levels) kept.sound kept.known)
+    ]
 
 pub exchange_begins : (es new : Entries) (a : Name) (o : Parts) (levels now : Shelves ℕ) (touched : List Name) → IsKept es levels → new ≡ replaced es a o → now ≡ levels → SameNames (a ∷ []) touched
     → IsRelaxing new (depth_kept now) touched []

@@ -6,7 +6,7 @@ ghost use Rattle.comb_tree.specs.Changes.{is_among};
 ghost use Rattle.directory.specs.Keeping.{IsKept};
 ghost use Rattle.directory.specs.Walks.{IsSound, object_of, most_objects};
 ghost use Rattle.directory.specs.Closed.{IsRelaxing};
-ghost use Rattle.directory.specs.Depths.{depth_kept};
+ghost use Rattle.directory.specs.Depths.{depth_kept, AreTouched};
 ghost use Rattle.directory.specs.Edits.{appended, put_fault, replaced, replace_fault, removed, remove_fault, renamed_all, rename_fault, without_all, references_of, judged, Makes};
 
 use crate::depths::Depths;
@@ -16,7 +16,7 @@ use crate::relax::relax;
 use memory_core::Memory;
 use name_core::Name;
 use object_pages::{NameSet, OBJECTS, ObjectPages};
-use object_set::Object;
+use object_set::{Body, Object};
 use std::alloc::Global;
 use std::marker::Model;
 
@@ -109,6 +109,17 @@ fn only(alloc: Global, name: &Name) -> Result<NameSet, Memory>
     Ok(names)
 }
 
+/// The names to look at once a name that was not there has this object: that name, and none where the object is a solid,
+/// which lies as deep as what is not there.
+fn touched_by(alloc: Global, name: &Name, object: &Object) -> Result<NameSet, Memory>
+    ensures { IfOk result (AreTouched name.now object.now) }
+{
+    match object.body() {
+        Body::Solid(_) => Ok(NameSet::new(alloc)),
+        Body::Comb { .. } => only(alloc, name),
+    }
+}
+
 impl Contents {
     /// No objects. It takes no memory.
     pub(crate) fn new(alloc: Global) -> Contents
@@ -164,9 +175,9 @@ impl Contents {
         ensures list { IfOk result (λ e. e.list ≡ appended self.now name.now object) }
         ensures begins { IfOk result (λ e. IsRelaxing e.list (depth_kept e.depths) e.touched []) }
     {
+        let touched = touched_by(alloc, name, &object)?;
         let list = self.list.copy()?.append(alloc, name, object)?;
         let depths = self.depths.copy()?;
-        let touched = only(alloc, name)?;
         Ok(Edit {
             list,
             depths,

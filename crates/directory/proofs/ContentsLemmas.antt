@@ -9,8 +9,6 @@ use Rattle.name_core.specs.declared.name.Name.{Name}
 use Rattle.name_core.specs.Same.{same_name}
 use Rattle.comb_tree.specs.Changes.{is_among}
 use Rattle.object_set.specs.Objects.{Parts}
-use Rattle.object_set.specs.declared.object.Body.{Body}
-use Rattle.object_set.specs.declared.object.Body.TheVariants.{Solid, Comb}
 use Rattle.shared_pages.specs.Buckets.{Shelves, value_of}
 use Rattle.shared_pages.proofs.NameLemmas.{name_tells}
 use Rattle.object_pages.specs.Entries.{HoldsUsers}
@@ -20,11 +18,12 @@ use Rattle.object_pages.proofs.ReferenceLemmas.{apart_missing}
 use Rattle.directory.specs.declared.fault.DirFault.{DirFault}
 use Rattle.directory.specs.declared.fault.DirFault.TheVariants.{Missing}
 use Rattle.directory.specs.Closed.{IsRelaxing, depth_step, relaxed}
-use Rattle.directory.specs.Depths.{depth_kept, AreDepths, AreTouched}
+use Rattle.directory.specs.Depths.{depth_kept, AreDepths}
 use Rattle.directory.specs.Edits.{when, appended, replaced, removed, remove_fault, renamed_all, without_all, judged, judged_by, Makes}
 use Rattle.directory.specs.Keeping.{IsKept}
-use Rattle.directory.specs.Walks.{Entries, object_of, IsSound, body_weight, body_depth, depth_over, depth_within, most_depth, most_objects, unbounded, deepest}
+use Rattle.directory.specs.Walks.{Entries, object_of, IsSound, depth_over, depth_within, most_depth, most_objects, unbounded, deepest}
 use Rattle.directory.proofs.AloneLemmas.{judged_none_by}
+use Rattle.directory.proofs.ClosedLemmas.{free_if, relaxed_away, relaxed_here, step_apart}
 use Rattle.directory.proofs.EditLemmas.{remove_within, within_walk, within_combinations}
 use Rattle.directory.proofs.RelaxLemmas.{copy_begins, put_begins, replace_begins, rename_begins, without_goes}
 use Rattle.directory.proofs.TakeLemmas.{nothing_distinct}
@@ -62,35 +61,46 @@ pub begins : (es new : Entries) (levels now : Shelves ℕ) (touched : List Name)
 begins es new levels now touched kept is same none =
     begins_by es new levels now [] touched is same (λ x. ap (λ (l : List Name). is_among l x) none) (copy_begins es (depth_kept levels) kept.sound kept.known)
 
--- a solid lies as deep as what is not there
-no_weight : (b : Body) (below : Name → ℕ) → body_weight b ≡ 0 → body_depth b below ≡ 0
-no_weight (Solid solid) below e = refl
-no_weight (Comb attr tree) below e = absurd (omega (arith, e))
+-- what is as deep as its members make it need not be looked at
+pub zero_begins : (es : Entries) (depths : Name → ℕ) (a : Name) (touched : List Name) → IsRelaxing es depths (a ∷ []) [] → depths a ≡ 0 → 0 ≡ depth_step es depths a → IsRelaxing es depths touched []
+zero_begins es depths a touched h zero due = record {
+  closed = λ x out. elim (same_or_apart x a) [
+    | inl e ↦ ap depths e ∙ zero ∙ due ∙ ap (depth_step es depths) (sym e)
+    | inr apart ↦ h.closed x (not_in_cons a [] x apart refl)
+  ];
+  low = h.low;
+}
 
-solid_begins : (es : Entries) (a : Name) (o : Parts) (levels : Shelves ℕ) → IsKept es levels → object_of es a ≡ None → body_weight o.body ≡ 0 → IsRelaxing (appended es a o) (depth_kept levels) [] []
-solid_begins es a o levels kept none solid =
-    let h = put_begins es a o (depth_kept levels) kept.sound kept.known in
-    record {
-      closed = λ x out. elim (same_or_apart x a) [
-        | inl e ↦ ap (depth_kept levels) e ∙ at ∙ ap (depth_step (appended es a o) (depth_kept levels)) (sym e)
-        | inr apart ↦ h.closed x (not_in_cons a [] x apart refl)
-      ];
-      low = h.low;
-    }
+-- nor what nothing refers to, once it has its depth
+pub set_begins : (es : Entries) (depths others : Name → ℕ) (a : Name) (depth : ℕ) (users : List Name) → IsRelaxing es depths (a ∷ []) [] → depth ≡ depth_step es depths a → depth ≤ most_depth → HoldsUsers es a users
+    → length users ≡ 0 → ((x : Name) → others x ≡ relaxed depths a depth x) → IsRelaxing es others users []
+set_begins es depths others a depth users h due low holds none set = record {
+  closed = λ x out. elim (same_or_apart x a) [
+    | inl e ↦ set x ∙ relaxed_here depths a depth x e ∙ due ∙ ap (depth_step es depths) (sym e) ∙ sym (step x out)
+    | inr apart ↦ set x ∙ relaxed_away depths a depth x apart ∙ h.closed x (not_in_cons a [] x apart refl) ∙ sym (step x out)
+  ];
+  low = λ x out. elim (same_or_apart x a) [
+    | inl e ↦ omega (arith, set x, relaxed_here depths a depth x e, low)
+    | inr apart ↦ omega (arith, set x, relaxed_away depths a depth x apart, h.low x refl)
+  ];
+}
   where
-    step : depth_step (appended es a o) (depth_kept levels) a ≡ 0
-    step = ap (λ (p : Option Parts). min unbounded (depth_over p (depth_kept levels))) (push_here es a o none) ∙ ap (min unbounded) (no_weight o.body (depth_kept levels) solid)
+    step : (x : Name) → is_among users x ≡ false → depth_step es others x ≡ depth_step es depths x
+    step x out = step_apart es depths others a depth set x (free_if es a users x holds out)
 
-    at : depth_kept levels a ≡ depth_step (appended es a o) (depth_kept levels) a
-    at = kept.known a ∙ missing_zero unbounded es a none ∙ sym step
+-- a new object, and the depth that its members give it
+pub append_begins : (es new : Entries) (a : Name) (o : Parts) (levels now : Shelves ℕ) → IsKept es levels → new ≡ appended es a o → now ≡ levels → IsRelaxing new (depth_kept now) (a ∷ []) []
+append_begins es new a o levels now kept is same =
+    begins_by (appended es a o) new levels now (a ∷ []) (a ∷ []) is same (λ x. refl) (put_begins es a o (depth_kept levels) kept.sound kept.known)
 
-pub append_begins : (es new : Entries) (a : Name) (o : Parts) (levels now : Shelves ℕ) (touched : List Name) → IsKept es levels → object_of es a ≡ None → new ≡ appended es a o → now ≡ levels → AreTouched a o touched
-    → IsRelaxing new (depth_kept now) touched []
-append_begins es new a o levels now touched kept none is same names =
-    elim names [
-      | inl solid ↦ begins_by (appended es a o) new levels now [] touched is same (λ x. ap (λ (l : List Name). is_among l x) solid.1) (solid_begins es a o levels kept none solid.0)
-      | inr them ↦ begins_by (appended es a o) new levels now (a ∷ []) touched is same them (put_begins es a o (depth_kept levels) kept.sound kept.known)
-    ]
+pub missed_zero : (es : Entries) (a : Name) (levels now : Shelves ℕ) → IsKept es levels → object_of es a ≡ None → now ≡ levels → depth_kept now a ≡ 0
+missed_zero es a levels now kept none same = ap (λ (d : Shelves ℕ). depth_kept d a) same ∙ kept.known a ∙ missing_zero unbounded es a none
+
+pub due_there : (es new : Entries) (a : Name) (o : Parts) (levels now : Shelves ℕ) (depth : ℕ) → object_of es a ≡ None → new ≡ appended es a o → now ≡ levels → depth ≡ min unbounded (depth_over (Some o) (depth_kept levels))
+    → depth ≡ depth_step new (depth_kept now) a
+due_there es new a o levels now depth none is same over =
+    over ∙ ap (λ (p : Option Parts). min unbounded (depth_over p (depth_kept levels))) (sym (push_here es a o none))
+    ∙ ap (λ (l : Entries). depth_step l (depth_kept levels) a) (sym is) ∙ ap (λ (d : Shelves ℕ). depth_step new (depth_kept d) a) (sym same)
 
 pub exchange_begins : (es new : Entries) (a : Name) (o : Parts) (levels now : Shelves ℕ) (touched : List Name) → IsKept es levels → new ≡ replaced es a o → now ≡ levels → SameNames (a ∷ []) touched
     → IsRelaxing new (depth_kept now) touched []

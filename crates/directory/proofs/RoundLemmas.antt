@@ -1,4 +1,4 @@
-use Rattle.std.proofs.Common.{◌≡◌, ◌≢◌, ◌⊎◌, inl, inr, ◌<◌, ◌≤◌, ◌+◌, ◌∙◌, ℕ, zero, suc, min, max, Bool, true, false, List, [], ◌∷◌, map, take, drop, length, refl, ap, sym, subst, arith, Option, None, Some, add-one, true≢false}
+use Rattle.std.proofs.Common.{◌≡◌, ◌≢◌, ◌⊎◌, inl, inr, ◌<◌, ◌≤◌, ◌+◌, ◌∙◌, ℕ, zero, suc, min, max, Bool, true, false, List, [], ◌∷◌, map, take, drop, length, refl, ap, sym, subst, arith, None, Some, add-one, true≢false}
 use Rattle.std.specs.Prelude.{◌||◌, slice_get}
 use Rattle.std.proofs.lemmas.Option.{slice_get_within, get_or_from_slice_get}
 use Rattle.std.proofs.Math.Seq.{drop-cons}
@@ -25,18 +25,17 @@ use Rattle.directory.proofs.WalkLemmas.{cycle_deep}
 use Rattle.directory.proofs.HighLemmas.{judged_high}
 
 -- ---- the depth that the members of a combination give
-over_nodes : (es : Entries) (depths : Name → ℕ) (a : Name) (o : Parts) (attr : Attr) (t : AnyTree) (nodes : List CombNode) (below : ℕ) → object_of es a ≡ Some o → o.body ≡ Comb attr t → nodes ≡ comb_nodes t
-    → below ≡ greatest_of (map depths (node_names nodes)) → depth_step es depths a ≡ min unbounded (below + 1)
-over_nodes es depths a o attr t nodes below there is at most =
-    ap (λ (p : Option Parts). min unbounded (depth_over p depths)) there ∙ ap (min unbounded) (sym (over_tree o attr t nodes depths below is at most))
+over_nodes : (depths : Name → ℕ) (o : Parts) (attr : Attr) (t : AnyTree) (nodes : List CombNode) (below : ℕ) → o.body ≡ Comb attr t → nodes ≡ comb_nodes t → below ≡ greatest_of (map depths (node_names nodes))
+    → min unbounded (depth_over (Some o) depths) ≡ min unbounded (below + 1)
+over_nodes depths o attr t nodes below is at most = ap (min unbounded) (sym (over_tree o attr t nodes depths below is at most))
 
-pub step_below : (es : Entries) (depths : Name → ℕ) (a : Name) (o : Parts) (attr : Attr) (t : AnyTree) (nodes : List CombNode) (below : ℕ) → object_of es a ≡ Some o → o.body ≡ Comb attr t → nodes ≡ comb_nodes t
-    → below ≡ greatest_of (map depths (node_names nodes)) → below < unbounded → below + 1 ≡ depth_step es depths a
-step_below es depths a o attr t nodes below there is at most few = omega (arith, few, over_nodes es depths a o attr t nodes below there is at most)
+pub over_below : (depths : Name → ℕ) (o : Parts) (attr : Attr) (t : AnyTree) (nodes : List CombNode) (below : ℕ) → o.body ≡ Comb attr t → nodes ≡ comb_nodes t → below ≡ greatest_of (map depths (node_names nodes))
+    → below < unbounded → below + 1 ≡ min unbounded (depth_over (Some o) depths)
+over_below depths o attr t nodes below is at most few = omega (arith, few, over_nodes depths o attr t nodes below is at most)
 
-pub step_deep : (es : Entries) (depths : Name → ℕ) (a : Name) (o : Parts) (attr : Attr) (t : AnyTree) (nodes : List CombNode) (below : ℕ) → object_of es a ≡ Some o → o.body ≡ Comb attr t → nodes ≡ comb_nodes t
-    → below ≡ greatest_of (map depths (node_names nodes)) → unbounded ≤ below → unbounded ≡ depth_step es depths a
-step_deep es depths a o attr t nodes below there is at most many = omega (arith, many, over_nodes es depths a o attr t nodes below there is at most)
+pub over_deep : (depths : Name → ℕ) (o : Parts) (attr : Attr) (t : AnyTree) (nodes : List CombNode) (below : ℕ) → o.body ≡ Comb attr t → nodes ≡ comb_nodes t → below ≡ greatest_of (map depths (node_names nodes))
+    → unbounded ≤ below → unbounded ≡ min unbounded (depth_over (Some o) depths)
+over_deep depths o attr t nodes below is at most many = omega (arith, many, over_nodes depths o attr t nodes below is at most)
 
 -- ---- one name more
 pub name_next : (names : List Name) (i : ℕ) (a : Name) → Some a ≡ slice_get names i → drop i names ≡ a ∷ drop (i + 1) names

@@ -3,8 +3,7 @@ use Rattle.std.specs.Prelude.{◌≡◌, ◌≢◌, ◌⊎◌, ◌<◌, ◌≤�
 use Rattle.name_core.specs.declared.name.Name.{Name}
 use Rattle.comb_tree.specs.Changes.{is_among}
 use Rattle.shared_pages.specs.Buckets.{Shelves, value_of}
-use Rattle.object_set.specs.Objects.{Parts}
-use Rattle.directory.specs.Walks.{Entries, IsWalk, HasCycleThrough, body_weight, depth_within, unbounded}
+use Rattle.directory.specs.Walks.{Entries, IsWalk, HasCycleThrough, depth_within, unbounded}
 use Rattle.directory.specs.Closed.{depth_step, IsClosedAt, IsLowBut}
 
 -- the depth that is kept for a name, 0 where none is
@@ -44,7 +43,3 @@ IsTracedIf es (Some edited) depths = IsTraced es edited [] depths
 -- a name's next depth is that which its members give it, or 34 where this is another one and a cycle passes through the name
 abbrev pub IsDue : Entries → (Name → ℕ) → Name → ℕ → Type 0
 IsDue es depths a depth = (depth ≡ depth_step es depths a) ⊎ ((depth ≡ unbounded) × HasCycleThrough es a × (depths a ≢ depth_step es depths a))
-
--- the names to look at where a, which was not there, is given an object: a itself, and none where that is a solid
-abbrev pub AreTouched : Name → Parts → List Name → Type 0
-AreTouched a o names = ((body_weight o.body ≡ 0) × (names ≡ [])) ⊎ ((x : Name) → is_among names x ≡ is_among (a ∷ []) x)

@@ -1,24 +1,27 @@
 ghost use Rattle.std.specs.Prelude.{◌≡◌, ◌<◌, [], ◌∷◌, None, length, slice_get, IfOk, IsSome};
+ghost use Rattle.std.specs.Arc.{arc_value};
 ghost use Rattle.std.specs.Option.{option_copied, option_map};
 ghost use Rattle.std.specs.Map.Iter.{deref_pair};
 ghost use Rattle.name_core.specs.declared.name.Name.{Name as Bytes};
 ghost use Rattle.comb_tree.specs.Changes.{is_among};
 ghost use Rattle.directory.specs.Keeping.{IsKept};
 ghost use Rattle.directory.specs.Walks.{IsSound, object_of, most_objects};
-ghost use Rattle.directory.specs.Closed.{IsRelaxing};
-ghost use Rattle.directory.specs.Depths.{depth_kept, AreTouched};
+ghost use Rattle.directory.specs.Closed.{IsRelaxing, depth_step};
+ghost use Rattle.directory.specs.Depths.{depth_kept};
 ghost use Rattle.directory.specs.Edits.{appended, put_fault, replaced, replace_fault, removed, remove_fault, renamed_all, rename_fault, without_all, references_of, judged, Makes};
 
 use crate::depths::Depths;
 use crate::fault::DirFault;
 use crate::levels::judge;
+use crate::limit::DEPTH;
 use crate::relax::relax;
 use memory_core::Memory;
 use name_core::Name;
 use object_pages::{NameSet, OBJECTS, ObjectPages};
-use object_set::{Body, Object};
+use object_set::Object;
 use std::alloc::Global;
 use std::marker::Model;
+use std::sync::Arc;
 
 /// A sound list of named objects, with their depths. An edit makes new contents, which share what it did not touch, so one
 /// that is refused leaves all as it was. Contracts see the list.
@@ -109,15 +112,45 @@ fn only(alloc: Global, name: &Name) -> Result<NameSet, Memory>
     Ok(names)
 }
 
-/// The names to look at once a name that was not there has this object: that name, and none where the object is a solid,
-/// which lies as deep as what is not there.
-fn touched_by(alloc: Global, name: &Name, object: &Object) -> Result<NameSet, Memory>
-    ensures { IfOk result (AreTouched name.now object.now) }
+/// The edit that gave a name, which was not there, an object to which its members give this depth: the list with it, and the
+/// depths of the list before. A solid lies as deep as what is not there. A combination that nothing refers to gets its depth
+/// here, and else the name is to be looked at.
+fn begun(
+    alloc: Global,
+    list: ObjectPages,
+    depths: Depths,
+    name: &Name,
+    depth: u8,
+) -> Result<Edit, Memory>
+    requires begins { IsRelaxing list (depth_kept depths) (name.now ∷ []) [] }
+    requires missed { depth_kept depths name.now ≡ 0 }
+    requires due { depth ≡ depth_step list (depth_kept depths) name.now }
+    ensures list { IfOk result (λ e. e.list ≡ list) }
+    ensures begins { IfOk result (λ e. IsRelaxing e.list (depth_kept e.depths) e.touched []) }
 {
-    match object.body() {
-        Body::Solid(_) => Ok(NameSet::new(alloc)),
-        Body::Comb { .. } => only(alloc, name),
+    let mut users = NameSet::new(alloc);
+    if depth == 0 {
+        return Ok(Edit {
+            list,
+            depths,
+            touched: users,
+        });
     }
+    list.put_users(name, &mut users)?;
+    if users.len() > 0 || depth > DEPTH {
+        let touched = only(alloc, name)?;
+        return Ok(Edit {
+            list,
+            depths,
+            touched,
+        });
+    }
+    let depths = depths.set(alloc, name, depth)?;
+    Ok(Edit {
+        list,
+        depths,
+        touched: users,
+    })
 }
 
 impl Contents {
@@ -169,20 +202,16 @@ impl Contents {
     }
 
     /// A pair more at the end.
-    fn append(&self, alloc: Global, name: &Name, object: Object) -> Result<Edit, Memory>
+    fn append(&self, alloc: Global, name: &Name, object: Arc<Object>) -> Result<Edit, Memory>
         requires absent { object_of self.now name.now ≡ None }
         requires room { length self.now < most_objects }
-        ensures list { IfOk result (λ e. e.list ≡ appended self.now name.now object) }
+        ensures list { IfOk result (λ e. e.list ≡ appended self.now name.now (arc_value object)) }
         ensures begins { IfOk result (λ e. IsRelaxing e.list (depth_kept e.depths) e.touched []) }
     {
-        let touched = touched_by(alloc, name, &object)?;
+        let depth = self.depths.over(&object);
         let list = self.list.copy()?.append(alloc, name, object)?;
         let depths = self.depths.copy()?;
-        Ok(Edit {
-            list,
-            depths,
-            touched,
-        })
+        begun(alloc, list, depths, name, depth)
     }
 
     /// With a pair more at the end.
@@ -190,9 +219,9 @@ impl Contents {
         &self,
         alloc: Global,
         name: &Name,
-        object: Object,
+        object: Arc<Object>,
     ) -> Result<Contents, DirFault>
-        ensures { Makes (put_fault self.now name.now object) (appended self.now name.now object) result }
+        ensures { Makes (put_fault self.now name.now (arc_value object)) (appended self.now name.now (arc_value object)) result }
     {
         if self.list.get(name).is_some() {
             return Err(DirFault::Exists);

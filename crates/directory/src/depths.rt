@@ -1,8 +1,8 @@
-ghost use Rattle.std.specs.Prelude.{◌≡◌, map, None, IfOk};
+ghost use Rattle.std.specs.Prelude.{◌≡◌, map, min, None, Some, IfOk};
 ghost use Rattle.name_core.specs.declared.name.Name.{Name as Bytes};
 ghost use Rattle.shared_pages.specs.Buckets.{value_of};
 ghost use Rattle.object_pages.specs.Members.{name_of_node, node_names};
-ghost use Rattle.directory.specs.Walks.{greatest_of};
+ghost use Rattle.directory.specs.Walks.{depth_over, greatest_of, unbounded};
 ghost use Rattle.directory.specs.Closed.{depth_step, relaxed};
 ghost use Rattle.directory.specs.Depths.{depth_kept};
 
@@ -11,7 +11,7 @@ use comb_tree::CombNode;
 use memory_core::Memory;
 use name_core::Name;
 use object_pages::ObjectPages;
-use object_set::Body;
+use object_set::{Body, Object};
 use shared_pages::SharedMap;
 use std::alloc::Global;
 use std::marker::Model;
@@ -93,22 +93,29 @@ impl Depths {
         most
     }
 
+    /// The depth that its members give an object, 34 at most: 0 of a solid, and more of a combination.
+    pub(crate) fn over(&self, object: &Object) -> u8
+        ensures { result ≡ min unbounded (depth_over (Some object.now) (depth_kept self.now)) }
+    {
+        match object.body() {
+            Body::Solid(_) => 0,
+            Body::Comb { tree, .. } => {
+                let below = self.deepest_of(tree.nodes());
+                if below < UNBOUNDED {
+                    below + 1
+                } else {
+                    UNBOUNDED
+                }
+            }
+        }
+    }
+
     /// The depth that the members of a name give it, 34 at most.
     pub(crate) fn step(&self, list: &ObjectPages, name: &Name) -> u8
         ensures { result ≡ depth_step list.now (depth_kept self.now) name.now }
     {
         match list.get(name) {
-            Some(object) => match object.body() {
-                Body::Solid(_) => 0,
-                Body::Comb { tree, .. } => {
-                    let below = self.deepest_of(tree.nodes());
-                    if below < UNBOUNDED {
-                        below + 1
-                    } else {
-                        UNBOUNDED
-                    }
-                }
-            },
+            Some(object) => self.over(object),
             None => 0,
         }
     }

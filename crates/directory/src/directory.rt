@@ -145,6 +145,19 @@ impl Directory {
         ensures means { Tells (appended self.old.objects name.now object) name.now result }
         ensures title { self.new.title ≡ self.old.title }
     {
+        let Ok(object) = Arc::new(self.alloc, object) else {
+            return Err(DirFault::Memory);
+        };
+        self.put_shared(name, object)
+    }
+
+    /// Adds a shared object under a new name, at the end, as `put` does with one of its own. The directory shares it from then
+    /// on.
+    pub fn put_shared(&mut self, name: &Name, object: Arc<Object>) -> Result<(), DirFault>
+        ensures exact { Follows self.old.objects (put_fault self.old.objects name.now (arc_value object)) (appended self.old.objects name.now (arc_value object)) result self.new.objects }
+        ensures means { Tells (appended self.old.objects name.now (arc_value object)) name.now result }
+        ensures title { self.new.title ≡ self.old.title }
+    {
         let _count = self.len();
         let contents = self.contents()?.put(self.alloc, name, object)?;
         self.set_contents(contents)?;

@@ -21,6 +21,7 @@ use name_core::Name;
 use object_pages::{OBJECTS, ObjectPages, nodes_of};
 use object_set::Object;
 use std::alloc::Global;
+use std::sync::Arc;
 
 /// Adds a pair at the end, whether or not the result may stand.
 pub(crate) fn gather(
@@ -158,7 +159,8 @@ fn list_of(alloc: Global, objects: IndexMap<Name, Object>) -> Result<ObjectPages
     let _count = objects.len();
     let mut list = ObjectPages::new(alloc);
     for (name, object) in objects {
-        list = list.append(alloc, &name, object)?;
+        let share = Arc::new(alloc, object)?;
+        list = list.append(alloc, &name, share)?;
     }
     Ok(list)
 }

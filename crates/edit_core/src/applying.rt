@@ -9,27 +9,21 @@ use crate::answers::directory_answer;
 use crate::extensions::{extended_comb, set_object};
 use crate::objects::{comb_placed, comb_set, comb_without, exchange, object_keeping};
 use command_set::{
-    Edit, KeptPairs, MemberList, NameList, NearPlacement, Refusal, Setting, TitleText,
+    Edit, HeldObject, KeptPairs, MemberList, NameList, NearPlacement, Refusal, Setting, TitleText,
 };
 use directory::Directory;
 use name_core::Name;
-use object_set::Object;
 use std::alloc::Global;
 
 /// Appends a new object.
-fn make(
-    alloc: Global,
-    directory: &mut Directory,
-    name: &Name,
-    object: &Object,
-) -> Result<(), Refusal>
+fn make(directory: &mut Directory, name: &Name, object: &HeldObject) -> Result<(), Refusal>
     ensures applied { IsApplied result (Make name.now object.now) directory.old directory.new }
     ensures means { Tells result (made directory.old (Make name.now object.now)) }
 {
-    let Ok(object) = object.copy(alloc) else {
+    let Ok(share) = object.share() else {
         return Err(Refusal::Memory);
     };
-    let put = directory.put(name, object);
+    let put = directory.put_shared(name, share);
     directory_answer(name, name, put)
 }
 
@@ -165,7 +159,7 @@ pub fn apply(alloc: Global, directory: &mut Directory, edit: &Edit) -> Result<()
     ensures means { Tells result (made directory.old edit.now) }
 {
     match edit {
-        Edit::Make { name, object } => make(alloc, directory, name, object.object()),
+        Edit::Make { name, object } => make(directory, name, object),
         Edit::Region { name, list } => extend(alloc, directory, name, list, true),
         Edit::Group { name, list } => extend(alloc, directory, name, list, false),
         Edit::Remove { comb, members } => remove(alloc, directory, comb, members),

@@ -1,4 +1,5 @@
 pub mod Products
+pub mod Along
 pub mod Turning
 pub mod Placing
 pub mod Extending

@@ -1,4 +1,4 @@
-use Rattle.std.proofs.Common.{◌≡◌, ◌≢◌, inl, inr, ◌<◌, ◌+◌, ◌^◌, ◌∙◌, ℕ, zero, suc, Bool, true, false, cond, nat_eq, List, [], ◌∷◌, ◌++◌, length, take, remove, refl, ap, sym, subst, arith, Option, None, Some, IsSome}
+use Rattle.std.proofs.Common.{◌≡◌, ◌≢◌, inl, inr, ◌<◌, ◌+◌, ◌^◌, ◌∙◌, ℕ, zero, suc, Bool, true, false, cond, nat_eq, List, [], ◌∷◌, ◌++◌, length, take, remove, refl, ap, sym, subst, arith, Option, None, Some, IsSome, IfSome}
 use Rattle.std.specs.Prelude.{slice_get, slice_set, slice_index_or, unwrap_or}
 use Rattle.std.specs.Cmp.{nat_eq_equiv}
 use Rattle.std.specs.Map.{lookup, keys_of, set_value}
@@ -26,6 +26,16 @@ pub no_place : (t : Counts) (i : ℕ) → slice_get t i ≡ None → i < length 
 no_place [] i none lt = omega (arith, lt)
 no_place (c ∷ t) zero none lt = let wrong : ◌≡◌ {A = Option (ℕ × ℕ)} (Some c) None = none in cc
 no_place (c ∷ t) (suc i) none lt = no_place t i none (omega (arith, lt))
+
+-- ---- one page alone
+pub one_alone : (t : Counts) (first : Option (ℕ × ℕ)) → length t ≡ 1 → first ≡ slice_get t 0 → IfSome first (λ c. t ≡ c ∷ [])
+one_alone [] first one is = absurd (omega (arith, one))
+one_alone (c ∷ []) first one is = rw is refl
+one_alone (c ∷ d ∷ t) first one is = absurd (omega (arith, one))
+
+pub one_distinct : (page leaves : ℕ) → IsDistinct nat_eq (keys_of ((page, leaves) ∷ []))
+unfolding IsDistinct
+one_distinct page leaves = (tt, tt)
 
 -- ---- a page given another count
 choice : (b : Bool) (v w : Option ℕ) → unwrap_or (cond b v w) 0 ≡ cond b (unwrap_or v 0) (unwrap_or w 0)

@@ -1,5 +1,7 @@
 -- How many leaves of each page name a name.
-use Rattle.std.specs.Prelude.{◌≡◌, ◌+◌, ℕ, List, [], cond, nat_eq, unwrap_or}
+use Rattle.std.specs.Prelude.{◌≡◌, ◌+◌, ℕ, List, [], ◌∷◌, cond, nat_eq, unwrap_or, Option, Some, None}
+use Rattle.std.specs.Arc.{arc_value}
+use Rattle.std.specs.declared.sync.Arc.{Arc}
 use Rattle.std.specs.Map.{lookup}
 use Rattle.name_core.specs.declared.name.Name.{Name}
 use Rattle.name_core.specs.Same.{same_name}
@@ -17,6 +19,11 @@ Pages = AllPages Parts
 -- the count at a page's number, 0 where it has none
 abbrev pub count_on : List (ℕ × ℕ) → ℕ → ℕ
 count_on counts number = unwrap_or (lookup (nat_eq number) counts) 0
+
+-- one page with its count, or all counts where they are shared
+abbrev pub counts_shared : {Z : Type 0} → ℕ → ℕ → Option (Arc (List (ℕ × ℕ)) Z) → List (ℕ × ℕ)
+counts_shared page leaves None = (page, leaves) ∷ []
+counts_shared page leaves (Some all) = arc_value all
 
 -- the counts that are kept for a name
 abbrev pub tally_of : Shelves (List (ℕ × ℕ)) → Name → List (ℕ × ℕ)

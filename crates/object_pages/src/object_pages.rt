@@ -1,4 +1,5 @@
 ghost use Rattle.std.specs.Prelude.{◌≡◌, ◌<◌, ◌≤◌, [], None, Some, true, length, slice_get, IfOk, OnOk, IsSome};
+ghost use Rattle.std.specs.Arc.{arc_value};
 ghost use Rattle.std.specs.Option.{option_copied, option_map};
 ghost use Rattle.std.specs.List.{IsDistinct};
 ghost use Rattle.std.specs.Map.{keys_of};
@@ -64,7 +65,7 @@ fn exchange_members(
     }
 }
 
-/// A list of named objects, in order, on pages of 1 to 16 of them. A copy shares all pages. No name stands twice, and there
+/// A list of named objects, in order, on pages of 1 to 8 of them. A copy shares all pages. No name stands twice, and there
 /// are at most 65,535 objects; members may be missing, and what refers to what is not judged here. Beside the pages stand,
 /// shared as they are, the page of each name and the number of leaves on each page that name it. Contracts see the list.
 #[derive(Drop)]
@@ -175,10 +176,15 @@ impl ObjectPages {
     }
 
     /// The list with a pair more at the end. What other lists share stays as it is there, as at all that follow.
-    pub fn append(self, alloc: Global, name: &Name, object: Object) -> Result<ObjectPages, Memory>
+    pub fn append(
+        self,
+        alloc: Global,
+        name: &Name,
+        object: Arc<Object>,
+    ) -> Result<ObjectPages, Memory>
         requires absent { object_of self name.now ≡ None }
         requires room { length self < most_objects }
-        ensures { IfOk result (λ l. l ≡ appended self name.now object) }
+        ensures { IfOk result (λ l. l ≡ appended self name.now (arc_value object)) }
     {
         let _count = self.pages.len();
         let ObjectPages {
@@ -186,9 +192,8 @@ impl ObjectPages {
             places,
             references,
         } = self;
-        let share = Arc::new(alloc, object)?;
-        let again = share.clone()?;
-        let (pages, page) = pages.push(alloc, name, share)?;
+        let again = object.clone()?;
+        let (pages, page) = pages.push(alloc, name, object)?;
         let places = places.put(alloc, name, page)?;
         let references = references.exchange(alloc, page, &[], nodes_of(&again))?;
         Ok(ObjectPages {

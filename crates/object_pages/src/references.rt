@@ -50,13 +50,10 @@ impl References {
     }
 
     /// Lends the counts of a name, by page, or `None` where it has none.
-    pub(crate) fn tally(&self, name: &Name) -> Option<&Tally>
+    pub(crate) fn tally(&self, name: &Name) -> Option<&SharedTally>
         ensures { option_copied result ≡ value_of self.now name.now }
     {
-        match self.tallies.get(name) {
-            Some(shared) => Some(shared.tally()),
-            None => None,
-        }
+        self.tallies.get(name)
     }
 
     /// A copy of the counts of a name.
@@ -64,7 +61,7 @@ impl References {
         ensures { IfOk result (λ t. t ≡ tally_of self.now name.now) }
     {
         match self.tally(name) {
-            Some(tally) => tally.copy(),
+            Some(tally) => tally.copy(alloc),
             None => Ok(Tally::new(alloc)),
         }
     }
@@ -80,6 +77,15 @@ impl References {
         }
         let shared = SharedTally::of_tally(alloc, tally)?;
         let tallies = tallies.put(alloc, name, shared)?;
+        Ok(References { tallies })
+    }
+
+    /// The counts with one leaf for the name, on this page, and no other.
+    fn put_one(self, alloc: Global, name: &Name, page: u64) -> Result<References, Memory>
+        ensures { IfOk result (λ r. (a : Bytes) (n : ℕ) → leaves_on r a n ≡ cond (same_name name.now a) (cond (nat_eq page n) 1 0) (leaves_on self a n)) }
+    {
+        let References { tallies } = self;
+        let tallies = tallies.put(alloc, name, SharedTally::of_one(page, 1))?;
         Ok(References { tallies })
     }
 
@@ -103,10 +109,13 @@ impl References {
         ensures { IfOk result (λ r. (a : Bytes) (n : ℕ) → leaves_on r a n ≡ leaves_on self a n + cond (nat_eq page n) (times (name_of_node node.now) a) 0) }
     {
         match node {
-            CombNode::Leaf { name, .. } => {
-                let tally = self.tally_copy(alloc, name)?.add(page, 1)?;
-                self.put(alloc, name, tally)
-            }
+            CombNode::Leaf { name, .. } => match self.tally(name) {
+                Some(tally) => {
+                    let tally = tally.copy(alloc)?.add(page, 1)?;
+                    self.put(alloc, name, tally)
+                }
+                None => self.put_one(alloc, name, page),
+            },
             _ => Ok(self),
         }
     }
@@ -160,7 +169,7 @@ impl References {
     {
         let joined = self.tally_copy(alloc, new)?;
         match self.tally(old) {
-            Some(tally) => joined.and(tally),
+            Some(tally) => joined.and(alloc, tally),
             None => Ok(joined),
         }
     }

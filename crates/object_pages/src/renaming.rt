@@ -11,7 +11,7 @@ ghost use Rattle.object_pages.specs.Changes.{renamed_all};
 ghost use Rattle.object_pages.specs.Tallies.{count_on, AreReferences, RenamesPages};
 
 use crate::members::leaves_named;
-use crate::tally::Tally;
+use crate::shared_tally::SharedTally;
 use memory_core::Memory;
 use name_core::Name;
 use object_set::Object;
@@ -111,7 +111,7 @@ fn rename_users(
     alloc: Global,
     pages: PageList<Object>,
     own: u64,
-    users: Option<&Tally>,
+    users: Option<&SharedTally>,
     old: &Name,
     new: &Name,
 ) -> Result<PageList<Object>, Memory>
@@ -139,7 +139,7 @@ pub(crate) fn rename_pages(
     alloc: Global,
     pages: PageList<Object>,
     own: u64,
-    users: Option<&Tally>,
+    users: Option<&SharedTally>,
     old: &Name,
     new: &Name,
 ) -> Result<PageList<Object>, Memory>

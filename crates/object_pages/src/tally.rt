@@ -1,10 +1,10 @@
-ghost use Rattle.std.specs.Prelude.{◌≡◌, ◌≤◌, ◌<◌, ◌+◌, ◌^◌, ℕ, [], cond, nat_eq, length, slice_get, sum, IfOk};
+ghost use Rattle.std.specs.Prelude.{◌≡◌, ◌≤◌, ◌<◌, ◌+◌, ◌^◌, ℕ, [], ◌∷◌, cond, nat_eq, length, slice_get, sum, IfOk, IfSome};
 ghost use Rattle.std.specs.List.{IsDistinct};
-ghost use Rattle.std.specs.Option.{option_map};
 ghost use Rattle.std.specs.Map.{keys_of, values_of};
 ghost use Rattle.shared_pages.specs.Named.{IsFound};
 ghost use Rattle.object_pages.specs.Tallies.{count_on};
 
+use crate::shared_tally::SharedTally;
 use memory_core::Memory;
 use std::alloc::Global;
 use std::marker::Model;
@@ -50,22 +50,32 @@ impl Tally {
         }
     }
 
+    /// So many leaves on one page, with room for another page.
+    pub(crate) fn of_one(alloc: Global, page: u64, leaves: u64) -> Result<Tally, Memory>
+        ensures { IfOk result (λ t. t ≡ (page, leaves) ∷ []) }
+    {
+        let mut counts = Vec::with_capacity(alloc, 2)?;
+        counts.push((page, leaves))?;
+        Ok(Tally { counts })
+    }
+
+    /// The number of the page and how many leaves stand on it, where it is one alone.
+    pub(crate) fn only(&self) -> Option<(u64, u64)>
+        ensures { IfSome result (λ c. self.now ≡ c ∷ []) }
+    {
+        if self.counts.len() == 1 {
+            self.at(0)
+        } else {
+            None
+        }
+    }
+
     /// The number of pages.
     pub(crate) fn len(&self) -> usize
         ensures value { result ≡ length self.now }
         ensures distinct { IsDistinct nat_eq (keys_of self.now) }
     {
         self.counts.len()
-    }
-
-    /// The number of the page at the place, counted from 0, or `None` exactly past the end.
-    pub(crate) fn page_at(&self, place: usize) -> Option<u64>
-        ensures { result ≡ option_map (λ c. c.0) (slice_get self.now place) }
-    {
-        match self.counts.get(place) {
-            Some(count) => Some(count.0),
-            None => None,
-        }
     }
 
     /// The number of the page at the place, counted from 0, and how many leaves stand on it, or `None` exactly past the end.
@@ -132,12 +142,12 @@ impl Tally {
     }
 
     /// The counts with those of the other added.
-    pub(crate) fn and(self, more: &Tally) -> Result<Tally, Memory>
+    pub(crate) fn and(self, alloc: Global, more: &SharedTally) -> Result<Tally, Memory>
         requires room { (n : ℕ) → count_on self n + count_on more.now n < 2 ^ 64 }
         ensures { IfOk result (λ t. (n : ℕ) → count_on t n ≡ count_on self n + count_on more.now n) }
     {
         if self.counts.is_empty() {
-            return more.copy();
+            return more.copy(alloc);
         }
         let mut joined = self;
         for place in 0..more.len() {

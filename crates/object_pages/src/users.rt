@@ -9,7 +9,7 @@ ghost use Rattle.object_pages.specs.Tallies.{AreReferences};
 
 use crate::members::leaves_named;
 use crate::name_set::NameSet;
-use crate::tally::Tally;
+use crate::shared_tally::SharedTally;
 use memory_core::Memory;
 use name_core::Name;
 use object_set::Object;
@@ -58,7 +58,7 @@ fn put_page_users(
 /// The same for all pages, of which the tally tells those with such objects.
 pub(crate) fn put_all_users(
     pages: &PageList<Object>,
-    tally: &Tally,
+    tally: &SharedTally,
     name: &Name,
     names: &mut NameSet,
 ) -> Result<(), Memory>

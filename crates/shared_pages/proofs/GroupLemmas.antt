@@ -3,7 +3,7 @@ use Rattle.std.specs.Prelude.{slice_get, slice_set, slice_index_or}
 use Rattle.std.specs.Option.{unwrap_or}
 use Rattle.std.specs.Map.{lookup}
 use Rattle.std.proofs.lemmas.Bool.{cases_eq}
-use Rattle.std.proofs.lemmas.List.{append_assoc, append-nil}
+use Rattle.std.proofs.lemmas.List.{append_assoc, append-nil, length-append}
 use Rattle.name_core.specs.declared.name.Name.{Name}
 use Rattle.shared_pages.specs.Pages.{Pages, most_pairs, pairs_of, page_of, set_page, pushed, last_number, RiseFrom, IsPlace, AreFrom, StandsFrom}
 use Rattle.shared_pages.specs.Groups.{Groups, pages_in, group_at, firsts, group_put, AreFilled}
@@ -14,11 +14,11 @@ use Rattle.shared_pages.proofs.PlaceLemmas.{none_there, some_there}
 
 module _ {V : Type 0} where
   -- ---- numbers rise over two lists, one after the other
-  rise_front : (xs ys : Pages V) (least : ℕ) → RiseFrom least (xs ++ ys) → RiseFrom least xs
+  pub rise_front : (xs ys : Pages V) (least : ℕ) → RiseFrom least (xs ++ ys) → RiseFrom least xs
   rise_front [] ys least h = tt
   rise_front (p ∷ xs) ys least h = (h.0, rise_front xs ys (p.0 + 1) h.1)
 
-  rise_back : (xs ys : Pages V) (least : ℕ) → RiseFrom least (xs ++ ys) → RiseFrom least ys
+  pub rise_back : (xs ys : Pages V) (least : ℕ) → RiseFrom least (xs ++ ys) → RiseFrom least ys
   rise_back [] ys least h = h
   rise_back (p ∷ xs) ys least h = rise_more ys least (p.0 + 1) (omega (arith, h.0)) (rise_back xs ys (p.0 + 1) h.1)
 
@@ -282,13 +282,6 @@ module _ {V : Type 0} where
   pages_beyond (x ∷ groups) zero le = absurd (omega (arith, le))
   pages_beyond (x ∷ groups) (suc i) le = pages_beyond groups i (omega (arith, le))
 
-  pub page_here : (groups : Groups V) (i rest : ℕ) → rest < length (group_at groups i) → slice_get (pages_in (drop i groups)) rest ≡ slice_get (group_at groups i) rest
-  page_here groups i rest lt = ap (λ l. slice_get l rest) (drop_in groups i) ∙ get_front (group_at groups i) (pages_in (drop (suc i) groups)) rest lt
-
-  pub page_later : (groups : Groups V) (i j rest left : ℕ) → j ≡ suc i → rest ≡ length (group_at groups i) + left → slice_get (pages_in (drop i groups)) rest ≡ slice_get (pages_in (drop j groups)) left
-  page_later groups i j rest left next is =
-      ap (λ l. slice_get l rest) (drop_in groups i) ∙ get_back (group_at groups i) (pages_in (drop (suc i) groups)) rest left is ∙ ap (λ m. slice_get (pages_in (drop m groups)) left) (sym next)
-
   pub pairs_append : (xs ys : Pages V) → pairs_of (xs ++ ys) ≡ pairs_of xs ++ pairs_of ys
   pairs_append [] ys = refl
   pairs_append (p ∷ xs) ys = ap (λ (l : List (Name × V)). p.1 ++ l) (pairs_append xs ys) ∙ sym (append_assoc p.1 (pairs_of xs) (pairs_of ys))
@@ -305,6 +298,21 @@ module _ {V : Type 0} where
       ap (λ l. slice_get l rest) (drop_pairs_in groups i) ∙ get_back (pairs_of (group_at groups i)) (pairs_of (pages_in (drop (suc i) groups))) rest left is
       ∙ ap (λ m. slice_get (pairs_of (pages_in (drop m groups))) left) (sym next)
 
+  pub front_pair : (xs ys all : Pages V) (i : ℕ) → xs ++ ys ≡ all → i < length (pairs_of xs) → slice_get (pairs_of xs) i ≡ slice_get (pairs_of all) i
+  front_pair xs ys all i is lt = sym (ap (λ (l : Pages V). slice_get (pairs_of l) i) (sym is) ∙ ap (λ l. slice_get l i) (pairs_append xs ys) ∙ get_front (pairs_of xs) (pairs_of ys) i lt)
+
+  pub back_pair : (xs ys all : Pages V) (i k : ℕ) → xs ++ ys ≡ all → i ≡ length (pairs_of xs) + k → slice_get (pairs_of ys) k ≡ slice_get (pairs_of all) i
+  back_pair xs ys all i k is at = sym (ap (λ (l : Pages V). slice_get (pairs_of l) i) (sym is) ∙ ap (λ l. slice_get l i) (pairs_append xs ys) ∙ get_back (pairs_of xs) (pairs_of ys) i k at)
+
+  -- how many pairs stand before some pages, told by looking for a place past the last pair
+  pub before_is : (xs ys : Pages V) (count page rest : ℕ) → count ≡ length (pairs_of (xs ++ ys)) → (page < length ys → count < length (pairs_of ys)) → (length ys ≤ page → count ≡ length (pairs_of ys) + rest) → rest ≡ length (pairs_of xs)
+  before_is xs ys count page rest is here past =
+      let sum : length (pairs_of (xs ++ ys)) ≡ length (pairs_of xs) + length (pairs_of ys) = ap (λ l. length l) (pairs_append xs ys) ∙ length-append (pairs_of xs) (pairs_of ys) in
+      elim (cases_lt page (length ys)) [
+        | inl lt ↦ absurd (omega (arith, here lt, is, sum))
+        | inr le ↦ omega (arith, past le, is, sum)
+      ]
+
   pub group_there : (groups : Groups V) (g : ℕ) (x : Pages V) → Some x ≡ slice_get groups g → x ≡ group_at groups g
   group_there groups g x at = some_there [] groups g x at
 
@@ -320,24 +328,35 @@ module _ {V : Type 0} where
   pub one_pushed : (groups new : Groups V) (x : Pages V) → new ≡ groups ++ x ∷ [] → pages_in new ≡ pages_in groups ++ x
   one_pushed groups new x is = ap (λ (l : Groups V). pages_in l) is ∙ pages_push groups x
 
-  pub two_pushed : (groups mid new : Groups V) (x y z : Pages V) (p : ℕ × List (Name × V)) → mid ≡ groups ++ x ∷ [] → y ≡ p ∷ [] → new ≡ mid ++ y ∷ [] → z ≡ x ++ p ∷ [] → pages_in new ≡ pages_in groups ++ z
-  two_pushed groups mid new x y z p first is second all =
-      one_pushed mid new y second ∙ (λ j. one_pushed groups mid x first j ++ is j) ∙ append_assoc (pages_in groups) x (p ∷ []) ∙ ap (λ (l : Pages V). pages_in groups ++ l) (sym all)
+  pub one_closed : (groups new : Groups V) (x z : Pages V) (p : ℕ × List (Name × V)) → new ≡ groups ++ x ∷ [] → z ≡ x ++ p ∷ [] → pages_in new ++ p ∷ [] ≡ pages_in groups ++ z
+  one_closed groups new x z p is all =
+      ap (λ (l : Pages V). l ++ p ∷ []) (one_pushed groups new x is) ∙ append_assoc (pages_in groups) x (p ∷ []) ∙ ap (λ (l : Pages V). pages_in groups ++ l) (sym all)
+
+  pub filled_more : (groups new : Groups V) (x : Pages V) → new ≡ groups ++ x ∷ [] → 0 < length x → AreFilled groups → AreFilled new
+  filled_more groups new x is some h = subst (λ (l : Groups V). AreFilled l) (sym is) (by groups h)
+    where
+      by : (l : Groups V) → AreFilled l → AreFilled (l ++ x ∷ [])
+      by [] h = (some, tt)
+      by (y ∷ l) h = (h.0, by l h.1)
+
+  pub none_open : (x y : Pages V) → length y ≡ 0 → x ≡ x ++ y
+  none_open x [] is = sym (append-nil x)
+  none_open x (p ∷ y) is = absurd (omega (arith, is))
 
   -- the last group and those before it, or none where there is none
   abbrev pub IsCut : Groups V → Groups V → Pages V → Type 0
   IsCut old mid x = (old ≡ mid ++ x ∷ []) ⊎ ((old ≡ []) × (mid ≡ []) × (x ≡ []))
 
-  cut_pages : (old mid : Groups V) (x : Pages V) → IsCut old mid x → pages_in old ≡ pages_in mid ++ x
+  pub cut_pages : (old mid : Groups V) (x : Pages V) → IsCut old mid x → pages_in old ≡ pages_in mid ++ x
   cut_pages old mid x cut = elim cut [
     | inl is ↦ one_pushed mid old x is
     | inr none ↦ ap (λ (l : Groups V). pages_in l) none.0 ∙ sym (λ j. pages_in (none.1 j) ++ none.2 j)
   ]
 
-  pub absent_in : (old mid : Groups V) (x : Pages V) (test : Name → Bool) → IsCut old mid x → lookup test (pairs_of (pages_in old)) ≡ None → lookup test (pairs_of x) ≡ None
-  absent_in old mid x test cut none =
-      (lookup_front test (pairs_of (pages_in mid)) (pairs_of x)
-      (ap (λ l. lookup test l) (sym (ap (λ (l : Pages V). pairs_of l) (cut_pages old mid x cut) ∙ pairs_append (pages_in mid) x)) ∙ none)).1
+  pub absent_behind : (xs x all : Pages V) (test : Name → Bool) → xs ++ x ≡ all → lookup test (pairs_of all) ≡ None → lookup test (pairs_of x) ≡ None
+  absent_behind xs x all test is none =
+      (lookup_front test (pairs_of xs) (pairs_of x)
+      (ap (λ l. lookup test l) (sym (ap (λ (l : Pages V). pairs_of l) (sym is) ∙ pairs_append xs x)) ∙ none)).1
 
   filled_front : (mid : Groups V) (x : Pages V) → AreFilled (mid ++ x ∷ []) → AreFilled mid
   filled_front [] x h = tt
@@ -359,11 +378,17 @@ module _ {V : Type 0} where
   pushed_front (p ∷ []) (q ∷ ys) a v some = refl
   pushed_front (p ∷ r ∷ xs) ys a v some = ap (λ (l : Pages V). p ∷ l) (pushed_front (r ∷ xs) ys a v some)
 
-  pub pushed_in : (old mid : Groups V) (x : Pages V) (a : Name) (v : V) → IsCut old mid x → AreFilled old → pages_in mid ++ pushed x a v ≡ pushed (pages_in old) a v
-  pushed_in old mid x a v cut h = elim cut [
-    | inl is ↦
-        pushed_front (pages_in mid) x a v (filled_last mid x (subst (λ (l : Groups V). AreFilled l) is h)) ∙ ap (λ (l : Pages V). pushed l a v) (sym (one_pushed mid old x is))
-    | inr none ↦ (λ j. pages_in (none.1 j) ++ pushed (none.2 j) a v) ∙ ap (λ (l : Groups V). pushed (pages_in l) a v) (sym none.0)
+  -- the last group is there, where one is
+  pub cut_some : (old mid : Groups V) (x : Pages V) → IsCut old mid x → AreFilled old → (mid ≡ []) ⊎ (0 < length x)
+  cut_some old mid x cut h = elim cut [
+    | inl is ↦ inr (filled_last mid x (subst (λ (l : Groups V). AreFilled l) is h))
+    | inr none ↦ inl none.1
+  ]
+
+  pub pushed_behind : (groups : Groups V) (x : Pages V) (a : Name) (v : V) → (groups ≡ []) ⊎ (0 < length x) → pages_in groups ++ pushed x a v ≡ pushed (pages_in groups ++ x) a v
+  pushed_behind groups x a v some = elim some [
+    | inl none ↦ subst (λ (l : Groups V). pages_in l ++ pushed x a v ≡ pushed (pages_in l ++ x) a v) (sym none) refl
+    | inr there ↦ pushed_front (pages_in groups) x a v there
   ]
 
   pub pushed_some : (pages : Pages V) (a : Name) (v : V) → 0 < length (pushed pages a v)
@@ -380,3 +405,11 @@ module _ {V : Type 0} where
   last_in (p ∷ []) [] some = absurd (omega (arith, some))
   last_in (p ∷ []) (q ∷ ys) some = refl
   last_in (p ∷ r ∷ xs) ys some = last_in (r ∷ xs) ys some
+
+  -- a pair more behind all pages, of which the last ones were taken
+  pub pushed_list : (all : Pages V) (mid : Groups V) (x y new : Pages V) (a : Name) (v : V) → pages_in mid ++ x ≡ all → (mid ≡ []) ⊎ (0 < length x) → y ≡ pushed x a v → new ≡ pages_in mid ++ y
+      → (new ≡ pushed all a v) × (last_number y ≡ last_number new)
+  pushed_list all mid x y new a v is some put now = (
+    now ∙ ap (λ (l : Pages V). pages_in mid ++ l) put ∙ pushed_behind mid x a v some ∙ ap (λ (l : Pages V). pushed l a v) is,
+    sym (ap (λ (l : Pages V). last_number l) now ∙ last_in (pages_in mid) y (omega (arith, pushed_some x a v, ap (λ (l : Pages V). length l) put))),
+  )

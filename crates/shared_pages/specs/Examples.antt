@@ -48,14 +48,14 @@ without_the_middle = refl
 pub without_the_last : set_page three 7 [] ≡ (0, one 65 1) ∷ (4, one 66 2) ∷ []
 without_the_last = refl
 
--- ---- a page holds 16 pairs
-pub one_fits : page_after (4, replicate 15 (named 65, 1)) (named 66) 2 ≡ (4, replicate 15 (named 65, 1) ++ one 66 2)
+-- ---- a page holds 8 pairs
+pub one_fits : page_after (4, replicate 7 (named 65, 1)) (named 66) 2 ≡ (4, replicate 7 (named 65, 1) ++ one 66 2)
 one_fits = refl
 
-pub none_fits : page_after (4, replicate 16 (named 65, 1)) (named 66) 2 ≡ (5, one 66 2)
+pub none_fits : page_after (4, replicate 8 (named 65, 1)) (named 66) 2 ≡ (5, one 66 2)
 none_fits = refl
 
-pub behind_a_full_page : pushed ((4, replicate 16 (named 65, 1)) ∷ []) (named 66) 2 ≡ (4, replicate 16 (named 65, 1)) ∷ (5, one 66 2) ∷ []
+pub behind_a_full_page : pushed ((4, replicate 8 (named 65, 1)) ∷ []) (named 66) 2 ≡ (4, replicate 8 (named 65, 1)) ∷ (5, one 66 2) ∷ []
 behind_a_full_page = refl
 
 -- ---- where a name stands

@@ -3,7 +3,7 @@ use Rattle.std.specs.Prelude.{◌≡◌, ◌<◌, ℕ, List, [], ◌∷◌, ◌+
 use Rattle.std.specs.List.{AllByRecursion}
 use Rattle.std.specs.Map.{lookup}
 use Rattle.std.specs.Prelude.{nat_eq}
-use Rattle.shared_pages.specs.Pages.{Pages, RiseFrom, IsPlace, ArePages}
+use Rattle.shared_pages.specs.Pages.{Pages, pairs_of, RiseFrom, IsPlace, ArePages}
 use Rattle.shared_pages.specs.declared.spot.Spot.{Spot}
 
 -- groups in order, each with its pages
@@ -38,10 +38,15 @@ module _ {V : Type 0} where
   abbrev pub AreInOrder : Groups V → Type 0
   AreInOrder groups = RiseFrom 0 (pages_in groups) × AreFilled groups
 
-  -- what a list of groups keeps: its pages are as they are to be, and no group is empty
-  pub record AreGroups (groups : Groups V) (count : ℕ) : Type 0 where
-    pub pages : ArePages (pages_in groups) count
-    pub filled : AreFilled groups
+  -- the number of pairs of some pages, where it is told
+  abbrev pub CountsPairs : Pages V → Option ℕ → Type 0
+  CountsPairs pages None = Unit {0}
+  CountsPairs pages (Some count) = count ≡ length (pairs_of pages)
+
+  -- what a list keeps of its closed groups and of the pages behind them, its tail: all pages are as they are to be, and no group is empty
+  pub record AreGroups (closed : Groups V) (tail : Pages V) (count : ℕ) : Type 0 where
+    pub pages : ArePages (pages_in closed ++ tail) count
+    pub filled : AreFilled closed
 
   -- where the page of the number stands, or that there is none
   abbrev pub IsSpot : Groups V → ℕ → Option Spot → Type 0

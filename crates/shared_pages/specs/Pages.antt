@@ -7,7 +7,7 @@ use Rattle.name_core.specs.declared.name.Name.{Name}
 
 -- so many pairs stand on a page at most
 abbrev pub most_pairs : ℕ
-most_pairs = 16
+most_pairs = 8
 
 -- pages in order, each with its number and its pairs
 abbrev pub Pages : Type 0 → Type 0
@@ -60,7 +60,7 @@ module _ {V : Type 0} where
   RiseFrom least [] = Unit {0}
   RiseFrom least (p ∷ pages) = (least ≤ p.0) × RiseFrom (p.0 + 1) pages
 
-  -- a page has 1 to 16 pairs
+  -- a page has 1 to 8 pairs
   abbrev pub IsFilled : ℕ × List (Name × V) → Type 0
   IsFilled p = (0 < length p.1) × (length p.1 ≤ most_pairs)
 

@@ -1,4 +1,5 @@
 use crate::bucket::Bucket;
+use crate::group::Group;
 use crate::page::Page;
 use crate::shares::Shares;
 use memory_core::Memory;
@@ -32,6 +33,12 @@ impl<V: Again> Again for Bucket<V> {
 
 impl<V: Drop> Again for Page<V> {
     fn again(&self) -> Result<Page<V>, Memory> {
+        self.copy()
+    }
+}
+
+impl<V: Drop> Again for Group<V> {
+    fn again(&self) -> Result<Group<V>, Memory> {
         self.copy()
     }
 }

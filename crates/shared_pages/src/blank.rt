@@ -1,5 +1,6 @@
 use crate::again::Again;
 use crate::bucket::Bucket;
+use crate::group::Group;
 use crate::page::Page;
 use crate::pairs::Pairs;
 use crate::shares::Shares;
@@ -33,6 +34,16 @@ impl<V: Drop> Blank for Page<V> {
 
     fn blank(alloc: Global) -> Page<V> {
         Page::of_pairs(0, Pairs::new(alloc))
+    }
+}
+
+impl<V: Drop> Blank for Group<V> {
+    ghost use Rattle.std.specs.Prelude.{[]};
+
+    ghost empty = { [] };
+
+    fn blank(alloc: Global) -> Group<V> {
+        Group::of_pages(Shares::new(alloc))
     }
 }
 

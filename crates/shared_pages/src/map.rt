@@ -6,12 +6,12 @@ ghost use Rattle.shared_pages.specs.Buckets.{value_of, bucket_at, shelf_of, row_
 use crate::again::Again;
 use crate::bucket::Bucket;
 use crate::hash::number_of;
+use crate::root::Root;
 use crate::shares::Shares;
 use memory_core::Memory;
 use name_core::Name;
 use std::alloc::Global;
 use std::marker::Model;
-use std::sync::Arc;
 
 /// A bucket by its place: on which shelf, in which row there, and where in the row.
 #[derive(Clone, Copy)]
@@ -39,21 +39,19 @@ pub(crate) fn slot_of(name: &Name) -> Slot
 }
 
 /// Values by name. A copy shares them all, and a change touches only the shelf, the row and the bucket of its name: what a
-/// copy shares is copied first, with the values of that bucket, and what none shares is changed where it stands. Contracts see its pairs, and by `value_of`
-/// the value of each name.
+/// copy shares is copied first, with the values of that bucket, and what none shares is changed where it stands. Contracts
+/// see its pairs, and by `value_of` the value of each name.
 #[derive(Drop)]
 pub struct SharedMap<V> {
-    /// None where no name has a value yet.
-    root: Option<Arc<Shares<Shares<Shares<Bucket<V>>>>>>,
+    root: Root<Shares<Shares<Bucket<V>>>>,
 }
 
 impl<V> Model for SharedMap<V> {
     ghost use Rattle.shared_pages.specs.Buckets.{Shelves};
-    ghost use Rattle.shared_pages.specs.Sharing.{shared_or_none};
 
     ghost Value = { Shelves V };
 
-    ghost view = { λ s. shared_or_none s.root };
+    ghost view = { λ s. s.root };
 }
 
 impl<V: Again> SharedMap<V> {
@@ -62,7 +60,7 @@ impl<V: Again> SharedMap<V> {
         ensures { (a : Bytes) → value_of result a ≡ None }
     {
         let _ = alloc;
-        SharedMap { root: None }
+        SharedMap { root: Root::new() }
     }
 
     /// Lends the value of the name, or `None` exactly where it has none.
@@ -80,7 +78,7 @@ impl<V: Again> SharedMap<V> {
     fn bucket(&self, slot: &Slot) -> Option<&Bucket<V>>
         ensures { unwrap_or (option_copied result) [] ≡ bucket_at self.now slot.now.shelf slot.now.row slot.now.bucket }
     {
-        let Some(root) = &self.root else {
+        let Some(root) = self.root.list() else {
             return None;
         };
         let Some(shelf) = root.get(slot.shelf) else {
@@ -96,25 +94,8 @@ impl<V: Again> SharedMap<V> {
     pub fn copy(&self) -> Result<SharedMap<V>, Memory>
         ensures { IfOk result (λ m. m ≡ self.now) }
     {
-        let Some(root) = &self.root else {
-            return Ok(SharedMap { root: None });
-        };
-        let share = Arc::try_clone(root)?;
-        Ok(SharedMap { root: Some(share) })
-    }
-
-    /// The shelves of this map. Where a copy shares them, they are copied.
-    fn owned(self, alloc: Global) -> Result<Shares<Shares<Shares<Bucket<V>>>>, Memory>
-        ensures { IfOk result (λ s. s ≡ self) }
-    {
-        let SharedMap { root } = self;
-        let Some(share) = root else {
-            return Ok(Shares::new(alloc));
-        };
-        match Arc::try_unwrap(share) {
-            Ok(shelves) => Ok(shelves),
-            Err(share) => share.copy(),
-        }
+        let root = self.root.copy()?;
+        Ok(SharedMap { root })
     }
 
     /// The map in which the name has this value, or none.
@@ -122,7 +103,8 @@ impl<V: Again> SharedMap<V> {
         ensures { IfOk result (Gives self name.now value) }
     {
         let slot = slot_of(name);
-        let mut shelves = self.owned(alloc)?;
+        let SharedMap { root } = self;
+        let mut shelves = root.own(alloc)?;
         let mut shelf = shelves.take(alloc, slot.shelf)?;
         let mut row = shelf.take(alloc, slot.row)?;
         let mut bucket = row.take(alloc, slot.bucket)?;
@@ -130,8 +112,8 @@ impl<V: Again> SharedMap<V> {
         row.set(alloc, slot.bucket, bucket)?;
         shelf.set(alloc, slot.row, row)?;
         shelves.set(alloc, slot.shelf, shelf)?;
-        let root = Arc::new(alloc, shelves)?;
-        Ok(SharedMap { root: Some(root) })
+        let root = Root::of_list(alloc, shelves)?;
+        Ok(SharedMap { root })
     }
 
     /// The map in which the name has this value. It takes this map over, and what copies of this map share stays as it is

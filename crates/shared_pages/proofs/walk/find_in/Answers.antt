@@ -10,6 +10,10 @@ returns-then-page-len_in g c =
     ∙ pair_here c.args.groups.now c.loop-group.group c.loop-group.rest (c.find_at-page.ensures.here (omega (arith, c.if-page-len_in.true, c.len_in.ensures)))
     ∙ c.find_at-page.ensures.found
 
+pub loop-group-preserved-in-Some : goal.loop-group-preserved-in-Some
+loop-group-preserved-in-Some g c =
+    c.loop-group.invariant ∙ pair_later c.args.groups.now c.loop-group.group (c.loop-group.group + 1) c.loop-group.rest c.in-Some.left (omega arith) c.in-Some.ensures
+
 pub loop-group-preserved : goal.loop-group-preserved
 loop-group-preserved g c =
     c.loop-group.invariant

@@ -1,5 +1,6 @@
 use Rattle.std.proofs.Common.{◌≡◌, ◌<◌, ◌∙◌, false, length, ap, sym, rules}
 use Rattle.std.specs.Prelude.{is_some}
+use Rattle.std.specs.Arc.{arc_value}
 use Rattle.std.specs.Option.{option_copied}
 use Rattle.name_core.specs.declared.name.Name.{Name}
 use Rattle.object_set.specs.Objects.{Parts}
@@ -13,7 +14,7 @@ pub returns-in-Ok : goal.returns-in-Ok
 returns-in-Ok c =
     let es : Entries = c.args.self.now in
     let a : Name = c.args.name.now in
-    let o : Parts = c.args.object in
+    let o : Parts = arc_value c.args.object in
     let got : option_copied c.get.result ≡ object_of es a = c.get.ensures ∙ ap (λ (l : Entries). object_of l a) c.self.view_is in
     let none : is_some (object_of es a) ≡ false = none_got c.get.result (object_of es a) got (sym c.if-is_some.ensures) in
     let room : length es < most_objects = search rules in

@@ -1,17 +1,19 @@
-use Rattle.std.proofs.Common.{◌∙◌, ap, sym}
-use Rattle.std.specs.Prelude.{slice_get}
-use Rattle.shared_pages.specs.Pages.{pairs_of}
-use Rattle.shared_pages.specs.Groups.{group_at}
-use Rattle.shared_pages.proofs.DistinctPages.{pairs_there, pairs_past}
+use Rattle.std.proofs.Common.{◌-◌, ◌∙◌, arith}
+use Rattle.shared_pages.specs.Groups.{pages_in}
+use Rattle.shared_pages.proofs.GroupLemmas.{before_is, front_pair, back_pair}
 use Rattle.shared_pages.proofs.page_list.PageList.at.Goals as goal
 
-pub returns-in-Some : goal.returns-in-Some
-returns-in-Some g c =
-    c.at.ensures
-    ∙ ap (λ l. slice_get l c.find_in-rest.result.1) (c.pairs.ensures ∙ pairs_there (group_at c.self.inside.groups c.find_in-rest.result.0.group) c.find_in-rest.result.0.page c.in-Some.page.now c.in-Some.ensures)
-    ∙ sym c.find_in-rest.ensures ∙ ap (λ l. slice_get (pairs_of l) c.args.place) c.self.view_is
+pub returns-then-place-before : goal.returns-then-place-before
+returns-then-place-before g c =
+    let before =
+    before_is (pages_in c.self.inside.closed) c.self.inside.tail c.self.inside.count c.find-page.result.0 c.find-page.result.1 c.self.invariant.pages.count_is c.find-page.ensures.here
+    c.find-page.ensures.past in
+    c.pair_in.ensures ∙ front_pair (pages_in c.self.inside.closed) c.self.inside.tail c.args.self.now c.args.place c.self.view_is (omega (arith, before, c.if-place-before.true))
 
-pub returns-in-None : goal.returns-in-None
-returns-in-None g c =
-    ap (λ l. slice_get l c.find_in-rest.result.1) (pairs_past (group_at c.self.inside.groups c.find_in-rest.result.0.group) c.find_in-rest.result.0.page c.in-None.ensures)
-    ∙ sym c.find_in-rest.ensures ∙ ap (λ l. slice_get (pairs_of l) c.args.place) c.self.view_is
+pub returns : goal.returns
+returns g c =
+    let before =
+    before_is (pages_in c.self.inside.closed) c.self.inside.tail c.self.inside.count c.find-page.result.0 c.find-page.result.1 c.self.invariant.pages.count_is c.find-page.ensures.here
+    c.find-page.ensures.past in
+    c.pair_among.ensures
+    ∙ back_pair (pages_in c.self.inside.closed) c.self.inside.tail c.args.self.now c.args.place (c.args.place - c.find-page.result.1) c.self.view_is (omega (arith, before, c.if-place-before.false))

@@ -1,0 +1,44 @@
+-- The component of a vector in a direction.
+use Rattle.std.proofs.Common.{◌≡◌, ℤ, pos, ◌-ℤ◌, arith}
+use Rattle.std.proofs.lemmas.Int.{ints}
+use Rattle.lattice_core.specs.Vectors.{dot_product}
+use Rattle.lattice_core.specs.Units.{unit_of}
+use Rattle.lattice_core.specs.declared.vector.V3.{V3}
+use Rattle.lattice_core.specs.declared.ray.Dir.{Dir}
+use Rattle.lattice_core.specs.declared.ray.Dir.TheVariants.{PlusX, MinusX, PlusY, MinusY, PlusZ, MinusZ}
+
+pub plus_x : (v : V3) (d : Dir) → d ≡ PlusX → dot_product v (unit_of d) ≡ v.x
+plus_x v d is = rw is (omega (arith, ints))
+
+pub plus_x_turned : (v : V3) (d : Dir) → d ≡ PlusX → dot_product (unit_of d) v ≡ v.x
+plus_x_turned v d is = rw is (omega (arith, ints))
+
+pub minus_x : (v : V3) (d : Dir) → d ≡ MinusX → dot_product v (unit_of d) ≡ pos 0 -ℤ v.x
+minus_x v d is = rw is (omega (arith, ints))
+
+pub minus_x_turned : (v : V3) (d : Dir) → d ≡ MinusX → dot_product (unit_of d) v ≡ pos 0 -ℤ v.x
+minus_x_turned v d is = rw is (omega (arith, ints))
+
+pub plus_y : (v : V3) (d : Dir) → d ≡ PlusY → dot_product v (unit_of d) ≡ v.y
+plus_y v d is = rw is (omega (arith, ints))
+
+pub plus_y_turned : (v : V3) (d : Dir) → d ≡ PlusY → dot_product (unit_of d) v ≡ v.y
+plus_y_turned v d is = rw is (omega (arith, ints))
+
+pub minus_y : (v : V3) (d : Dir) → d ≡ MinusY → dot_product v (unit_of d) ≡ pos 0 -ℤ v.y
+minus_y v d is = rw is (omega (arith, ints))
+
+pub minus_y_turned : (v : V3) (d : Dir) → d ≡ MinusY → dot_product (unit_of d) v ≡ pos 0 -ℤ v.y
+minus_y_turned v d is = rw is (omega (arith, ints))
+
+pub plus_z : (v : V3) (d : Dir) → d ≡ PlusZ → dot_product v (unit_of d) ≡ v.z
+plus_z v d is = rw is (omega (arith, ints))
+
+pub plus_z_turned : (v : V3) (d : Dir) → d ≡ PlusZ → dot_product (unit_of d) v ≡ v.z
+plus_z_turned v d is = rw is (omega (arith, ints))
+
+pub minus_z : (v : V3) (d : Dir) → d ≡ MinusZ → dot_product v (unit_of d) ≡ pos 0 -ℤ v.z
+minus_z v d is = rw is (omega (arith, ints))
+
+pub minus_z_turned : (v : V3) (d : Dir) → d ≡ MinusZ → dot_product (unit_of d) v ≡ pos 0 -ℤ v.z
+minus_z_turned v d is = rw is (omega (arith, ints))

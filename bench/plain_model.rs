@@ -1,7 +1,7 @@
-//! A plain program that loads a model, saves it and lists trees: what `bench/models` measures the proved one beside.
+//! A plain program that loads a model, saves it and lists its objects and trees: what `bench/models` measures the proved one beside.
 //!
 //! Compile with `rustc -O bench/plain_model.rs` and run as `plain_model --load NAME < SCRIPT`, where each line of the
-//! script is `save FILE` or `tree NAME`. The text form, its checks and the kinds of faults are those of
+//! script is `save FILE`, `ls` or `tree NAME`. The text form, its checks and the kinds of faults are those of
 //! docs/TEXT_FORM.md, the transcript is that of docs/COMMANDS.md. Nothing of it is proved, and it has no other commands.
 
 use std::collections::HashMap;
@@ -714,8 +714,7 @@ impl Directory {
 
     // ---- listings
 
-    fn add_listing(&self, out: &mut Vec<u8>, lines: &mut usize, name: u32, level: usize) {
-        let thing = self.known[name as usize].object.map(|place| &self.objects[place as usize].thing);
+    fn add_entry(&self, out: &mut Vec<u8>, lines: &mut usize, name: u32, thing: Option<&Thing>) {
         out.extend_from_slice(self.name(name));
         add(out, match thing {
             Some(Thing::Comb(comb)) => if comb.region { "/R\n" } else { "/\n" },
@@ -723,6 +722,11 @@ impl Directory {
             None => "?\n",
         });
         *lines += 1;
+    }
+
+    fn add_listing(&self, out: &mut Vec<u8>, lines: &mut usize, name: u32, level: usize) {
+        let thing = self.known[name as usize].object.map(|place| &self.objects[place as usize].thing);
+        self.add_entry(out, lines, name, thing);
         if let Some(Thing::Comb(comb)) = thing {
             if !comb.tree.is_empty() {
                 self.add_leaves(out, lines, &mut comb.tree.iter(), b'u', level + 1);
@@ -775,11 +779,14 @@ fn main() {
         let (mut body, mut lines) = (Vec::new(), 0);
         match line.split(' ').collect::<Vec<_>>()[..] {
             ["save", file] => { files.push((file, directory.written())); body = format!("saved {file}\n").into_bytes(); lines = 1; }
+            ["ls"] => for object in &directory.objects {
+                directory.add_entry(&mut body, &mut lines, object.name, Some(&object.thing));
+            },
             ["tree", name] => match directory.object(name.as_bytes()) {
                 Some(place) => directory.add_listing(&mut body, &mut lines, directory.objects[place].name, 0),
                 None => stop(1, &format!("missing {name}")),
             },
-            _ => stop(1, "only save and tree are here"),
+            _ => stop(1, "only save, ls and tree are here"),
         }
         order += " 1";
         answers.extend_from_slice(format!("1.{} ok v0 {lines}\n", at + 1).as_bytes());

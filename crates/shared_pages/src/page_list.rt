@@ -25,10 +25,10 @@ use std::marker::Model;
 use std::sync::Arc;
 
 /// Pairs on pages, in order, of which a copy shares all pages. A page has 1 to 8 pairs and keeps its number as long as it
-/// has one, and the numbers rise from page to page. Pages stand in groups, which a copy shares whole, and the last ones may
-/// stand in a tail behind them: a pair that is added touches the tail alone. Another change touches one page, its group and the
-/// list of the groups: what a copy shares is copied first, and what none shares is changed where it stands. Contracts see
-/// the pages with their numbers and pairs.
+/// has one, and the numbers rise from page to page. Pages stand in groups, which a copy shares whole and a walk steps over,
+/// and the last ones may stand in a tail behind them: a pair that is added touches the tail alone. Another change touches
+/// one page, its group and the list of the groups: what a copy shares is copied first, and what none shares is changed
+/// where it stands. Contracts see the pages with their numbers and pairs.
 #[derive(Drop)]
 pub struct PageList<V> {
     /// The groups that are closed. No group is empty.
@@ -251,8 +251,8 @@ impl<V: Drop> PageList<V> {
         Ok(list)
     }
 
-    /// Lends the name and the value at the place among all pairs, counted from 0, or `None` exactly past the end. It walks
-    /// over the pages before it.
+    /// Lends the name and the value at the place among all pairs, counted from 0, or `None` exactly past the end. It steps
+    /// over the groups before it, and walks over the pages of one.
     pub fn at(&self, place: usize) -> Option<(&Name, &V)>
         ensures { option_map deref_pair result ≡ slice_get (pairs_of self.now) place }
     {

@@ -1,8 +1,10 @@
-//! A plain program that loads a model, saves it and lists its objects and trees: what `bench/models` measures the proved one beside.
+//! A plain program that loads a model, edits it, saves it and lists its objects and trees: what `bench/models` and
+//! `bench/edits` measure the proved one beside.
 //!
 //! Compile with `rustc -O bench/plain_model.rs` and run as `plain_model --load NAME < SCRIPT`, where each line of the
-//! script is `save FILE`, `ls` or `tree NAME`. The text form, its checks and the kinds of faults are those of
-//! docs/TEXT_FORM.md, the transcript is that of docs/COMMANDS.md. Nothing of it is proved, and it has no other commands.
+//! script is `save FILE`, `ls`, `tree NAME`, `in NAME sph X Y Z R`, `mvall OLD NEW` with a name that nothing has, or `r` with
+//! a new name. The text form, its checks and the kinds of faults are those of docs/TEXT_FORM.md, the transcript is that of
+//! docs/COMMANDS.md. Nothing of it is proved, it has no other commands, and it edits its one directory in place.
 
 use std::collections::HashMap;
 use std::io::{Read, Write};
@@ -750,6 +752,81 @@ impl Directory {
     }
 }
 
+// ---- edits
+
+/// A sphere of these words.
+fn ball(words: [&str; 4]) -> Thing {
+    let [x, y, z, radius] = words.map(|word| number(word.as_bytes(), -REACH, REACH).unwrap_or_else(|_| stop(1, "only numbers in range are here")));
+    if radius < 1 {
+        stop(1, "only spheres with a radius are here");
+    }
+    Thing::Sphere([x, y, z], radius)
+}
+
+/// The tree of operators and members by turns: `u` begins a product, and the others go on with the last one.
+fn tree_of(words: &[&str], directory: &mut Directory) -> Vec<Node> {
+    let (mut unions, mut products, mut product) = (0, Vec::new(), Vec::new());
+    for pair in words.chunks(2) {
+        let &[op, member] = pair else { stop(1, "only whole lists are here") };
+        let leaf = Node::Leaf(directory.number_of(member.as_bytes()), None);
+        if op == "u" || product.is_empty() {
+            unions += usize::from(!product.is_empty());
+            products.append(&mut product);
+        } else {
+            product.insert(0, Node::Op(if op == "+" { b'n' } else { b'-' }));
+        }
+        product.push(leaf);
+    }
+    products.append(&mut product);
+    let mut tree: Vec<Node> = (0..unions).map(|_| Node::Op(b'u')).collect();
+    tree.append(&mut products);
+    tree
+}
+
+/// Makes what the words of a line say, or says why not.
+fn edit(words: &[&str], directory: &mut Directory) -> Result<(), String> {
+    let (name, made) = match words {
+        ["in", name, "sph", x, y, z, radius] => (*name, directory_put(name, ball([x, y, z, radius]), directory)),
+        ["r", name, list @ ..] if directory.object(name.as_bytes()).is_none() => {
+            let tree = tree_of(list, directory);
+            let comb = Comb { region: true, id: 1_000, los: 100, mater: 1, tree, ..Comb::default() };
+            (*name, directory_put(name, Thing::Comb(Box::new(comb)), directory))
+        }
+        ["mvall", old, new] => return rename(old, new, directory),
+        _ => stop(1, "only save, ls, tree, in, r and mvall are here"),
+    };
+    made.map_err(|kind| match kind {
+        Kind::Full => "full".into(),
+        Kind::Exists | Kind::Cycle => format!("{} {name}", KINDS[kind as usize]),
+        _ => stop(1, "only trees of few levels are here"),
+    })
+}
+
+fn directory_put(name: &str, thing: Thing, directory: &mut Directory) -> Result<(), Kind> {
+    if !is_name(name.as_bytes()) {
+        stop(1, "only names are here");
+    }
+    let number = directory.number_of(name.as_bytes());
+    directory.put(number, thing)
+}
+
+fn rename(old: &str, new: &str, directory: &mut Directory) -> Result<(), String> {
+    if directory.object(new.as_bytes()).is_some() {
+        return Err(format!("exists {new}"));
+    }
+    if directory.object(old.as_bytes()).is_none() {
+        return Err(format!("missing {old}"));
+    }
+    if directory.names.contains_key(new.as_bytes()) || !is_name(new.as_bytes()) {
+        stop(1, "only names that nothing has are here");
+    }
+    if let Some(number) = directory.names.remove(old.as_bytes()) {
+        directory.names.insert(new.as_bytes().into(), number);
+        directory.known[number as usize].name = new.as_bytes().into();
+    }
+    Ok(())
+}
+
 // ---- the program
 
 fn stop(status: i32, line: &str) -> ! {
@@ -757,9 +834,9 @@ fn stop(status: i32, line: &str) -> ! {
     std::process::exit(status)
 }
 
-fn main() {
+fn main() -> std::process::ExitCode {
     let words: Vec<String> = std::env::args().skip(1).collect();
-    let directory = match &words[..] {
+    let mut directory = match &words[..] {
         [] => Directory::default(),
         [option, file] if option == "--load" => {
             let text = std::fs::read(file).unwrap_or_else(|_| stop(3, &format!("load missing {file}")));
@@ -774,10 +851,11 @@ fn main() {
     if std::io::stdin().read_to_string(&mut script).is_err() {
         stop(5, "read");
     }
-    let mut files = Vec::new();
+    let (mut files, mut version, mut some_refused) = (Vec::new(), 0, false);
     for (at, line) in script.lines().enumerate() {
-        let (mut body, mut lines) = (Vec::new(), 0);
-        match line.split(' ').collect::<Vec<_>>()[..] {
+        let (mut body, mut lines, mut refused) = (Vec::new(), 0, None);
+        let words: Vec<&str> = line.split(' ').collect();
+        match words[..] {
             ["save", file] => { files.push((file, directory.written())); body = format!("saved {file}\n").into_bytes(); lines = 1; }
             ["ls"] => for object in &directory.objects {
                 directory.add_entry(&mut body, &mut lines, object.name, Some(&object.thing));
@@ -786,10 +864,17 @@ fn main() {
                 Some(place) => directory.add_listing(&mut body, &mut lines, directory.objects[place].name, 0),
                 None => stop(1, &format!("missing {name}")),
             },
-            _ => stop(1, "only save, ls and tree are here"),
+            _ => match edit(&words, &mut directory) {
+                Ok(()) => version += 1,
+                Err(why) => refused = Some(why),
+            },
         }
         order += " 1";
-        answers.extend_from_slice(format!("1.{} ok v0 {lines}\n", at + 1).as_bytes());
+        some_refused |= refused.is_some();
+        match refused {
+            Some(why) => answers.extend_from_slice(format!("1.{} refused v{version} {why}\n", at + 1).as_bytes()),
+            None => answers.extend_from_slice(format!("1.{} ok v{version} {lines}\n", at + 1).as_bytes()),
+        }
         answers.append(&mut body);
     }
     order += "\n";
@@ -798,4 +883,5 @@ fn main() {
     if is_written.is_err() || files.iter().any(|(file, text)| std::fs::write(file, text).is_err()) {
         stop(6, "write");
     }
+    std::process::ExitCode::from(u8::from(some_refused))
 }

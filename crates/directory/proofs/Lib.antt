@@ -5,6 +5,7 @@ pub mod DirtyLemmas
 pub mod DraftLemmas
 pub mod EditLemmas
 pub mod FindLemmas
+pub mod GatheredLemmas
 pub mod HighLemmas
 pub mod PlaceLemmas
 pub mod RelaxLemmas

@@ -1,7 +1,7 @@
 use crate::directory::Directory;
 use crate::fault::DirFault;
+use crate::gathered::Gathered;
 use crate::settling::{gather, settle_pairs};
-use indexmap::IndexMap;
 use memory_core::Memory;
 use name_core::Name;
 use object_set::Object;
@@ -37,7 +37,7 @@ impl From<Memory> for DraftFault {
 #[derive(Drop)]
 pub struct Draft {
     title: Vec<u8>,
-    objects: IndexMap<Name, Object>,
+    objects: Gathered,
 }
 
 impl Model for Draft {
@@ -50,9 +50,9 @@ impl Model for Draft {
 
     ghost coded = { Prim.hlevel (codes, parts.the_row.coded) };
 
-    ghost view = { λ s. record { title = s.title.items; objects = s.objects.entries } };
+    ghost view = { λ s. record { title = s.title.items; objects = s.objects } };
 
-    ghost invariant = { λ s. IsGathered s.title.items s.objects.entries };
+    ghost invariant = { λ s. IsGathered s.title.items s.objects };
 }
 
 impl Draft {
@@ -73,7 +73,7 @@ impl Draft {
     {
         Draft {
             title: Vec::new(alloc),
-            objects: IndexMap::new(alloc),
+            objects: Gathered::new(alloc),
         }
     }
 

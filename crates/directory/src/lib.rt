@@ -6,6 +6,7 @@ mod depths;
 mod directory;
 mod draft;
 mod fault;
+mod gathered;
 mod levels;
 mod limit;
 mod recall;

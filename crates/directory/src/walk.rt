@@ -7,29 +7,29 @@ ghost use Rattle.directory.specs.Walks.{unbounded, depth_within, deepest};
 ghost use Rattle.object_pages.specs.Members.{name_of_node, node_names};
 ghost use Rattle.directory.specs.Places.{names_within, object_within, known_depths, Finds, AreFound, KeepsFound};
 
+use crate::gathered::Gathered;
 use crate::levels::{UNBOUNDED, larger};
 use comb_tree::CombNode;
-use indexmap::IndexMap;
 use name_core::Name;
 use object_set::{Body, Object};
 
 /// The depth of the object at the place, found where it is not known and kept, or `None` where it is over `levels`.
 #[cycle(walk)]
 fn find_place(
-    objects: &IndexMap<Name, Object>,
+    objects: &Gathered,
     depths: &mut [u8],
     count: usize,
     place: usize,
     levels: u8,
 ) -> Option<u8>
     requires len { length depths.old ≡ count }
-    requires count { count ≤ length objects.now.entries }
+    requires count { count ≤ length objects.now }
     requires within { place < count }
     requires levels { levels < unbounded }
-    requires found { AreFound (take count objects.now.entries) depths.old }
-    ensures depth { (k : Name) (o : Parts) → slice_get (take count objects.now.entries) place ≡ Some (k, o) → Finds (λ most. depth_within most (take count objects.now.entries) k) levels result }
+    requires found { AreFound (take count objects.now) depths.old }
+    ensures depth { (k : Name) (o : Parts) → slice_get (take count objects.now) place ≡ Some (k, o) → Finds (λ most. depth_within most (take count objects.now) k) levels result }
     ensures here { IsSome result → slice_index depths.new place < unbounded }
-    ensures found { AreFound (take count objects.now.entries) depths.new }
+    ensures found { AreFound (take count objects.now) depths.new }
     ensures kept { KeepsFound depths.old depths.new }
 {
     let _count = objects.len();
@@ -37,7 +37,7 @@ fn find_place(
     if depth < UNBOUNDED {
         return if depth <= levels { Some(depth) } else { None };
     }
-    match objects.get_index(place) {
+    match objects.at(place) {
         Some((_name, object)) => {
             let depth = find_object(objects, depths, count, object, levels)?;
             depths[place] = depth;
@@ -50,18 +50,18 @@ fn find_place(
 /// The depth of an object, or `None` where it is over `levels`.
 #[cycle(walk)]
 fn find_object(
-    objects: &IndexMap<Name, Object>,
+    objects: &Gathered,
     depths: &mut [u8],
     count: usize,
     object: &Object,
     levels: u8,
 ) -> Option<u8>
     requires len { length depths.old ≡ count }
-    requires count { count ≤ length objects.now.entries }
+    requires count { count ≤ length objects.now }
     requires levels { levels < unbounded }
-    requires found { AreFound (take count objects.now.entries) depths.old }
-    ensures depth { Finds (λ most. object_within most (take count objects.now.entries) object.now) levels result }
-    ensures found { AreFound (take count objects.now.entries) depths.new }
+    requires found { AreFound (take count objects.now) depths.old }
+    ensures depth { Finds (λ most. object_within most (take count objects.now) object.now) levels result }
+    ensures found { AreFound (take count objects.now) depths.new }
     ensures kept { KeepsFound depths.old depths.new }
 {
     match object.body() {
@@ -79,18 +79,18 @@ fn find_object(
 /// The greatest depth of the names of the leaves, or `None` where it is over `levels`.
 #[cycle(walk)]
 fn find_nodes(
-    objects: &IndexMap<Name, Object>,
+    objects: &Gathered,
     depths: &mut [u8],
     count: usize,
     nodes: &[CombNode],
     levels: u8,
 ) -> Option<u8>
     requires len { length depths.old ≡ count }
-    requires count { count ≤ length objects.now.entries }
+    requires count { count ≤ length objects.now }
     requires levels { levels < unbounded }
-    requires found { AreFound (take count objects.now.entries) depths.old }
-    ensures depth { Finds (λ most. names_within most (take count objects.now.entries) (node_names nodes.now)) levels result }
-    ensures found { AreFound (take count objects.now.entries) depths.new }
+    requires found { AreFound (take count objects.now) depths.old }
+    ensures depth { Finds (λ most. names_within most (take count objects.now) (node_names nodes.now)) levels result }
+    ensures found { AreFound (take count objects.now) depths.new }
     ensures kept { KeepsFound depths.old depths.new }
 {
     let mut most = 0;
@@ -103,18 +103,18 @@ fn find_nodes(
 /// The depth of the name of a leaf, 0 of another node, or `None` where it is over `levels`.
 #[cycle(walk)]
 fn find_node(
-    objects: &IndexMap<Name, Object>,
+    objects: &Gathered,
     depths: &mut [u8],
     count: usize,
     node: &CombNode,
     levels: u8,
 ) -> Option<u8>
     requires len { length depths.old ≡ count }
-    requires count { count ≤ length objects.now.entries }
+    requires count { count ≤ length objects.now }
     requires levels { levels < unbounded }
-    requires found { AreFound (take count objects.now.entries) depths.old }
-    ensures depth { Finds (λ most. names_within most (take count objects.now.entries) (name_of_node node.now)) levels result }
-    ensures found { AreFound (take count objects.now.entries) depths.new }
+    requires found { AreFound (take count objects.now) depths.old }
+    ensures depth { Finds (λ most. names_within most (take count objects.now) (name_of_node node.now)) levels result }
+    ensures found { AreFound (take count objects.now) depths.new }
     ensures kept { KeepsFound depths.old depths.new }
 {
     match node {
@@ -126,21 +126,21 @@ fn find_node(
 /// The depth of a name, or `None` where it is over `levels`.
 #[cycle(walk)]
 fn find_name(
-    objects: &IndexMap<Name, Object>,
+    objects: &Gathered,
     depths: &mut [u8],
     count: usize,
     name: &Name,
     levels: u8,
 ) -> Option<u8>
     requires len { length depths.old ≡ count }
-    requires count { count ≤ length objects.now.entries }
+    requires count { count ≤ length objects.now }
     requires levels { levels < unbounded }
-    requires found { AreFound (take count objects.now.entries) depths.old }
-    ensures depth { Finds (λ most. depth_within most (take count objects.now.entries) name.now) levels result }
-    ensures found { AreFound (take count objects.now.entries) depths.new }
+    requires found { AreFound (take count objects.now) depths.old }
+    ensures depth { Finds (λ most. depth_within most (take count objects.now) name.now) levels result }
+    ensures found { AreFound (take count objects.now) depths.new }
     ensures kept { KeepsFound depths.old depths.new }
 {
-    match objects.get_index_of(name) {
+    match objects.place_of(name) {
         Some(place) => {
             if place < count {
                 find_place(objects, depths, count, place, levels)
@@ -161,12 +161,12 @@ fn forget(depths: &mut [u8])
 
 /// Finds the depths of the first objects, and says whether none of them is over 33. The first walk that is too deep ends
 /// the search.
-pub(crate) fn find_first(objects: &IndexMap<Name, Object>, depths: &mut [u8], count: usize) -> bool
+pub(crate) fn find_first(objects: &Gathered, depths: &mut [u8], count: usize) -> bool
     requires len { length depths.old ≡ count }
-    requires count { count ≤ length objects.now.entries }
-    ensures known { result ≡ true → depths.new ≡ known_depths (take count objects.now.entries) }
-    ensures shallow { result ≡ true → deepest (take count objects.now.entries) < unbounded }
-    ensures cycle { result ≡ false → unbounded ≤ deepest (take count objects.now.entries) }
+    requires count { count ≤ length objects.now }
+    ensures known { result ≡ true → depths.new ≡ known_depths (take count objects.now) }
+    ensures shallow { result ≡ true → deepest (take count objects.now) < unbounded }
+    ensures cycle { result ≡ false → unbounded ≤ deepest (take count objects.now) }
 {
     forget(depths);
     for place in 0..count {

@@ -1,5 +1,5 @@
-ghost use Rattle.std.specs.Prelude.{◌≡◌, ◌≢◌, ◌≤◌, ◌<◌, ◌+◌, ◌^◌, ℕ, None, IfOk, cond, nat_eq};
-ghost use Rattle.std.specs.Option.{option_copied};
+ghost use Rattle.std.specs.Prelude.{◌≡◌, ◌≢◌, ◌≤◌, ◌<◌, ◌+◌, ◌-◌, ◌^◌, ℕ, [], None, IfOk, cond, nat_eq};
+ghost use Rattle.std.specs.Option.{option_copied, unwrap_or};
 ghost use Rattle.name_core.specs.declared.name.Name.{Name as Bytes};
 ghost use Rattle.name_core.specs.Same.{same_name};
 ghost use Rattle.shared_pages.specs.Buckets.{value_of};
@@ -15,6 +15,40 @@ use name_core::Name;
 use shared_pages::SharedMap;
 use std::alloc::Global;
 use std::marker::Model;
+
+/// The counts of a name with a leaf of the page more.
+fn with_leaf(alloc: Global, tally: Option<SharedTally>, page: u64) -> Result<SharedTally, Memory>
+    requires { count_on (unwrap_or tally []) page + 1 < 2 ^ 64 }
+    ensures { IfOk result (λ t. (n : ℕ) → count_on t n ≡ count_on (unwrap_or tally []) n + cond (nat_eq page n) 1 0) }
+{
+    match tally {
+        Some(tally) => {
+            let more = tally.own(alloc)?.add(page, 1)?;
+            SharedTally::of_tally(alloc, more)
+        }
+        None => Ok(SharedTally::of_one(page, 1)),
+    }
+}
+
+/// The counts of a name with a leaf of the page less, or none where that was the last one.
+fn without_leaf(
+    alloc: Global,
+    tally: Option<SharedTally>,
+    page: u64,
+) -> Result<Option<SharedTally>, Memory>
+    requires { 1 ≤ count_on (unwrap_or tally []) page }
+    ensures { IfOk result (λ t. (n : ℕ) → count_on (unwrap_or t []) n + cond (nat_eq page n) 1 0 ≡ count_on (unwrap_or tally []) n) }
+{
+    let Some(tally) = tally else {
+        return Ok(None);
+    };
+    let left = tally.own(alloc)?.take(page, 1)?;
+    if left.len() == 0 {
+        return Ok(None);
+    }
+    let shared = SharedTally::of_tally(alloc, left)?;
+    Ok(Some(shared))
+}
 
 /// How many leaves of each page name each name. Contracts see the counts, and by `leaves_on` that of a name and a page.
 #[derive(Drop)]
@@ -80,12 +114,27 @@ impl References {
         Ok(References { tallies })
     }
 
-    /// The counts with one leaf for the name, on this page, and no other.
-    fn put_one(self, alloc: Global, name: &Name, page: u64) -> Result<References, Memory>
-        ensures { IfOk result (λ r. (a : Bytes) (n : ℕ) → leaves_on r a n ≡ cond (same_name name.now a) (cond (nat_eq page n) 1 0) (leaves_on self a n)) }
+    /// The counts with one leaf of the page more for the name.
+    fn add_leaf(self, alloc: Global, name: &Name, page: u64) -> Result<References, Memory>
+        requires { leaves_on self name.now page + 1 < 2 ^ 64 }
+        ensures { IfOk result (λ r. (a : Bytes) (n : ℕ) → leaves_on r a n ≡ cond (same_name name.now a) (leaves_on self name.now n + cond (nat_eq page n) 1 0) (leaves_on self a n)) }
     {
         let References { tallies } = self;
-        let tallies = tallies.put(alloc, name, SharedTally::of_one(page, 1))?;
+        let (open, tally) = tallies.open(alloc, name)?;
+        let tally = with_leaf(alloc, tally, page)?;
+        let tallies = open.close(alloc, name, Some(tally))?;
+        Ok(References { tallies })
+    }
+
+    /// The counts with one leaf of the page less for the name. A name of which no page has a leaf is left out.
+    fn take_leaf(self, alloc: Global, name: &Name, page: u64) -> Result<References, Memory>
+        requires { 1 ≤ leaves_on self name.now page }
+        ensures { IfOk result (λ r. (a : Bytes) (n : ℕ) → leaves_on r a n ≡ cond (same_name name.now a) (leaves_on self name.now n - cond (nat_eq page n) 1 0) (leaves_on self a n)) }
+    {
+        let References { tallies } = self;
+        let (open, tally) = tallies.open(alloc, name)?;
+        let left = without_leaf(alloc, tally, page)?;
+        let tallies = open.close(alloc, name, left)?;
         Ok(References { tallies })
     }
 
@@ -95,10 +144,7 @@ impl References {
         ensures { IfOk result (λ r. (a : Bytes) (n : ℕ) → leaves_on r a n + cond (nat_eq page n) (times (name_of_node node.now) a) 0 ≡ leaves_on self a n) }
     {
         match node {
-            CombNode::Leaf { name, .. } => {
-                let tally = self.tally_copy(alloc, name)?.take(page, 1)?;
-                self.put(alloc, name, tally)
-            }
+            CombNode::Leaf { name, .. } => self.take_leaf(alloc, name, page),
             _ => Ok(self),
         }
     }
@@ -109,13 +155,7 @@ impl References {
         ensures { IfOk result (λ r. (a : Bytes) (n : ℕ) → leaves_on r a n ≡ leaves_on self a n + cond (nat_eq page n) (times (name_of_node node.now) a) 0) }
     {
         match node {
-            CombNode::Leaf { name, .. } => match self.tally(name) {
-                Some(tally) => {
-                    let tally = tally.copy(alloc)?.add(page, 1)?;
-                    self.put(alloc, name, tally)
-                }
-                None => self.put_one(alloc, name, page),
-            },
+            CombNode::Leaf { name, .. } => self.add_leaf(alloc, name, page),
             _ => Ok(self),
         }
     }

@@ -101,6 +101,20 @@ impl SharedTally {
         }
     }
 
+    /// The counts apart: these where nothing else shares them, else a copy.
+    pub(crate) fn own(self, alloc: Global) -> Result<Tally, Memory>
+        ensures { IfOk result (λ t. t ≡ self) }
+    {
+        let SharedTally { page, leaves, all } = self;
+        let Some(share) = all else {
+            return Tally::of_one(alloc, page, leaves);
+        };
+        match Arc::try_unwrap(share) {
+            Ok(tally) => Ok(tally),
+            Err(share) => share.copy(),
+        }
+    }
+
     /// The counts apart, with room for one page more.
     pub(crate) fn copy(&self, alloc: Global) -> Result<Tally, Memory>
         ensures { IfOk result (λ t. t ≡ self.now) }

@@ -109,6 +109,21 @@ impl<V: Again> Bucket<V> {
         }
     }
 
+    /// Takes the name out, where it has a value, and gives that value.
+    pub(crate) fn take(&mut self, name: &Name) -> Option<V>
+        ensures value { result ≡ lookup (same_name name.now) self.old }
+        ensures pairs { self.new ≡ remove_entry (same_name name.now) self.old }
+        ensures distinct { IsDistinct same_name (keys_of self.old) }
+    {
+        match place_in(&self.entries, name) {
+            Some(place) => {
+                let (_name, value) = self.entries.remove(place);
+                Some(value)
+            }
+            None => None,
+        }
+    }
+
     /// Gives the name this value, or none.
     pub(crate) fn change(&mut self, name: &Name, value: Option<V>) -> Result<(), Memory>
         ensures { OnOk result ((a : Bytes) → lookup (same_name a) self.new ≡ cond (same_name name.now a) value (lookup (same_name a) self.old)) }

@@ -2,10 +2,12 @@ ghost use Rattle.std.specs.Prelude.{◌≡◌, ◌<◌, None, Some, IfOk, []};
 ghost use Rattle.std.specs.Option.{option_copied, unwrap_or};
 ghost use Rattle.name_core.specs.declared.name.Name.{Name as Bytes};
 ghost use Rattle.shared_pages.specs.Buckets.{value_of, bucket_at, shelf_of, row_of, bucket_of, Gives};
+ghost use Rattle.shared_pages.specs.Opened.{IsOpen};
 
 use crate::again::Again;
 use crate::bucket::Bucket;
 use crate::hash::number_of;
+use crate::open::Open;
 use crate::root::Root;
 use crate::shares::Shares;
 use memory_core::Memory;
@@ -98,9 +100,19 @@ impl<V: Again> SharedMap<V> {
         Ok(SharedMap { root })
     }
 
-    /// The map in which the name has this value, or none.
-    fn changed(self, alloc: Global, name: &Name, value: Option<V>) -> Result<SharedMap<V>, Memory>
-        ensures { IfOk result (Gives self name.now value) }
+    /// The map of these shelves.
+    pub(crate) fn of_root(root: Root<Shares<Shares<Bucket<V>>>>) -> SharedMap<V>
+        ensures { result ≡ root }
+    {
+        SharedMap { root }
+    }
+
+    /// Opens the map at the name, and gives the value that the name has: the value itself where no copy shares it, else a copy
+    /// of it. It takes this map over, and what copies of this map share stays as it is for them. An `Err` is want of memory:
+    /// this map is gone then, and the copies are as before.
+    pub fn open(self, alloc: Global, name: &Name) -> Result<(Open<V>, Option<V>), Memory>
+        ensures open { IfOk result (λ r. IsOpen self name.now r.0) }
+        ensures value { IfOk result (λ r. r.1 ≡ value_of self name.now) }
     {
         let slot = slot_of(name);
         let SharedMap { root } = self;
@@ -108,12 +120,23 @@ impl<V: Again> SharedMap<V> {
         let mut shelf = shelves.take(alloc, slot.shelf)?;
         let mut row = shelf.take(alloc, slot.row)?;
         let mut bucket = row.take(alloc, slot.bucket)?;
-        bucket.change(name, value)?;
-        row.set(alloc, slot.bucket, bucket)?;
-        shelf.set(alloc, slot.row, row)?;
-        shelves.set(alloc, slot.shelf, shelf)?;
-        let root = Root::of_list(alloc, shelves)?;
-        Ok(SharedMap { root })
+        let value = bucket.take(name);
+        let open = Open {
+            shelves,
+            shelf,
+            row,
+            bucket,
+            slot,
+        };
+        Ok((open, value))
+    }
+
+    /// The map in which the name has this value, or none.
+    fn changed(self, alloc: Global, name: &Name, value: Option<V>) -> Result<SharedMap<V>, Memory>
+        ensures { IfOk result (Gives self name.now value) }
+    {
+        let (open, _old) = self.open(alloc, name)?;
+        open.close(alloc, name, value)
     }
 
     /// The map in which the name has this value. It takes this map over, and what copies of this map share stays as it is

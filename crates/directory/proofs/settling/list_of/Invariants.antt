@@ -1,5 +1,5 @@
-use Rattle.std.proofs.Common.{◌≡◌, ◌++◌}
+use Rattle.std.proofs.Common.{◌≡◌, take}
 use Rattle.directory.proofs.settling.list_of.Given as goal
 
-abbrev pub invariant-loop-name : goal.invariant-loop-name
-invariant-loop-name l = l.list ++ l.name-iterator ≡ l.fn.objects.entries
+abbrev pub invariant-loop-place : goal.invariant-loop-place
+invariant-loop-place l = l.list ≡ take l.place l.objects

@@ -20,7 +20,7 @@ decreases-find_nodes l = 5 * l.levels + 4
 
 abbrev pub invariant-find_nodes-loop-node : goal.invariant-find_nodes-loop-node
 invariant-find_nodes-loop-node l = record {
-  depth : NodesFound (take l.count l.objects.entries) (take l.node-index l.nodes) l.levels l.most;
-  found : AreFound (take l.count l.objects.entries) l.depths;
+  depth : NodesFound (take l.count l.objects) (take l.node-index l.nodes) l.levels l.most;
+  found : AreFound (take l.count l.objects) l.depths;
   kept : KeepsFound l.initial.depths l.depths;
 }

@@ -6,6 +6,6 @@ use Rattle.directory.proofs.walk.find_first.Given as goal
 
 abbrev pub invariant-loop-place : goal.invariant-loop-place
 invariant-loop-place l = record {
-  found : AreFound (take l.count l.objects.entries) l.depths;
+  found : AreFound (take l.count l.objects) l.depths;
   before : (j : ℕ) → j < l.place → slice_index l.depths j < unbounded;
 }

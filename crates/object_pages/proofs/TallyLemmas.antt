@@ -37,6 +37,29 @@ pub one_distinct : (page leaves : ℕ) → IsDistinct nat_eq (keys_of ((page, le
 unfolding IsDistinct
 one_distinct page leaves = (tt, tt)
 
+-- ---- where a page stands
+apart_at : (m : ℕ) (t : Counts) (i : ℕ) (e : ℕ × ℕ) → AllByRecursion (λ k. nat_eq m k ≡ false) (keys_of t) → i < length t → nat_eq m (slice_index_or t i e).0 ≡ false
+apart_at m [] i e h lt = absurd (omega (arith, lt))
+apart_at m (c ∷ t) zero e h lt = h.0
+apart_at m (c ∷ t) (suc i) e h lt = apart_at m t i e h.1 (omega (arith, lt))
+
+-- no page stands twice, so a place where one stands is its first
+pub distinct_first : (t : Counts) (i page : ℕ) (e : ℕ × ℕ) → IsDistinct nat_eq (keys_of t) → i < length t → page ≡ (slice_index_or t i e).0 → IsFirst (nat_eq page) t i
+distinct_first [] i page e distinct lt is = absurd (omega (arith, lt))
+distinct_first (c ∷ t) zero page e distinct lt is = elim (number_tells page c.0) [ inl s ↦ s.0 | inr s ↦ absurd (s.1 is) ]
+distinct_first (c ∷ t) (suc i) page e distinct lt is =
+    let below : i < length t = omega (arith, lt) in
+    let apart = apart_at c.0 t i e (IsDistinct-head nat_eq c.0 (keys_of t) distinct) below in (
+      elim (number_tells page c.0) [
+        | inl s ↦ absurd (elim (number_tells c.0 (slice_index_or t i e).0) [
+          | inl r ↦ (let wrong : true ≡ false = sym r.0 ∙ apart in cc)
+          | inr r ↦ r.1 (sym s.1 ∙ is)
+        ])
+        | inr s ↦ s.0
+      ],
+      distinct_first t i page e (IsDistinct-tail nat_eq c.0 (keys_of t) distinct) below is,
+    )
+
 -- ---- a page given another count
 choice : (b : Bool) (v w : Option ℕ) → unwrap_or (cond b v w) 0 ≡ cond b (unwrap_or v 0) (unwrap_or w 0)
 choice true v w = refl

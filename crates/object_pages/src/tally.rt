@@ -21,6 +21,21 @@ fn place_in(counts: &[(u64, u64)], page: u64) -> Option<usize>
     None
 }
 
+/// Where the page of the number stands. The last one is looked at first: objects come page after page, and so do the leaves
+/// that name one name.
+fn place_of(counts: &[(u64, u64)], page: u64) -> Option<usize>
+    requires { IsDistinct nat_eq (keys_of counts.now) }
+    ensures { IsFound (nat_eq page) counts.now result }
+{
+    let Some(last) = counts.len().checked_sub(1) else {
+        return None;
+    };
+    if page == counts[last].0 {
+        return Some(last);
+    }
+    place_in(counts, page)
+}
+
 /// How many leaves name one name, by the number of the page on which they stand, in one piece of memory. No page stands
 /// twice. Contracts see it as the list of the numbers and the counts.
 #[derive(Drop)]
@@ -111,7 +126,7 @@ impl Tally {
         ensures { IfOk result (λ t. (n : ℕ) → count_on t n ≡ count_on self n + cond (nat_eq page n) leaves 0) }
     {
         let Tally { mut counts } = self;
-        if let Some(place) = place_in(&counts, page) {
+        if let Some(place) = place_of(&counts, page) {
             let sum = counts[place].1 + leaves;
             counts[place] = (page, sum);
             return Ok(Tally { counts });
@@ -129,7 +144,7 @@ impl Tally {
         ensures { IfOk result (λ t. (n : ℕ) → count_on t n + cond (nat_eq page n) leaves 0 ≡ count_on self n) }
     {
         let Tally { mut counts } = self;
-        let Some(place) = place_in(&counts, page) else {
+        let Some(place) = place_of(&counts, page) else {
             return Ok(Tally { counts });
         };
         let rest = counts[place].1 - leaves;

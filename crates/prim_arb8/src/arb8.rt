@@ -5,9 +5,9 @@ ghost use Rattle.std.specs.Option.{ForSome};
 ghost use Rattle.lattice_core.specs.declared.limit.TheConstants.{COORD};
 ghost use Rattle.lattice_core.specs.Limits.{IsWithin};
 ghost use Rattle.plane_geom.specs.Planes.{IsSolidPlane};
-ghost use Rattle.prim_arb8.specs.Faces.{planes_of, first_fault, cases_of};
+ghost use Rattle.prim_arb8.specs.Faces.{first_fault, cases_of};
 
-use crate::face::{fault_of, planes_of};
+use crate::face::{fault_of, plane_of};
 use crate::rpp::rpp_vertices;
 use lattice_core::{Placement, V3};
 use plane_geom::{Plane, ShapeFault};
@@ -15,25 +15,23 @@ use std::marker::Model;
 
 /// A convex solid of eight vertices: the points that the planes of its faces and of the box of its vertices hold.
 /// The faces 1 to 6 have the vertices 1234, 5678, 1265, 2376, 3487 and 4158, and vertices may coincide. The faces 7 to
-/// 12 are those of the box: x at most, x at least, y at most, y at least, z at most and z at least. Contracts see its
-/// vertices.
+/// 12 are those of the box: x at most, x at least, y at most, y at least, z at most and z at least. It keeps its vertices
+/// alone, and planes are found where they are asked for, so that an object is small. Contracts see the vertices.
 #[derive(Clone, Copy, Debug)]
 pub struct Arb8 {
     vertices: [V3; 8],
-    planes: [Option<Plane>; 12],
 }
 
 impl Model for Arb8 {
-    ghost use Rattle.prim_arb8.specs.Faces.{planes_of};
     ghost use Rattle.prim_arb8.specs.Solids.{EightVertices, IsArb8};
 
     ghost Value = { EightVertices };
 
     ghost view = { λ s. record { vertices = s.vertices } };
 
-    ghost invariant = { λ s. IsArb8 s.vertices s.planes };
+    ghost invariant = { λ s. IsArb8 s.vertices };
 
-    ghost inverse = { λ solid. record { vertices = solid.vertices; planes = planes_of solid.vertices } };
+    ghost inverse = { λ solid. record { vertices = solid.vertices } };
 }
 
 impl Arb8 {
@@ -58,10 +56,7 @@ impl Arb8 {
     {
         match fault_of(&v) {
             Some(fault) => Err(fault),
-            None => Ok(Arb8 {
-                vertices: v,
-                planes: planes_of(&v),
-            }),
+            None => Ok(Arb8 { vertices: v }),
         }
     }
 
@@ -91,7 +86,7 @@ impl Arb8 {
         ensures value { result ≡ self.now.vertices }
         ensures eight { length result ≡ 8 }
         ensures sound { first_fault (cases_of result) ≡ None }
-        ensures lawful { IsArb8 result (planes_of result) }
+        ensures lawful { IsArb8 result }
         ensures size { All (IsWithin COORD) result }
     {
         self.vertices
@@ -104,7 +99,7 @@ impl Arb8 {
         ensures law { IsFaceLaw self.now.vertices face result }
         ensures size { ForSome result IsSolidPlane }
     {
-        self.planes[usize::from(face - 1)]
+        plane_of(&self.vertices, face)
     }
 
     fn placed_side(&self, face: u8, by: &Placement) -> Option<Plane>

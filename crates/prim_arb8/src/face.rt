@@ -5,7 +5,7 @@ ghost use Rattle.std.specs.Option.{ForSome};
 ghost use Rattle.lattice_core.specs.declared.limit.TheConstants.{COORD};
 ghost use Rattle.lattice_core.specs.Limits.{IsWithin, IsAtMost};
 ghost use Rattle.plane_geom.specs.Planes.{IsSolidPlane};
-ghost use Rattle.prim_arb8.specs.Faces.{corners_of, plane_of_four, face_plane, reversed, outward, outward_face, box_plane, planes_of, first_fault, face_cases, cases_of, vertex_at};
+ghost use Rattle.prim_arb8.specs.Faces.{corners_of, plane_of_four, face_plane, reversed, outward, outward_face, box_plane, plane_at, first_fault, face_cases, cases_of, vertex_at};
 
 use crate::corner::{are_all_in, is_any_before, is_any_beyond, is_flat};
 use lattice_core::{Dir, V3};
@@ -121,26 +121,27 @@ fn box_plane(v: &[V3; 8], dir: Dir) -> Plane
     }
 }
 
-/// The outward planes of the faces 1 to 12.
-pub fn planes_of(v: &[V3; 8]) -> [Option<Plane>; 12]
-    requires { All (IsWithin COORD) v.now }
-    ensures value { result ≡ planes_of v.now }
-    ensures size { All (λ side. ForSome side IsSolidPlane) result }
+/// The outward plane of a face from 1 to 12, or `None` where the face is degenerate.
+pub fn plane_of(v: &[V3; 8], face: u8) -> Option<Plane>
+    requires face { (1 ≤ face) × (face ≤ 12) }
+    requires size { All (IsWithin COORD) v.now }
+    ensures value { result ≡ plane_at v.now face }
+    ensures size { ForSome result IsSolidPlane }
 {
-    [
-        outward_face(v, 1),
-        outward_face(v, 2),
-        outward_face(v, 3),
-        outward_face(v, 4),
-        outward_face(v, 5),
-        outward_face(v, 6),
-        Some(box_plane(v, Dir::PlusX)),
-        Some(box_plane(v, Dir::MinusX)),
-        Some(box_plane(v, Dir::PlusY)),
-        Some(box_plane(v, Dir::MinusY)),
-        Some(box_plane(v, Dir::PlusZ)),
-        Some(box_plane(v, Dir::MinusZ)),
-    ]
+    match face {
+        1 => outward_face(v, 1),
+        2 => outward_face(v, 2),
+        3 => outward_face(v, 3),
+        4 => outward_face(v, 4),
+        5 => outward_face(v, 5),
+        6 => outward_face(v, 6),
+        7 => Some(box_plane(v, Dir::PlusX)),
+        8 => Some(box_plane(v, Dir::MinusX)),
+        9 => Some(box_plane(v, Dir::PlusY)),
+        10 => Some(box_plane(v, Dir::MinusY)),
+        11 => Some(box_plane(v, Dir::PlusZ)),
+        _ => Some(box_plane(v, Dir::MinusZ)),
+    }
 }
 
 /// The first fault of a face, or `None` where it has none.

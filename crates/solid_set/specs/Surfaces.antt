@@ -38,7 +38,7 @@ bounds_of (solids.Half half) by = all_of_space
 
 -- the numbers of a solid are those of one that was made
 abbrev pub IsLawful : Solid → Type 0
-IsLawful (solids.Arb8 solid) = IsArb8 solid.vertices (planes_of solid.vertices)
+IsLawful (solids.Arb8 solid) = IsArb8 solid.vertices
 IsLawful (solids.Sphere sphere) = IsBall sphere.centre sphere.radius
 IsLawful (solids.Half half) = IsHalf half.normal half.distance
 

@@ -2,7 +2,6 @@ use Rattle.std.proofs.Common.{◌≡◌, ap, subst, ◌∙◌, List, Option}
 use Rattle.lattice_core.specs.declared.vector.V3.{V3}
 use Rattle.plane_geom.specs.declared.plane.Plane.{Plane}
 use Rattle.prim_arb8.specs.Bounds.{box_of, HoldsVertices}
-use Rattle.prim_arb8.specs.Faces.{planes_of}
 use Rattle.prim_arb8.specs.Solids.{IsArb8}
 use Rattle.solid_set.specs.declared.solid.Solid.TheVariants as solids
 use Rattle.solid_set.specs.declared.surface.Surface.TheVariants.{Planes}
@@ -19,7 +18,7 @@ invariant_of-result c = record {
   made = ∣ (record {
     solid = solids.Arb8 c.args.arb8.now;
     by = c.args.by.now;
-    lawful = subst (λ (v : List V3). IsArb8 v (planes_of v)) c.vertices.ensures.value c.vertices.ensures.lawful;
+    lawful = subst (λ (v : List V3). IsArb8 v) c.vertices.ensures.value c.vertices.ensures.lawful;
     near = c.requires;
     surface_is = ap (λ (sides : List (Option Plane)). Planes sides) c.placed.ensures.value;
     bounds_is = box_is c;

@@ -1,7 +1,9 @@
 -- A few pairs on pages and in buckets, and what the definitions say of them. A name is one byte, and a value a number.
+use Rattle.std.proofs.Common.{lit≤, lit<}
 use Rattle.std.specs.Prelude.{◌≡◌, ℕ, List, [], ◌∷◌, ◌++◌, replicate, Some, None, refl}
 use Rattle.name_core.specs.declared.name.Name.{Name}
 use Rattle.shared_pages.specs.Buckets.{Shelves, name_number, shelf_of, row_of, bucket_of, value_of}
+use Rattle.shared_pages.specs.Groups.{Groups, pages_in, firsts, group_put, AreGroups, CountsPairs}
 use Rattle.shared_pages.specs.Pages.{Pages, pairs_of, page_of, set_page, page_after, pushed, last_number}
 
 abbrev named : ℕ → Name
@@ -57,6 +59,39 @@ none_fits = refl
 
 pub behind_a_full_page : pushed ((4, replicate 8 (named 65, 1)) ∷ []) (named 66) 2 ≡ (4, replicate 8 (named 65, 1)) ∷ (5, one 66 2) ∷ []
 behind_a_full_page = refl
+
+-- ---- two groups of pages, and a tail behind them
+abbrev pub closed : Groups ℕ
+closed = ((0, one 65 1) ∷ (4, one 66 2) ∷ []) ∷ ((7, one 67 3) ∷ []) ∷ []
+
+abbrev pub tail : Pages ℕ
+tail = (8, (named 68, 4) ∷ (named 69, 5) ∷ []) ∷ []
+
+pub all_pages : pages_in closed ≡ three
+all_pages = refl
+
+pub the_first_of_each : firsts closed ≡ (0, one 65 1) ∷ (7, one 67 3) ∷ []
+the_first_of_each = refl
+
+pub a_group_without_pages_is_dropped : group_put closed 0 [] ≡ ((7, one 67 3) ∷ []) ∷ []
+a_group_without_pages_is_dropped = refl
+
+pub pairs_that_are_counted : CountsPairs three (Some 3)
+pairs_that_are_counted = refl
+
+pub pairs_that_are_not : CountsPairs three None
+pairs_that_are_not = tt
+
+-- 5 pairs stand on the pages of the groups and of the tail
+pub what_a_list_keeps : AreGroups closed tail 5
+what_a_list_keeps = record {
+  pages = record {
+    rise = (lit≤ tt, (lit≤ tt, (lit≤ tt, (lit≤ tt, tt))));
+    filled = ((lit< tt, lit≤ tt), ((lit< tt, lit≤ tt), ((lit< tt, lit≤ tt), ((lit< tt, lit≤ tt), tt))));
+    count_is = refl;
+  };
+  filled = (lit< tt, (lit< tt, tt));
+}
 
 -- ---- where a name stands
 pub number_of_a_name : name_number (65 ∷ 66 ∷ []) ≡ 2081

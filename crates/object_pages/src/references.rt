@@ -122,7 +122,7 @@ impl References {
         let References { tallies } = self;
         let (open, tally) = tallies.open(alloc, name)?;
         let tally = with_leaf(alloc, tally, page)?;
-        let tallies = open.close(alloc, name, Some(tally))?;
+        let tallies = open.close(alloc, Some(tally))?;
         Ok(References { tallies })
     }
 
@@ -134,7 +134,7 @@ impl References {
         let References { tallies } = self;
         let (open, tally) = tallies.open(alloc, name)?;
         let left = without_leaf(alloc, tally, page)?;
-        let tallies = open.close(alloc, name, left)?;
+        let tallies = open.close(alloc, left)?;
         Ok(References { tallies })
     }
 

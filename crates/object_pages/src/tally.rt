@@ -9,8 +9,8 @@ use memory_core::Memory;
 use std::alloc::Global;
 use std::marker::Model;
 
-/// Where the page of the number stands.
-fn place_in(counts: &[(u64, u64)], page: u64) -> Option<usize>
+/// Where the page of the number stands. The first one is looked at first.
+fn place_from_front(counts: &[(u64, u64)], page: u64) -> Option<usize>
     ensures { IsFound (nat_eq page) counts.now result }
 {
     for place in 0..counts.len() {
@@ -33,7 +33,7 @@ fn place_of(counts: &[(u64, u64)], page: u64) -> Option<usize>
     if page == counts[last].0 {
         return Some(last);
     }
-    place_in(counts, page)
+    place_from_front(counts, page)
 }
 
 /// How many leaves name one name, by the number of the page on which they stand, in one piece of memory. No page stands

@@ -5,6 +5,7 @@ pub mod KeptPages
 pub mod MapLemmas
 pub mod NameLemmas
 pub mod NamedPages
+pub mod OpenLemmas
 pub mod PageLemmas
 pub mod PageOfLemmas
 pub mod PlaceLemmas

@@ -18,11 +18,6 @@ name_tells a b = by (same_name a b) refl
     by false e = inr (e, λ is. let yes : same_name a b ≡ true = (same_name_decides a b).1 is in let wrong : true ≡ false = sym yes ∙ e in cc)
 
 module _ {V : Type 0} where
-  -- what is given over nothing
-  pub cond_over : (t : Bool) (v w : Option V) → cond t v (cond t None w) ≡ cond t v w
-  cond_over true v w = refl
-  cond_over false v w = refl
-
   -- ---- a name's value after an edit of the pairs
   pub lookup_inserted : (es : List (Name × V)) (n : Name) (v : V) (a : Name) → lookup (same_name a) (insert_entry same_name es n v) ≡ cond (same_name n a) (Some v) (lookup (same_name a) es)
   lookup_inserted [] n v a =

@@ -4,6 +4,7 @@ use Rattle.std.specs.Prelude.{◌≡◌, ℕ, List, [], ◌∷◌, ◌++◌, rep
 use Rattle.name_core.specs.declared.name.Name.{Name}
 use Rattle.shared_pages.specs.Buckets.{Shelves, name_number, shelf_of, row_of, bucket_of, value_of}
 use Rattle.shared_pages.specs.Groups.{Groups, pages_in, firsts, group_put, AreGroups, CountsPairs}
+use Rattle.shared_pages.specs.Opened.{rejoined, HasPlaces}
 use Rattle.shared_pages.specs.Pages.{Pages, pairs_of, page_of, set_page, page_after, pushed, last_number}
 
 abbrev named : ℕ → Name
@@ -119,3 +120,19 @@ a_value = refl
 
 pub no_value : value_of of_one (named 66) ≡ None
 no_value = refl
+
+-- ---- a map that is open at 65: its bucket, its row and its shelf stand apart, and what stands in their places meanwhile does not count
+abbrev pub shelves : Shelves ℕ
+shelves = [] ∷ [] ∷ []
+
+abbrev pub shelf : List (List (List (Name × ℕ)))
+shelf = [] ∷ [] ∷ [] ∷ [] ∷ (one 66 9 ∷ []) ∷ []
+
+pub places_of_65 : HasPlaces shelves 1 shelf 4 ([] ∷ []) 0 (named 65)
+places_of_65 = record { shelf_is = refl; row_is = refl; bucket_is = refl; among_shelves = lit< tt; on_shelf = lit< tt; in_row = lit< tt }
+
+pub put_back : rejoined shelves 1 shelf 4 ([] ∷ []) 0 (one 65 3) ≡ of_one
+put_back = refl
+
+pub without_its_value : value_of (rejoined shelves 1 shelf 4 ([] ∷ []) 0 []) (named 65) ≡ None
+without_its_value = refl

@@ -1,27 +1,23 @@
 -- A map that is open at a name.
-use Rattle.std.specs.Prelude.{◌≡◌, ◌≢◌, ◌<◌, ℕ, List, [], Option, None, cond, length, slice_index_or}
-use Rattle.std.specs.Map.{lookup}
+use Rattle.std.specs.Prelude.{◌≡◌, ◌<◌, ℕ, List, length, slice_set}
 use Rattle.name_core.specs.declared.name.Name.{Name}
-use Rattle.name_core.specs.Same.{same_name}
-use Rattle.shared_pages.specs.Buckets.{Shelves, bucket_at, shelf_of, row_of, bucket_of}
+use Rattle.shared_pages.specs.Buckets.{Shelves, shelf_of, row_of, bucket_of}
 
--- the shelves, a shelf, a row, a bucket, and which ones they are
-abbrev pub Opened : Type 0 → Type 0
-Opened V = Shelves V × (List (List (List (Name × V))) × (List (List (Name × V)) × (List (Name × V) × (ℕ × (ℕ × ℕ)))))
+-- a map, and the name at which it is open
+pub record OpenMap (V : Type 0) : Type 0 where
+  pub map : Shelves V
+  pub name : Name
 
 module _ {V : Type 0} where
-  -- there is a place for each part
-  pub record HasPlaces (o : Opened V) : Type 0 where
-    pub shelf : o.1.1.1.1.0 < length o.0
-    pub row : o.1.1.1.1.1.0 < length o.1.0
-    pub bucket : o.1.1.1.1.1.1 < length o.1.1.0
+  -- the map of parts that stand apart: the bucket is put in its place in the row, the row on the shelf, and the shelf among the shelves
+  abbrev pub rejoined : Shelves V → ℕ → List (List (List (Name × V))) → ℕ → List (List (Name × V)) → ℕ → List (Name × V) → Shelves V
+  rejoined shelves i shelf j row k bucket = slice_set shelves i (slice_set shelf j (slice_set row k bucket))
 
-  -- the parts are those of the map at the name, but that the bucket has no value for it, and that anything may stand in the places of the parts
-  pub record IsOpen (map : Shelves V) (a : Name) (o : Opened V) : Type 0 where
-    pub shelf_is : o.1.1.1.1.0 ≡ shelf_of a
-    pub row_is : o.1.1.1.1.1.0 ≡ row_of a
-    pub bucket_is : o.1.1.1.1.1.1 ≡ bucket_of a
-    pub shelves : (n : ℕ) → n ≢ o.1.1.1.1.0 → slice_index_or o.0 n [] ≡ slice_index_or map n []
-    pub shelf : (n : ℕ) → n ≢ o.1.1.1.1.1.0 → slice_index_or o.1.0 n [] ≡ slice_index_or (slice_index_or map o.1.1.1.1.0 []) n []
-    pub row : (n : ℕ) → n ≢ o.1.1.1.1.1.1 → slice_index_or o.1.1.0 n [] ≡ slice_index_or (slice_index_or (slice_index_or map o.1.1.1.1.0 []) o.1.1.1.1.1.0 []) n []
-    pub bucket : (b : Name) → lookup (same_name b) o.1.1.1.0 ≡ cond (same_name a b) None (lookup (same_name b) (bucket_at map o.1.1.1.1.0 o.1.1.1.1.1.0 o.1.1.1.1.1.1))
+  -- the parts have places for one another, and those are the places of the name
+  pub record HasPlaces (shelves : Shelves V) (i : ℕ) (shelf : List (List (List (Name × V)))) (j : ℕ) (row : List (List (Name × V))) (k : ℕ) (a : Name) : Type 0 where
+    pub shelf_is : i ≡ shelf_of a
+    pub row_is : j ≡ row_of a
+    pub bucket_is : k ≡ bucket_of a
+    pub among_shelves : i < length shelves
+    pub on_shelf : j < length shelf
+    pub in_row : k < length row

@@ -99,16 +99,6 @@ impl<V: Again> Bucket<V> {
         Ok(())
     }
 
-    /// Takes the name and its value out, where it has one.
-    pub(crate) fn remove(&mut self, name: &Name)
-        ensures pairs { self.new ≡ remove_entry (same_name name.now) self.old }
-        ensures distinct { IsDistinct same_name (keys_of self.old) }
-    {
-        if let Some(place) = place_in(&self.entries, name) {
-            let _entry = self.entries.remove(place);
-        }
-    }
-
     /// Takes the name out, where it has a value, and gives that value.
     pub(crate) fn take(&mut self, name: &Name) -> Option<V>
         ensures value { result ≡ lookup (same_name name.now) self.old }
@@ -130,7 +120,9 @@ impl<V: Again> Bucket<V> {
     {
         match value {
             Some(value) => self.insert(name, value)?,
-            None => self.remove(name),
+            None => {
+                let _old = self.take(name);
+            }
         }
         Ok(())
     }

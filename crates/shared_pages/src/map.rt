@@ -2,7 +2,6 @@ ghost use Rattle.std.specs.Prelude.{◌≡◌, ◌<◌, None, Some, IfOk, []};
 ghost use Rattle.std.specs.Option.{option_copied, unwrap_or};
 ghost use Rattle.name_core.specs.declared.name.Name.{Name as Bytes};
 ghost use Rattle.shared_pages.specs.Buckets.{value_of, bucket_at, shelf_of, row_of, bucket_of, Gives};
-ghost use Rattle.shared_pages.specs.Opened.{IsOpen};
 
 use crate::again::Again;
 use crate::bucket::Bucket;
@@ -108,10 +107,11 @@ impl<V: Again> SharedMap<V> {
     }
 
     /// Opens the map at the name, and gives the value that the name has: the value itself where no copy shares it, else a copy
-    /// of it. It takes this map over, and what copies of this map share stays as it is for them. An `Err` is want of memory:
-    /// this map is gone then, and the copies are as before.
+    /// of it. The open map has none for the name. It takes this map over, and what copies of this map share stays as it is for
+    /// them. An `Err` is want of memory: this map is gone then, and the copies are as before.
     pub fn open(self, alloc: Global, name: &Name) -> Result<(Open<V>, Option<V>), Memory>
-        ensures open { IfOk result (λ r. IsOpen self name.now r.0) }
+        ensures map { IfOk result (λ r. Gives self name.now None r.0.map) }
+        ensures name { IfOk result (λ r. r.0.name ≡ name.now) }
         ensures value { IfOk result (λ r. r.1 ≡ value_of self name.now) }
     {
         let slot = slot_of(name);
@@ -127,6 +127,7 @@ impl<V: Again> SharedMap<V> {
             row,
             bucket,
             slot,
+            name: *name,
         };
         Ok((open, value))
     }
@@ -136,7 +137,7 @@ impl<V: Again> SharedMap<V> {
         ensures { IfOk result (Gives self name.now value) }
     {
         let (open, _old) = self.open(alloc, name)?;
-        open.close(alloc, name, value)
+        open.close(alloc, value)
     }
 
     /// The map in which the name has this value. It takes this map over, and what copies of this map share stays as it is

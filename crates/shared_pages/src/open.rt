@@ -1,6 +1,5 @@
-ghost use Rattle.std.specs.Prelude.{◌≡◌, IfOk};
-ghost use Rattle.shared_pages.specs.Buckets.{Shelves, Gives};
-ghost use Rattle.shared_pages.specs.Opened.{IsOpen};
+ghost use Rattle.std.specs.Prelude.{IfOk};
+ghost use Rattle.shared_pages.specs.Buckets.{Gives};
 
 use crate::again::Again;
 use crate::bucket::Bucket;
@@ -12,8 +11,8 @@ use name_core::Name;
 use std::alloc::Global;
 use std::marker::Model;
 
-/// A map that is open at a name. The bucket of the name, without the name, stands apart with the levels above it, until the map
-/// is closed with another value. Contracts see the parts.
+/// A map that is open at a name: the bucket of the name stands apart with the levels above it, until the map is closed.
+/// Contracts see the name, and the map with the parts put back in their places.
 #[derive(Drop)]
 pub struct Open<V> {
     pub(crate) shelves: Shares<Shares<Shares<Bucket<V>>>>,
@@ -21,23 +20,24 @@ pub struct Open<V> {
     pub(crate) row: Shares<Bucket<V>>,
     pub(crate) bucket: Bucket<V>,
     pub(crate) slot: Slot,
+    pub(crate) name: Name,
 }
 
 impl<V> Model for Open<V> {
-    ghost use Rattle.shared_pages.specs.Opened.{Opened, HasPlaces};
+    ghost use Rattle.shared_pages.specs.Opened.{OpenMap, rejoined, HasPlaces};
 
-    ghost Value = { Opened V };
+    ghost Value = { OpenMap V };
 
-    ghost view = { λ s. (s.shelves, (s.shelf, (s.row, (s.bucket, (s.slot.shelf, (s.slot.row, s.slot.bucket)))))) };
+    ghost view = { λ s. record { map = rejoined s.shelves s.slot.shelf s.shelf s.slot.row s.row s.slot.bucket s.bucket; name = s.name } };
 
-    ghost invariant = { λ s. HasPlaces (s.shelves, (s.shelf, (s.row, (s.bucket, (s.slot.shelf, (s.slot.row, s.slot.bucket)))))) };
+    ghost invariant = { λ s. HasPlaces s.shelves s.slot.shelf s.shelf s.slot.row s.row s.slot.bucket s.name };
 }
 
 impl<V: Again> Open<V> {
     /// The map in which the name, at which the map is open, has this value, or none. An `Err` is want of memory: the map and
     /// the value are gone then, and the copies of the map are as before.
-    pub fn close(self, alloc: Global, name: &Name, value: Option<V>) -> Result<SharedMap<V>, Memory>
-        ensures { IfOk result (λ new. (map : Shelves V) → IsOpen map name.now self → Gives map name.now value new) }
+    pub fn close(self, alloc: Global, value: Option<V>) -> Result<SharedMap<V>, Memory>
+        ensures { IfOk result (Gives self.map self.name value) }
     {
         let Open {
             mut shelves,
@@ -45,8 +45,9 @@ impl<V: Again> Open<V> {
             mut row,
             mut bucket,
             slot,
+            name,
         } = self;
-        bucket.change(name, value)?;
+        bucket.change(&name, value)?;
         row.set(alloc, slot.bucket, bucket)?;
         shelf.set(alloc, slot.row, row)?;
         shelves.set(alloc, slot.shelf, shelf)?;

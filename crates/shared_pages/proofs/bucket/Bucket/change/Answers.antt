@@ -11,5 +11,5 @@ returns-in_ok-insert-in-Some g c a =
 
 pub returns-in-None : goal.returns-in-None
 returns-in-None g c a =
-    ap (λ l. lookup (same_name a) l) c.remove.ensures.pairs ∙ lookup_removed c.args.self.now c.args.name.now a c.remove.ensures.distinct
+    ap (λ l. lookup (same_name a) l) c.take-old.ensures.pairs ∙ lookup_removed c.args.self.now c.args.name.now a c.take-old.ensures.distinct
     ∙ ap (λ o. cond (same_name c.args.name.now a) o (lookup (same_name a) c.args.self.now)) (sym c.in-None.is)

@@ -1,7 +1,7 @@
 use Rattle.std.proofs.Common.{◌+◌, nat_eq, arith}
 use Rattle.shared_pages.proofs.BucketLemmas.{other_none, other_more, first_at, none_at}
 use Rattle.std.proofs.lemmas.Bool.{eq-eqb, ne_eqb}
-use Rattle.object_pages.proofs.tally.place_in.Goals as goal
+use Rattle.object_pages.proofs.tally.place_from_front.Goals as goal
 
 pub loop-place-init : goal.loop-place-init
 loop-place-init c = other_none (nat_eq c.args.page) c.args.counts.now

@@ -29,7 +29,7 @@ counts_shared page leaves (Some all) = arc_value all
 abbrev pub tally_of : Shelves (List (ℕ × ℕ)) → Name → List (ℕ × ℕ)
 tally_of tallies a = unwrap_or (value_of tallies a) []
 
--- how many leaves of the page name a
+-- the count that is kept for a at the page's number, 0 where there is none
 abbrev pub leaves_on : Shelves (List (ℕ × ℕ)) → Name → ℕ → ℕ
 leaves_on tallies a number = count_on (tally_of tallies a) number
 
@@ -42,7 +42,7 @@ abbrev pub Exchanges : ℕ → List Name → List Name → Shelves (List (ℕ ×
 Exchanges page before after old new =
     (a : Name) (n : ℕ) → leaves_on new a n + cond (nat_eq page n) (times before a) 0 ≡ leaves_on old a n + cond (nat_eq page n) (times after a) 0
 
--- what was counted for a is counted for b
+-- b has its own counts and those of a, a has none left, and each other name keeps its own
 abbrev pub MovesCounts : Name → Name → Shelves (List (ℕ × ℕ)) → Shelves (List (ℕ × ℕ)) → Type 0
 MovesCounts a b old new =
     (x : Name) (n : ℕ) → leaves_on new x n ≡ cond (same_name b x) (leaves_on old b n + leaves_on old a n) (cond (same_name a x) 0 (leaves_on old x n))
@@ -51,6 +51,6 @@ MovesCounts a b old new =
 abbrev pub ChangesPage : ℕ → Entries → Pages → Pages → Type 0
 ChangesPage at pairs old new = (number : ℕ) → page_of new number ≡ cond (nat_eq at number) pairs (page_of old number)
 
--- each page is renamed, or has nothing to rename and stays
+-- on each page b takes the place of a, as a name and in leaves
 abbrev pub RenamesPages : Name → Name → Pages → Pages → Type 0
 RenamesPages a b old new = (number : ℕ) → page_of new number ≡ renamed_all (page_of old number) a b

@@ -30,7 +30,8 @@ fn with_leaf(alloc: Global, tally: Option<SharedTally>, page: u64) -> Result<Sha
     }
 }
 
-/// The counts of a name with a leaf of the page less, or none where that was the last one.
+/// The counts of a name with a leaf of the page less. Where that was the last one it gives none, which spares memory; no
+/// clause speaks of that.
 fn without_leaf(
     alloc: Global,
     tally: Option<SharedTally>,
@@ -83,7 +84,7 @@ impl References {
         Ok(References { tallies })
     }
 
-    /// Lends the counts of a name, by page, or `None` where it has none.
+    /// Lends the counts of a name, by page, or `None` exactly where none are kept.
     pub(crate) fn tally(&self, name: &Name) -> Option<&SharedTally>
         ensures { option_copied result ≡ value_of self.now name.now }
     {
@@ -100,7 +101,7 @@ impl References {
         }
     }
 
-    /// The counts with these for the name. A name of which no page has a leaf is left out.
+    /// The counts with these for the name. A name without counts is left out, which spares memory; no clause speaks of that.
     fn put(self, alloc: Global, name: &Name, tally: Tally) -> Result<References, Memory>
         ensures { IfOk result (λ r. (a : Bytes) (n : ℕ) → leaves_on r a n ≡ cond (same_name name.now a) (count_on tally n) (leaves_on self a n)) }
     {
@@ -126,7 +127,7 @@ impl References {
         Ok(References { tallies })
     }
 
-    /// The counts with one leaf of the page less for the name. A name of which no page has a leaf is left out.
+    /// The counts with one leaf of the page less for the name.
     fn take_leaf(self, alloc: Global, name: &Name, page: u64) -> Result<References, Memory>
         requires { 1 ≤ leaves_on self name.now page }
         ensures { IfOk result (λ r. (a : Bytes) (n : ℕ) → leaves_on r a n ≡ cond (same_name name.now a) (leaves_on self name.now n - cond (nat_eq page n) 1 0) (leaves_on self a n)) }

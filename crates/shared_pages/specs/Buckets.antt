@@ -12,19 +12,19 @@ next_number n b = (n * 31 + b) % 65521
 abbrev pub name_number : Name → ℕ
 name_number a = fold next_number 0 a
 
--- the shelf of a name
+-- the shelf of a name, counted from 0
 abbrev pub shelf_of : Name → ℕ
 shelf_of a = name_number a % 16
 
--- its row on that shelf
+-- its row on that shelf, counted from 0
 abbrev pub row_of : Name → ℕ
 row_of a = name_number a / 16 % 16
 
--- its bucket in that row
+-- its bucket in that row, counted from 0
 abbrev pub bucket_of : Name → ℕ
 bucket_of a = name_number a / 256 % 16
 
--- the pairs of a map, bucket by bucket in each row of each shelf
+-- the shelves of a map: on each rows, in each row buckets, in each bucket pairs; which pairs count, `value_of` says
 abbrev pub Shelves : Type 0 → Type 0
 Shelves V = List (List (List (List (Name × V))))
 
@@ -33,7 +33,7 @@ module _ {V : Type 0} where
   abbrev pub bucket_at : Shelves V → ℕ → ℕ → ℕ → List (Name × V)
   bucket_at shelves i j k = slice_index_or (slice_index_or (slice_index_or shelves i []) j []) k []
 
-  -- the value of a name
+  -- the value of a name: that of the first pair with this name in the bucket of the name, none where there is no such pair
   abbrev pub value_of : Shelves V → Name → Option V
   value_of map a = lookup (same_name a) (bucket_at map (shelf_of a) (row_of a) (bucket_of a))
 

@@ -1,4 +1,4 @@
--- A few pairs on pages and in buckets, and what the definitions say of them. A name is one byte, and a value a number.
+-- A few pairs on pages and in buckets, and what the definitions say of them. A name is one to four bytes, and a value a number.
 use Rattle.std.proofs.Common.{lit≤, lit<}
 use Rattle.std.specs.Prelude.{◌≡◌, ℕ, List, [], ◌∷◌, ◌++◌, replicate, Some, None, refl}
 use Rattle.name_core.specs.declared.name.Name.{Name}
@@ -12,6 +12,10 @@ named n = n ∷ []
 
 abbrev one : ℕ → ℕ → List (Name × ℕ)
 one n v = (named n, v) ∷ []
+
+-- 12 buckets without pairs
+abbrev bucketless : List (List (Name × ℕ))
+bucketless = replicate 12 []
 
 -- ---- two pages
 abbrev pub two : Pages ℕ
@@ -107,9 +111,13 @@ its_row = refl
 pub its_bucket : bucket_of (65 ∷ 66 ∷ []) ≡ 8
 its_bucket = refl
 
--- the number of these three bytes is 64,578, which is 252 times 256, 4 times 16, and 2
-pub in_its_row : bucket_of (65 ∷ 66 ∷ 67 ∷ []) ≡ 12
-in_its_row = refl
+-- the number of these three bytes is 64,578, which is 252 times 256, 4 times 16, and 2; and 252 is 15 times 16, and 12
+pub bucket_of_three_bytes : bucket_of (65 ∷ 66 ∷ 67 ∷ []) ≡ 12
+bucket_of_three_bytes = refl
+
+-- that of these four would be 2,001,986 = 30 times 65,521, and 36,356
+pub number_of_four_bytes : name_number (65 ∷ 66 ∷ 67 ∷ 68 ∷ []) ≡ 36356
+number_of_four_bytes = refl
 
 -- 65 stands on shelf 1, in row 4, in bucket 0
 abbrev pub of_one : Shelves ℕ
@@ -121,18 +129,43 @@ a_value = refl
 pub no_value : value_of of_one (named 66) ≡ None
 no_value = refl
 
+-- ---- two names that stand in one bucket, and one that does not
+abbrev pub of_three : ℕ → Shelves ℕ
+of_three v = ([] ∷ [] ∷ (bucketless ++ ((97 ∷ 97 ∷ [], v) ∷ (98 ∷ 66 ∷ [], 6) ∷ []) ∷ []) ∷ []) ∷ ([] ∷ [] ∷ [] ∷ [] ∷ (one 65 3 ∷ []) ∷ []) ∷ []
+
+pub first_in_its_bucket : value_of (of_three 5) (97 ∷ 97 ∷ []) ≡ Some 5
+first_in_its_bucket = refl
+
+pub second_in_its_bucket : value_of (of_three 5) (98 ∷ 66 ∷ []) ≡ Some 6
+second_in_its_bucket = refl
+
+pub in_another_bucket : value_of (of_three 5) (named 65) ≡ Some 3
+in_another_bucket = refl
+
 -- ---- a map that is open at 65: its bucket, its row and its shelf stand apart, and what stands in their places meanwhile does not count
 abbrev pub shelves : Shelves ℕ
-shelves = [] ∷ [] ∷ []
+shelves = [] ∷ (([] ∷ []) ∷ []) ∷ ([] ∷ [] ∷ [] ∷ [] ∷ (one 66 9 ∷ []) ∷ []) ∷ []
 
 abbrev pub shelf : List (List (List (Name × ℕ)))
-shelf = [] ∷ [] ∷ [] ∷ [] ∷ (one 66 9 ∷ []) ∷ []
+shelf = [] ∷ [] ∷ [] ∷ [] ∷ (one 65 77 ∷ []) ∷ []
 
-pub places_of_65 : HasPlaces shelves 1 shelf 4 ([] ∷ []) 0 (named 65)
+abbrev pub row : List (List (Name × ℕ))
+row = one 65 99 ∷ []
+
+pub places_of_65 : HasPlaces shelves 1 shelf 4 row 0 (named 65)
 places_of_65 = record { shelf_is = refl; row_is = refl; bucket_is = refl; among_shelves = lit< tt; on_shelf = lit< tt; in_row = lit< tt }
 
-pub put_back : rejoined shelves 1 shelf 4 ([] ∷ []) 0 (one 65 3) ≡ of_one
+abbrev pub closed_with : List (Name × ℕ) → Shelves ℕ
+closed_with bucket = rejoined shelves 1 shelf 4 row 0 bucket
+
+pub put_back : closed_with (one 65 3) ≡ [] ∷ ([] ∷ [] ∷ [] ∷ [] ∷ (one 65 3 ∷ []) ∷ []) ∷ ([] ∷ [] ∷ [] ∷ [] ∷ (one 66 9 ∷ []) ∷ []) ∷ []
 put_back = refl
 
-pub without_its_value : value_of (rejoined shelves 1 shelf 4 ([] ∷ []) 0 []) (named 65) ≡ None
+pub with_its_value : value_of (closed_with (one 65 3)) (named 65) ≡ Some 3
+with_its_value = refl
+
+pub without_its_value : value_of (closed_with []) (named 65) ≡ None
 without_its_value = refl
+
+pub another_name : value_of (closed_with []) (named 66) ≡ Some 9
+another_name = refl

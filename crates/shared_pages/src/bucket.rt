@@ -13,7 +13,7 @@ use name_core::Name;
 use std::alloc::Global;
 use std::marker::Model;
 
-/// Where the name stands.
+/// Where the name stands, or `None` exactly where it does not.
 fn place_in<V: Drop>(entries: &[(Name, V)], name: &Name) -> Option<usize>
     ensures { IsFound (same_name name.now) entries.now result }
 {
@@ -37,8 +37,8 @@ fn with_room<V: Again>(alloc: Global, pairs: &[(Name, V)]) -> Result<Vec<(Name, 
 }
 
 /// A few names with their values, in one piece of memory: the values stand in it themselves, so a copy costs one piece of
-/// memory and what the copies of the values cost. No name stands twice. Contracts see it as the list of the names and the
-/// values.
+/// memory and what the copies of the values cost. No name stands twice. Contracts see it as the list of its
+/// pairs.
 #[derive(Drop)]
 pub struct Bucket<V> {
     entries: Vec<(Name, V)>,
@@ -99,7 +99,7 @@ impl<V: Again> Bucket<V> {
         Ok(())
     }
 
-    /// Takes the name out, where it has a value, and gives that value.
+    /// Takes the name out, where it has a value, and gives that value. No name stood twice.
     pub(crate) fn take(&mut self, name: &Name) -> Option<V>
         ensures value { result ≡ lookup (same_name name.now) self.old }
         ensures pairs { self.new ≡ remove_entry (same_name name.now) self.old }
@@ -114,7 +114,7 @@ impl<V: Again> Bucket<V> {
         }
     }
 
-    /// Gives the name this value, or none.
+    /// Gives the name this value, or none, and leaves each other name what it has.
     pub(crate) fn change(&mut self, name: &Name, value: Option<V>) -> Result<(), Memory>
         ensures { OnOk result ((a : Bytes) → lookup (same_name a) self.new ≡ cond (same_name name.now a) value (lookup (same_name a) self.old)) }
     {

@@ -39,9 +39,10 @@ pub(crate) fn slot_of(name: &Name) -> Slot
     }
 }
 
-/// Values by name. A copy shares them all, and a change touches only the shelf, the row and the bucket of its name: what a
-/// copy shares is copied first, with the values of that bucket, and what none shares is changed where it stands. Contracts
-/// see its pairs, and by `value_of` the value of each name.
+/// Values by name. A copy shares them all. A change touches the list of shelves, and the shelf, the row and the bucket of its
+/// name: what a copy shares of these is copied first, with the values of that bucket, and what none shares stays. It takes
+/// memory for the list of shelves at each change, and for places that are not there yet. Contracts see the shelves, and by
+/// `value_of` the value of each name.
 #[derive(Drop)]
 pub struct SharedMap<V> {
     root: Root<Shares<Shares<Bucket<V>>>>,
@@ -106,9 +107,10 @@ impl<V: Again> SharedMap<V> {
         SharedMap { root }
     }
 
-    /// Opens the map at the name, and gives the value that the name has: the value itself where no copy shares it, else a copy
-    /// of it. The open map has none for the name. It takes this map over, and what copies of this map share stays as it is for
-    /// them. An `Err` is want of memory: this map is gone then, and the copies are as before.
+    /// Takes the value of the name out of the map. It gives the map, open at the name, in which the name has no value and each
+    /// other name what it had, and the value, or `None` exactly where there was none: the value itself where no copy shares it,
+    /// else a copy of it. It takes this map over, and what copies of this map share stays as it is for them. An `Err` is want
+    /// of memory: this map is gone then, and the copies are as before.
     pub fn open(self, alloc: Global, name: &Name) -> Result<(Open<V>, Option<V>), Memory>
         ensures map { IfOk result (λ r. Gives self name.now None r.0.map) }
         ensures name { IfOk result (λ r. r.0.name ≡ name.now) }
@@ -132,7 +134,7 @@ impl<V: Again> SharedMap<V> {
         Ok((open, value))
     }
 
-    /// The map in which the name has this value, or none.
+    /// The map in which the name has this value, or none, and each other name what it had.
     fn changed(self, alloc: Global, name: &Name, value: Option<V>) -> Result<SharedMap<V>, Memory>
         ensures { IfOk result (Gives self name.now value) }
     {
@@ -140,16 +142,17 @@ impl<V: Again> SharedMap<V> {
         open.close(alloc, value)
     }
 
-    /// The map in which the name has this value. It takes this map over, and what copies of this map share stays as it is
-    /// for them. An `Err` is want of memory: this map and the value are gone then, and the copies are as before.
+    /// The map in which the name has this value, and each other name what it had. It takes this map over, and what copies of
+    /// this map share stays as it is for them. An `Err` is want of memory: this map and the value are gone then, and the
+    /// copies are as before.
     pub fn put(self, alloc: Global, name: &Name, value: V) -> Result<SharedMap<V>, Memory>
         ensures { IfOk result (Gives self name.now (Some value)) }
     {
         self.changed(alloc, name, Some(value))
     }
 
-    /// The map in which the name has no value. It takes this map over, and what copies of this map share stays as it is for
-    /// them. An `Err` is want of memory: this map is gone then, and the copies are as before.
+    /// The map in which the name has no value, and each other name what it had. It takes this map over, and what copies of
+    /// this map share stays as it is for them. An `Err` is want of memory: this map is gone then, and the copies are as before.
     pub fn remove(self, alloc: Global, name: &Name) -> Result<SharedMap<V>, Memory>
         ensures { IfOk result (Gives self name.now None) }
     {

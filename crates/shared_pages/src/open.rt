@@ -11,8 +11,9 @@ use name_core::Name;
 use std::alloc::Global;
 use std::marker::Model;
 
-/// A map that is open at a name: the bucket of the name stands apart with the levels above it, until the map is closed.
-/// Contracts see the name, and the map with the parts put back in their places.
+/// A map that is open at a name: the bucket of the name, its row, its shelf and the list of shelves stand apart until the
+/// map is closed. One that is dropped in place of that is gone with the map. Contracts see the name, and the map with the
+/// parts put back in their places.
 #[derive(Drop)]
 pub struct Open<V> {
     pub(crate) shelves: Shares<Shares<Shares<Bucket<V>>>>,
@@ -34,8 +35,8 @@ impl<V> Model for Open<V> {
 }
 
 impl<V: Again> Open<V> {
-    /// The map in which the name, at which the map is open, has this value, or none. An `Err` is want of memory: the map and
-    /// the value are gone then, and the copies of the map are as before.
+    /// Closes the map: its name has this value then, or none, and each other name what it has in the open map. An `Err` is
+    /// want of memory: the map and the value are gone then, and the copies of the map are as before.
     pub fn close(self, alloc: Global, value: Option<V>) -> Result<SharedMap<V>, Memory>
         ensures { IfOk result (Gives self.map self.name value) }
     {

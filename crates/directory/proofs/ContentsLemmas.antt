@@ -17,7 +17,7 @@ use Rattle.object_pages.proofs.NamesLemmas.{in_or_not, in_head, in_left, in_righ
 use Rattle.object_pages.proofs.ReferenceLemmas.{apart_missing}
 use Rattle.directory.specs.declared.fault.DirFault.{DirFault}
 use Rattle.directory.specs.declared.fault.DirFault.TheVariants.{Missing}
-use Rattle.directory.specs.Closed.{IsRelaxing, depth_step, relaxed}
+use Rattle.directory.specs.Closed.{IsRelaxing, depth_step, moved_depths, relaxed}
 use Rattle.directory.specs.Depths.{depth_kept, AreDepths}
 use Rattle.directory.specs.Edits.{when, appended, replaced, removed, remove_fault, renamed_all, without_all, judged, judged_by, Makes}
 use Rattle.directory.specs.Keeping.{IsKept}
@@ -107,13 +107,13 @@ pub exchange_begins : (es new : Entries) (a : Name) (o : Parts) (levels now : Sh
 exchange_begins es new a o levels now touched kept is same names =
     begins_by (replaced es a o) new levels now (a ∷ []) touched is same names (replace_begins es a o (depth_kept levels) kept.sound kept.known)
 
-pub renaming_begins : (es new : Entries) (a b : Name) (levels again first last : Shelves ℕ) (depth : ℕ) (users : List Name) → IsKept es levels → object_of es b ≡ None → new ≡ renamed_all es a b
-    → again ≡ levels → depth ≡ depth_kept levels a → ((x : Name) → depth_kept first x ≡ relaxed (depth_kept again) a 0 x) → ((x : Name) → depth_kept last x ≡ relaxed (depth_kept first) b depth x)
+pub renaming_begins : (es new : Entries) (a b : Name) (levels again last : Shelves ℕ) (users : List Name) → IsKept es levels → object_of es b ≡ None → new ≡ renamed_all es a b
+    → again ≡ levels → ((x : Name) → depth_kept last x ≡ moved_depths (depth_kept again) a b x)
     → HoldsUsers new b users → IsRelaxing new (depth_kept last) users []
-renaming_begins es new a b levels again first last depth users kept none is same was took put holds =
+renaming_begins es new a b levels again last users kept none is same moved holds =
     subst (λ (l : Entries). IsRelaxing l (depth_kept last) users []) (sym is)
-    (rename_begins es a b users (depth_kept levels) (depth_kept first) (depth_kept last) kept.sound kept.known none (subst (λ (l : Entries). HoldsUsers l b users) is holds)
-    (λ x. took x ∙ ap (λ (d : Shelves ℕ). relaxed (depth_kept d) a 0 x) same) (λ x. put x ∙ ap (λ d. relaxed (depth_kept first) b d x) was))
+    (rename_begins es a b users (depth_kept levels) (depth_kept last) kept.sound kept.known none (subst (λ (l : Entries). HoldsUsers l b users) is holds)
+    (λ x. moved x ∙ ap (λ (d : Shelves ℕ). moved_depths (depth_kept d) a b x) same))
 
 -- ---- a pair less, from any list that is being changed
 pub without_step : (es new : Entries) (a : Name) (depths : Name → ℕ) (touched now : List Name) → IsRelaxing es depths touched [] → new ≡ removed es a

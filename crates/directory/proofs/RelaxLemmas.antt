@@ -1,4 +1,4 @@
-use Rattle.std.proofs.Common.{◌≡◌, ◌∙◌, ℕ, min, cond, List, [], ◌∷◌, ap, sym, subst, inl, inr, Option, None, Some}
+use Rattle.std.proofs.Common.{◌≡◌, ◌∙◌, ℕ, min, List, [], ◌∷◌, ap, sym, subst, inl, inr, Option, None, Some}
 use Rattle.std.specs.Prelude.{◌||◌}
 use Rattle.name_core.specs.declared.name.Name.{Name}
 use Rattle.name_core.specs.Same.{same_name}
@@ -6,7 +6,7 @@ use Rattle.comb_tree.specs.Changes.{is_among}
 use Rattle.object_set.specs.Objects.{Parts}
 use Rattle.directory.specs.Walks.{Entries, object_of, IsSound, depth_over, depth_within, unbounded}
 use Rattle.directory.specs.Edits.{judged, appended, replaced, removed, renamed_all}
-use Rattle.directory.specs.Closed.{depth_step, IsClosed, IsClosedBut, relaxed, moved_depths, IsRelaxing}
+use Rattle.directory.specs.Closed.{depth_step, IsClosed, IsClosedBut, moved_depths, IsRelaxing}
 use Rattle.object_pages.specs.Entries.{HoldsUsers}
 use Rattle.object_pages.proofs.EntryLemmas.{same_or_apart, replace_there, replace_other}
 use Rattle.directory.proofs.ClosedLemmas.{depths_closed, closed_if, closed_same}
@@ -29,12 +29,12 @@ pub relax_by : (es : Entries) (depths others : Name → ℕ) (dirty high : List 
 relax_by es depths others dirty high same h = record { closed = closed_same es depths others dirty same h.closed; low = low_same depths others high same h.low }
 
 -- a new name for a, where b is not there: its depth goes with it, and what refers to b is looked at
-pub rename_begins : (es : Entries) (a b : Name) (users : List Name) (depths without others : Name → ℕ) → IsSound es → ((x : Name) → depths x ≡ depth_within unbounded es x) → object_of es b ≡ None
-    → HoldsUsers (renamed_all es a b) b users → ((x : Name) → without x ≡ relaxed depths a 0 x) → ((x : Name) → others x ≡ relaxed without b (depths a) x)
+pub rename_begins : (es : Entries) (a b : Name) (users : List Name) (depths others : Name → ℕ) → IsSound es → ((x : Name) → depths x ≡ depth_within unbounded es x) → object_of es b ≡ None
+    → HoldsUsers (renamed_all es a b) b users → ((x : Name) → others x ≡ moved_depths depths a b x)
     → IsRelaxing (renamed_all es a b) others users []
-rename_begins es a b users depths without others sound are none holds took put =
+rename_begins es a b users depths others sound are none holds moved =
     let h = closed_if es depths are in
-    relax_by (renamed_all es a b) (moved_depths depths a b) others users [] (λ x. put x ∙ ap (λ d. cond (same_name b x) (depths a) d) (took x)) (record {
+    relax_by (renamed_all es a b) (moved_depths depths a b) others users [] moved (record {
       closed = rename_closed es a b depths users h none (users_renamed es a b users none holds);
       low = low_moved depths a b (low_sound es depths sound h);
     })

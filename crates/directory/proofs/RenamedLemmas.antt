@@ -36,6 +36,13 @@ moved_old depths a b x apart e = elim (name_tells a x) [ inl t ↦ rw (other b x
 pub moved_other : (depths : Name → ℕ) (a b x : Name) → x ≢ b → x ≢ a → moved_depths depths a b x ≡ depths x
 moved_other depths a b x apart away = rw (other b x (λ s. apart (sym s)), other a x (λ s. away (sym s)))
 
+-- where both are solids' names, nothing moves
+pub moved_nothing : (depths : Name → ℕ) (a b x : Name) → 0 ≡ depths a → depths b ≡ 0 → depths x ≡ moved_depths depths a b x
+moved_nothing depths a b x was missed = elim (same_or_apart x b) [
+  | inl e ↦ ap depths e ∙ missed ∙ was ∙ sym (moved_new depths a b x e)
+  | inr apart ↦ elim (same_or_apart x a) [ inl e ↦ ap depths e ∙ sym was ∙ sym (moved_old depths a b x apart e) | inr away ↦ sym (moved_other depths a b x apart away) ]
+]
+
 -- a member other than b is as deep under its new name
 moved_member : (depths : Name → ℕ) (a b m : Name) → m ≢ b → moved_depths depths a b (new_name a b m) ≡ depths m
 moved_member depths a b m apart =

@@ -312,9 +312,7 @@ impl Contents {
         ensures begins { IfOk result (λ e. IsRelaxing e.list (depth_kept e.depths) e.touched []) }
     {
         let list = self.list.copy()?.rename(alloc, old, new)?;
-        let depth = self.depths.of(old);
-        let depths = self.depths.copy()?;
-        let depths = depths.set(alloc, old, 0)?.set(alloc, new, depth)?;
+        let depths = self.depths.copy()?.rename(alloc, old, new)?;
         let mut touched = NameSet::new(alloc);
         list.put_users(new, &mut touched)?;
         Ok(Edit {

@@ -3,7 +3,7 @@ ghost use Rattle.name_core.specs.declared.name.Name.{Name as Bytes};
 ghost use Rattle.shared_pages.specs.Buckets.{value_of};
 ghost use Rattle.object_pages.specs.Members.{name_of_node, node_names};
 ghost use Rattle.directory.specs.Walks.{depth_over, greatest_of, unbounded};
-ghost use Rattle.directory.specs.Closed.{depth_step, relaxed};
+ghost use Rattle.directory.specs.Closed.{depth_step, moved_depths, relaxed};
 ghost use Rattle.directory.specs.Depths.{depth_kept};
 
 use crate::levels::{UNBOUNDED, larger};
@@ -70,6 +70,19 @@ impl Depths {
             levels.put(alloc, name, depth)?
         };
         Ok(Depths { levels })
+    }
+
+    /// The depths after a name took the place of another one: it is as deep as that one was. A solid's name has none to move.
+    pub(crate) fn rename(self, alloc: Global, old: &Name, new: &Name) -> Result<Depths, Memory>
+        requires missed { depth_kept self new.now ≡ 0 }
+        ensures { IfOk result (λ d. (a : Bytes) → depth_kept d a ≡ moved_depths (depth_kept self) old.now new.now a) }
+    {
+        let depth = self.of(old);
+        if depth == 0 {
+            return Ok(self);
+        }
+        let without = self.set(alloc, old, 0)?;
+        without.set(alloc, new, depth)
     }
 
     /// The depth of the name of a leaf, 0 of another node.

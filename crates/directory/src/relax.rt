@@ -136,7 +136,8 @@ fn greatest_among(depths: &Depths, names: &NameSet) -> u8
     most
 }
 
-/// The depths of a list from those that agree with it but at the names that an edit touched.
+/// The depths of a list from those that agree with it but at the names that an edit touched. Where it touched none, as one that
+/// makes a solid, they are right already.
 pub(crate) fn relax(
     alloc: Global,
     list: &ObjectPages,
@@ -147,6 +148,9 @@ pub(crate) fn relax(
     ensures known { IfOk result (λ r. AreDepths list.now r.depths) }
     ensures judged { IfOk result (λ r. (edited : Bytes) → judged list.now edited ≡ judged_by r.most edited) }
 {
+    if touched.len() == 0 {
+        return Ok(Relaxed { depths, most: 0 });
+    }
     let edited = only_name(&touched);
     let mut round = look_at_all(alloc, list, depths, &touched, NameSet::new(alloc), &None)?;
     for _turn in 1..UNBOUNDED {

@@ -571,8 +571,9 @@ fn answer_edit(alloc: Global, book: &mut Book, edit: &Edit) -> Answer
 }
 
 /// The core step on one thread: what a command of a session is answered, with the book and what the session has of its own
-/// after it. Want of memory is an answer too, and leaves both as they were. What a session keeps stays one that can be used
-/// with the book's directory, whichever session the command is of.
+/// after it. Want of memory is an answer too: it leaves the book as it was, and of what the session has of its own a picture or
+/// a check without memory takes the kept tiles alone. What a session keeps stays one that can be used with the book's
+/// directory, whichever session the command is of.
 pub fn answer_command<R: Threads + Sync>(
     alloc: Global,
     book: &mut Book,

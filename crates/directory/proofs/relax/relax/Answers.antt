@@ -5,7 +5,15 @@ use Rattle.directory.specs.Depths.{depth_kept, IsRound}
 use Rattle.directory.proofs.RoundLemmas.{begin, next_round, none_left, all_turns, judged_round}
 use Rattle.directory.proofs.TracedLemmas.{known_after, known_on}
 use Rattle.directory.proofs.relax.relax.Goals as goal
-use Rattle.directory.proofs.relax.relax.Goals.{else-loop-turn-test, then-loop-turn-test+then-len-eq0}
+use Rattle.directory.proofs.relax.relax.Goals.{else-loop-turn-test, then-loop-turn-test+then-len-eq0-2}
+
+pub returns-then-len-eq0-clause-known : goal.returns-then-len-eq0-clause-known
+returns-then-len-eq0-clause-known c =
+    none_left c.args.list.now 0 (depth_kept c.args.depths) c.args.touched [] (begin c.args.list.now (depth_kept c.args.depths) c.args.touched c.requires.begins) (omega (arith, c.len.ensures, c.if-len-eq0.true))
+
+pub returns-then-len-eq0-clause-judged : goal.returns-then-len-eq0-clause-judged
+returns-then-len-eq0-clause-judged c edited =
+    judged_round c.args.list.now 0 (depth_kept c.args.depths) c.args.touched [] [] (begin c.args.list.now (depth_kept c.args.depths) c.args.touched c.requires.begins) (returns-then-len-eq0-clause-known c) edited
 
 pub loop-turn-init : goal.loop-turn-init
 loop-turn-init c =
@@ -33,8 +41,8 @@ returns-clause-known c =
     elim c.loop-turn-test.branch [
       | else-loop-turn-test w ↦ all_turns c.args.list.now c.loop-turn._turn (depth_kept c.loop-turn.round.depths) c.loop-turn.round.next c.loop-turn.round.high c.loop-turn.invariant.round
           (omega (arith, w.loop-turn-test.false, c.loop-turn.auto._turn-end))
-      | then-loop-turn-test+then-len-eq0 w ↦ none_left c.args.list.now c.loop-turn._turn (depth_kept c.loop-turn.round.depths) c.loop-turn.round.next c.loop-turn.round.high c.loop-turn.invariant.round
-          (omega (arith, w.len.ensures, w.if-len-eq0.true))
+      | then-loop-turn-test+then-len-eq0-2 w ↦ none_left c.args.list.now c.loop-turn._turn (depth_kept c.loop-turn.round.depths) c.loop-turn.round.next c.loop-turn.round.high c.loop-turn.invariant.round
+          (omega (arith, w.len-in-loop-turn.ensures, w.if-len-eq0-2.true))
     ]
 
 pub returns-clause-judged : goal.returns-clause-judged

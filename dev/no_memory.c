@@ -1,5 +1,6 @@
 /* Laid over the allocator of a program: the allocation of the number in NO_MEMORY_AT finds no memory, counted from 1, and how
- * many there were is kept in the first eight bytes of the file of NO_MEMORY_COUNT. dev/memory compiles it. */
+ * many there were is kept in the first eight bytes of the file of NO_MEMORY_COUNT. A piece that is to grow is an allocation
+ * too. dev/memory compiles it. */
 #include <fcntl.h>
 #include <stdatomic.h>
 #include <stdlib.h>
@@ -7,6 +8,7 @@
 #include <unistd.h>
 
 extern void *__libc_malloc(size_t size);
+extern void *__libc_realloc(void *old, size_t size);
 
 static atomic_long before;
 static atomic_long *count = &before;
@@ -22,7 +24,14 @@ static void __attribute__((constructor)) begin(void) {
     at = number ? atol(number) : 0;
 }
 
+static int is_refused(void) {
+    return atomic_fetch_add(count, 1) + 1 == at;
+}
+
 void *malloc(size_t size) {
-    long number = atomic_fetch_add(count, 1) + 1;
-    return number == at ? NULL : __libc_malloc(size);
+    return is_refused() ? NULL : __libc_malloc(size);
+}
+
+void *realloc(void *old, size_t size) {
+    return is_refused() ? NULL : __libc_realloc(old, size);
 }

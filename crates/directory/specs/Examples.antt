@@ -12,6 +12,7 @@ use Rattle.object_set.specs.Objects.{Parts}
 use Rattle.object_set.specs.declared.object.Body.TheVariants.{Solid, Comb}
 use Rattle.directory.specs.declared.fault.DirFault.TheVariants.{Exists, Missing, Cycle, Deep}
 use Rattle.directory.specs.Walks.{Entries, IsWalk, combinations, HasCycleThrough, depth_within, unbounded, deepest}
+use Rattle.directory.specs.Closed.{moved_depths}
 use Rattle.directory.specs.Edits.{judged_by, appended, put_fault, removed, renamed_all, rename_fault, without_all, references_of}
 
 abbrev named : ℕ → Name
@@ -65,6 +66,16 @@ no_fault attr p s = refl
 pub a_renaming : (attr : Attr) (p : Placement) (s : AnySolid)
     → renamed_all (three attr p s) (named 2) (named 9) ≡ (named 1, of_one attr p 9) ∷ (named 9, of_two attr p 3 9) ∷ (named 3, lone s) ∷ []
 a_renaming attr p s = refl
+
+-- where 2 becomes 9: 9 is as deep as 2 was, 2 is no name any more, and 1 stays as deep as it was
+pub depth_at_the_new_name : (attr : Attr) (p : Placement) (s : AnySolid) → moved_depths (depth_within unbounded (three attr p s)) (named 2) (named 9) (named 9) ≡ 1
+depth_at_the_new_name attr p s = refl
+
+pub no_depth_at_the_old_name : (attr : Attr) (p : Placement) (s : AnySolid) → moved_depths (depth_within unbounded (three attr p s)) (named 2) (named 9) (named 2) ≡ 0
+no_depth_at_the_old_name attr p s = refl
+
+pub depth_at_another_name : (attr : Attr) (p : Placement) (s : AnySolid) → moved_depths (depth_within unbounded (three attr p s)) (named 2) (named 9) (named 1) ≡ 2
+depth_at_another_name attr p s = refl
 
 pub refused_too : (attr : Attr) (p : Placement) (s : AnySolid) → rename_fault (three attr p s) (named 2) (named 9) ≡ Some (Cycle (named 9))
 refused_too attr p s = refl

@@ -37,8 +37,7 @@ fn with_room<V: Again>(alloc: Global, pairs: &[(Name, V)]) -> Result<Vec<(Name, 
 }
 
 /// A few names with their values, in one piece of memory: the values stand in it themselves, so a copy costs one piece of
-/// memory and what the copies of the values cost. No name stands twice. Contracts see it as the list of its
-/// pairs.
+/// memory and what the copies of the values cost. No name stands twice. Contracts see it as the list of its pairs.
 #[derive(Drop)]
 pub struct Bucket<V> {
     entries: Vec<(Name, V)>,

@@ -1,4 +1,4 @@
-use Rattle.std.proofs.Common.{◌≡◌, ◌≢◌, inl, inr, ◌<◌, ◌+◌, ◌^◌, ◌∙◌, ℕ, zero, suc, Bool, true, false, cond, nat_eq, List, [], ◌∷◌, ◌++◌, length, take, remove, refl, ap, sym, subst, arith, Option, None, Some, IsSome, IfSome}
+use Rattle.std.proofs.Common.{◌≡◌, ◌≢◌, inl, inr, ◌<◌, ◌+◌, ◌^◌, ◌∙◌, ℕ, zero, suc, Bool, true, false, cond, nat_eq, List, [], ◌∷◌, ◌++◌, length, take, remove, refl, ap, sym, subst, arith, Option, None, Some, IsSome, IfSome, IfNone}
 use Rattle.std.specs.Prelude.{slice_get, slice_set, slice_index_or, unwrap_or}
 use Rattle.std.specs.Cmp.{nat_eq_equiv}
 use Rattle.std.specs.Map.{lookup, keys_of, set_value}
@@ -32,6 +32,10 @@ pub one_alone : (t : Counts) (first : Option (ℕ × ℕ)) → length t ≡ 1 �
 one_alone [] first one is = absurd (omega (arith, one))
 one_alone (c ∷ []) first one is = rw is refl
 one_alone (c ∷ d ∷ t) first one is = absurd (omega (arith, one))
+
+pub one_is_there : (t : Counts) (first : Option (ℕ × ℕ)) → length t ≡ 1 → first ≡ slice_get t 0 → IfNone first (length t ≢ 1)
+one_is_there [] first one is = absurd (omega (arith, one))
+one_is_there (c ∷ t) first one is = rw is tt
 
 pub one_distinct : (page leaves : ℕ) → IsDistinct nat_eq (keys_of ((page, leaves) ∷ []))
 unfolding IsDistinct

@@ -1,4 +1,4 @@
-ghost use Rattle.std.specs.Prelude.{◌≡◌, ◌≤◌, ◌<◌, ◌+◌, ◌^◌, ℕ, [], ◌∷◌, cond, nat_eq, length, slice_get, sum, IfOk, IfSome};
+ghost use Rattle.std.specs.Prelude.{◌≡◌, ◌≢◌, ◌≤◌, ◌<◌, ◌+◌, ◌^◌, ℕ, [], ◌∷◌, cond, nat_eq, length, slice_get, sum, IfOk, IfSome, IfNone};
 ghost use Rattle.std.specs.List.{IsDistinct};
 ghost use Rattle.std.specs.Map.{keys_of, values_of};
 ghost use Rattle.shared_pages.specs.Named.{IsFound};
@@ -76,7 +76,8 @@ impl Tally {
 
     /// The number of the page and how many leaves stand on it, where it is one alone.
     pub(crate) fn only(&self) -> Option<(u64, u64)>
-        ensures { IfSome result (λ c. self.now ≡ c ∷ []) }
+        ensures some { IfSome result (λ c. self.now ≡ c ∷ []) }
+        ensures none { IfNone result (length self.now ≢ 1) }
     {
         if self.counts.len() == 1 {
             self.at(0)

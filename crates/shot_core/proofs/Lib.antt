@@ -32,3 +32,4 @@ pub mod Passing
 pub mod LowestHits
 pub mod Seeing
 pub mod TilePicking
+pub mod Reaching

@@ -27,7 +27,7 @@ pub met_append : (ray : Ray) (xs ys : List Instance) → met_among ray (xs ++ ys
 met_append ray [] ys = omega arith
 met_append ray (x ∷ xs) ys = omega (arith, met_append ray xs ys)
 
-short_if : (n : ℕ) (o : Option Seg) → length (woven_if n o) ≤ 1
+pub short_if : (n : ℕ) (o : Option Seg) → length (woven_if n o) ≤ 1
 short_if n None = omega arith
 short_if n (Some seg) = omega arith
 
@@ -36,7 +36,7 @@ woven_short ray n [] = omega arith
 woven_short ray n (x ∷ xs) =
     omega (arith, woven_short ray (n + 1) xs, short_if n (segment_of x.surface ray), length-append (woven_if n (segment_of x.surface ray)) (woven_from ray (n + 1) xs))
 
-has_if : (n : ℕ) (o : Option Seg) (w : Woven) → Has (woven_if n o) w → (w.instance ≡ n) × (o ≡ Some w.seg)
+pub has_if : (n : ℕ) (o : Option Seg) (w : Woven) → Has (woven_if n o) w → (w.instance ≡ n) × (o ≡ Some w.seg)
 has_if n None w h = absurd h
 has_if n (Some seg) w (inl e) = (ap (λ (v : Woven). v.instance) (sym e), ap (λ (v : Woven). Some v.seg) e)
 has_if n (Some seg) w (inr h) = absurd h

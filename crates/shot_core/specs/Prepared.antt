@@ -1,5 +1,5 @@
 -- How the types keep regions.
-use Rattle.std.specs.Prelude.{◌≡◌, ℕ, List, length, map, refl}
+use Rattle.std.specs.Prelude.{◌≡◌, ℕ, List, Option, IfSome, length, map, refl}
 use Rattle.tree_forms.specs.Trees.{leaves as leaves_of}
 use Rattle.std.specs.Coded.{Coded, code_by, coded×, coded_ℕ, coded_list}
 use Rattle.lattice_core.specs.declared.boxes.Box3.{Box3}
@@ -10,7 +10,7 @@ use Rattle.solid_set.specs.declared.placed.Placed.{Placed}
 use Rattle.solid_set.specs.declared.surface.Surface.{Surface}
 use Rattle.solid_set.specs.contracts.surface.Surface as surfaces
 use Rattle.bool_weave.specs.Masks.{Mask, mask_code}
-use Rattle.shot_core.specs.Regions.{Instance, RegionBody, Region, HasLeavesBelow, HaveInstances, HavePlacedSolids, IsScene, firsts_from}
+use Rattle.shot_core.specs.Regions.{Instance, RegionBody, Region, HasLeavesBelow, HaveInstances, HavePlacedSolids, IsScene, firsts_from, instances_of}
 use Rattle.shot_core.specs.TreeBoxes.{tree_box}
 
 -- an instance as contracts see it: the surface of a placed solid and its box
@@ -46,10 +46,11 @@ abbrev pub region_boxes : List Region → List Box3
 region_boxes regions = map (λ r. tree_box (boxes_of r.body.instances) r.body.tree) regions
 
 -- the scene is sound, its instances are solids that were placed, its regions' first instances are numbered, and their boxes are
--- those that are kept
-pub record IsNumbered (regions : List Region) (firsts : List ℕ) (boxes : List Box3) : Type 0 where
+-- those that are kept, as are those of the instances, where they are kept
+pub record IsNumbered (regions : List Region) (firsts : List ℕ) (boxes : List Box3) (kept : Option (List Box3)) : Type 0 where
   pub sound : IsScene regions
   pub leaves : HaveInstances regions
   pub placed : HavePlacedSolids regions
   pub numbers : firsts ≡ firsts_from 0 regions
   pub boxes_are : boxes ≡ region_boxes regions
+  pub kept_are : IfSome kept (λ of_instances. of_instances ≡ boxes_of (instances_of regions))

@@ -1,5 +1,5 @@
 -- Words of the code: which regions a ray hits, and how the regions that it hits stand among all of them.
-use Rattle.std.specs.Prelude.{◌≤◌, ◌+◌, ℕ, List, [], ◌∷◌, Bool, true, false, cond, Option, Some, None, map, slice_get, slice_index_or}
+use Rattle.std.specs.Prelude.{◌≤◌, ◌+◌, ℕ, List, [], ◌∷◌, Bool, true, false, cond, Option, Some, None, ◌++◌, ◌==◌, map, slice_get, slice_index_or}
 use Rattle.std.specs.List.{list_any}
 use Rattle.std.specs.List.Sorted.{IsNonDecreasingBy}
 use Rattle.std.specs.Option.{ForSome}
@@ -17,7 +17,7 @@ use Rattle.overlap_list.specs.declared.partition.Partition.{Partition}
 use Rattle.overlap_list.specs.declared.overlap.OverlapRun.{OverlapRun}
 use Rattle.shot_core.specs.Regions.{Instance, Region, instances_of, firsts_from}
 use Rattle.shot_core.specs.MetBoxes.{meets_ray}
-use Rattle.shot_core.specs.Shots.{body_claims}
+use Rattle.shot_core.specs.Shots.{woven_if, body_claims}
 
 abbrev pub is_leaf : MaskNode → Bool
 is_leaf (node.Leaf i) = true
@@ -50,6 +50,32 @@ marked_from n (m ∷ marks) = cond m (n ∷ marked_from (n + 1) marks) (marked_f
 -- the numbers of the regions that are hit
 abbrev pub hit_from : Ray → ℕ → List Region → List ℕ
 hit_from ray n regions = marked_from n (map (is_hit ray) regions)
+
+-- the instances of regions that are numbered from `n` on, each with the number of its region
+abbrev pub owned_from : ℕ → List Region → List (ℕ × Instance)
+owned_from n [] = []
+owned_from n (r ∷ rest) = map (λ i. (n, i)) r.body.instances ++ owned_from (n + 1) rest
+
+-- whether a number is the last one of a list
+abbrev pub is_last : ℕ → List ℕ → Bool
+is_last n [] = false
+is_last n (m ∷ []) = m == n
+is_last n (m ∷ k ∷ rest) = is_last n (k ∷ rest)
+
+-- the numbers, with one more at the end where it is not the last one already
+abbrev pub noted : List ℕ → ℕ → List ℕ
+noted numbers n = cond (is_last n numbers) numbers (numbers ++ n ∷ [])
+
+-- what is woven in and which regions are noted, with the instance of a number, if there is one: its segment is woven in, and its
+-- region is noted where it has one
+abbrev pub with_instance : Ray → ℕ → Option (ℕ × Instance) → List Woven × List ℕ → List Woven × List ℕ
+with_instance ray number None s = s
+with_instance ray number (Some one) s = (s.0 ++ woven_if number (segment_of one.1.surface ray), cond (has_segment ray one.1) (noted s.1 one.0) s.1)
+
+-- and with the instances of several numbers, one after another
+abbrev pub with_instances : Ray → List (ℕ × Instance) → List Woven × List ℕ → List ℕ → List Woven × List ℕ
+with_instances ray owned s [] = s
+with_instances ray owned s (number ∷ rest) = with_instances ray owned (with_instance ray number (slice_get owned number) s) rest
 
 abbrev pub one_if : Bool → ℕ
 one_if true = 1

@@ -1,4 +1,4 @@
-use crate::limit::MOST_LEAVES;
+use crate::limit::{FEW_INSTANCES, MOST_LEAVES};
 use crate::region::SceneRegion;
 use box_index::BoxIndex;
 use lattice_core::{Box3, View};
@@ -7,13 +7,15 @@ use solid_set::Placed;
 use std::alloc::Global;
 use std::marker::Model;
 
-/// The regions of a list of names, in the order of their places, with the number of each region's first instance and an index
-/// of their boxes. Contracts see it as the list of regions.
+/// The regions of a list of names, in the order of their places, with the number of each region's first instance, an index of
+/// their boxes, and one of the boxes of their instances where these are more than `FEW_INSTANCES`. Contracts see it as the list
+/// of regions.
 #[derive(Debug, Drop)]
 pub struct Scene {
     regions: Vec<SceneRegion>,
     firsts: Vec<u32>,
     by_region: BoxIndex,
+    by_instance: Option<BoxIndex>,
 }
 
 impl Model for Scene {
@@ -28,15 +30,15 @@ impl Model for Scene {
 
     ghost view = { λ s. s.regions.items };
 
-    ghost invariant = { λ s. IsNumbered s.regions.items s.firsts.items s.by_region };
+    ghost invariant = { λ s. IsNumbered s.regions.items s.firsts.items s.by_region s.by_instance };
 }
 
-ghost use Rattle.std.specs.Prelude.{◌≡◌, ◌≤◌, true, false, nat_le, length, IfOk};
+ghost use Rattle.std.specs.Prelude.{◌≡◌, ◌≤◌, ◌<◌, ◌++◌, ◌^◌, true, false, nat_le, length, map, vec_len, IfOk, OnOk, IfSome};
 ghost use Rattle.shot_core.specs.declared.limit.TheConstants.{MOST_LEAVES};
 ghost use Rattle.std.specs.List.Sorted.{IsPartitionPoint};
 ghost use Rattle.shot_core.specs.Regions.{firsts_from, instances_of, HaveInstances, HavePlacedSolids};
 ghost use Rattle.shot_core.specs.Steps.{NeverFalls};
-ghost use Rattle.shot_core.specs.Prepared.{region_boxes};
+ghost use Rattle.shot_core.specs.Prepared.{instance_of, boxes_of, region_boxes};
 
 /// The number of each region's first instance.
 fn firsts_of(alloc: Global, regions: &[SceneRegion]) -> Result<Vec<u32>, Memory>
@@ -65,6 +67,39 @@ fn boxes_of(alloc: Global, regions: &[SceneRegion]) -> Result<Vec<Box3>, Memory>
     Ok(boxes)
 }
 
+/// Adds the boxes of solids.
+fn add_boxes(boxes: &mut Vec<Box3>, solids: &[Placed]) -> Result<(), Memory>
+    ensures { OnOk result (boxes.new.items ≡ boxes.old.items ++ boxes_of (map instance_of solids.now)) }
+{
+    for solid in solids {
+        boxes.push(solid.bounds())?;
+    }
+    Ok(())
+}
+
+/// The boxes of the instances of regions, in their order.
+fn instance_boxes(alloc: Global, regions: &[SceneRegion]) -> Result<Vec<Box3>, Memory>
+    ensures { IfOk result (λ v. v.items ≡ boxes_of (instances_of regions.now)) }
+{
+    let mut boxes = Vec::new(alloc);
+    for region in regions {
+        add_boxes(&mut boxes, region.body().solids())?;
+    }
+    Ok(boxes)
+}
+
+/// An index of the boxes where they are more than `FEW_INSTANCES`: to look at each of a few takes no longer than to ask one.
+fn index_of_many(alloc: Global, boxes: Vec<Box3>) -> Result<Option<BoxIndex>, Memory>
+    requires { vec_len boxes < 2 ^ 31 }
+    ensures { IfOk result (λ found. IfSome found (λ index. index ≡ boxes.items)) }
+{
+    if boxes.len() <= FEW_INSTANCES {
+        return Ok(None);
+    }
+    let index = BoxIndex::build(alloc, boxes)?;
+    Ok(Some(index))
+}
+
 /// How many of the numbers, which never fall, are at most a number.
 fn count_up_to(firsts: &[u32], number: u32) -> usize
     requires { NeverFalls firsts.now }
@@ -75,13 +110,14 @@ fn count_up_to(firsts: &[u32], number: u32) -> usize
 }
 
 impl Scene {
-    ghost use Rattle.std.specs.Prelude.{◌≡◌, ◌<◌, ◌≤◌, ◌^◌, IfOk, length, slice_get, slice_index_or};
+    ghost use Rattle.std.specs.Prelude.{◌≡◌, ◌<◌, ◌≤◌, ◌^◌, IfOk, IfSome, length, slice_get, slice_index_or};
     ghost use Rattle.std.specs.Option.{option_map, option_copied};
     ghost use Rattle.shot_core.specs.Regions.{IsScene, HaveInstances, HavePlacedSolids, instances_of, firsts_from};
     ghost use Rattle.lattice_core.specs.Views.{IsChecked};
     ghost use Rattle.lattice_core.specs.Tiles.{tiles_of, MeetsTile};
     ghost use Rattle.box_index.specs.Places.{ArePlacesOf};
-    ghost use Rattle.shot_core.specs.Prepared.{instance_of, region_boxes};
+    ghost use Rattle.shot_core.specs.Prepared.{instance_of, boxes_of, region_boxes};
+    ghost use Rattle.shot_core.specs.Steps.{owned_from};
 
     /// The scene of regions whose places rise from at least 1, and whose bodies together have a size of at most
     /// `MOST_LEAVES` and at most as many solids.
@@ -92,10 +128,13 @@ impl Scene {
         let firsts = firsts_of(alloc, &regions)?;
         let boxes = boxes_of(alloc, &regions)?;
         let by_region = BoxIndex::build(alloc, boxes)?;
+        let solids = instance_boxes(alloc, &regions)?;
+        let by_instance = index_of_many(alloc, solids)?;
         Ok(Scene {
             regions,
             firsts,
             by_region,
+            by_instance,
         })
     }
 
@@ -124,12 +163,34 @@ impl Scene {
         self.by_region.meets_tile(view, tile, out)
     }
 
+    /// The index of the instances' boxes. There is none where they are few.
+    pub(crate) fn by_instance(&self) -> Option<&BoxIndex>
+        ensures boxes { IfSome result (λ index. index.now ≡ boxes_of (instances_of self.now)) }
+        ensures sound { IsScene self.now }
+        ensures leaves { HaveInstances self.now }
+        ensures placed { HavePlacedSolids self.now }
+    {
+        match &self.by_instance {
+            Some(index) => Some(index),
+            None => None,
+        }
+    }
+
     /// The number of a region's first instance. Instances are numbered from 0 over all regions.
     pub fn first(&self, region: u32) -> u32
         requires { region < length self.now }
         ensures { result ≡ slice_index_or (firsts_from 0 self.now) region 0 }
     {
         self.firsts[region as usize]
+    }
+
+    /// The region of the instance of that number.
+    pub(crate) fn owner(&self, number: u32) -> u32
+        requires { number < length (instances_of self.now) }
+        ensures { IfSome (slice_get (owned_from 0 self.now) number) (λ one. one.0 ≡ result) }
+    {
+        let count = count_up_to(&self.firsts, number);
+        (count - 1) as u32
     }
 
     /// The solid of that number, or `None` where there are fewer.

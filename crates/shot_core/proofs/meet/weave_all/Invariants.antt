@@ -2,7 +2,7 @@ use Rattle.std.proofs.Common.{◌≡◌, ◌<◌, ◌≤◌, ◌+◌, ◌++◌, 
 use Rattle.shot_core.specs.Regions.{instances_of}
 use Rattle.shot_core.specs.Shots.{woven_from}
 use Rattle.shot_core.specs.Steps.{hit_from, met_among}
-use Rattle.shot_core.proofs.meet.weave_scene.Given as goal
+use Rattle.shot_core.proofs.meet.weave_all.Given as goal
 
 abbrev pub invariant-loop-i : goal.invariant-loop-i
 invariant-loop-i g l = record {

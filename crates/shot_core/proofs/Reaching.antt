@@ -7,7 +7,7 @@ use Rattle.std.proofs.lemmas.List.{length-append, append_assoc, append-nil, map-
 use Rattle.std.proofs.lemmas.List.Concat.{flat_map-append}
 use Rattle.std.proofs.lemmas.Simd.{map-map}
 use Rattle.std.proofs.lemmas.List.Elements.{All-append, All-head, All-tail}
-use Rattle.std.proofs.lemmas.Option.{slice_get-map, slice_get_within}
+use Rattle.std.proofs.lemmas.Option.{slice_get-map}
 use Rattle.lattice_core.specs.declared.boxes.Box3.{Box3}
 use Rattle.lattice_core.specs.declared.ray.Ray.{Ray}
 use Rattle.lattice_core.specs.Boxes.{MeetsRay}
@@ -175,7 +175,7 @@ module _ (ray : Ray) where
       let long : length (pre ++ z ∷ []) ≡ n + 1 = length-append pre (z ∷ []) in
       let later : (t : State) → with_instances ray all t more ≡ with_each ray (n + 1) rest t =
       λ t. subst (λ (l : List Owned). with_instances ray l t more ≡ with_each ray (n + 1) rest t) whole
-          (subst (λ (k : ℕ). with_instances ray ((pre ++ z ∷ []) ++ rest) t (places_from k f (map box_of rest)) ≡ with_each ray k rest t) long (reach_from (pre ++ z ∷ []) rest t told.1)) in
+      (subst (λ (k : ℕ). with_instances ray ((pre ++ z ∷ []) ++ rest) t (places_from k f (map box_of rest)) ≡ with_each ray k rest t) long (reach_from (pre ++ z ∷ []) rest t told.1)) in
       let start : n ≡ n + 0 = omega arith in
       let here : slice_get all n ≡ Some z = ap (slice_get all) start ∙ get_right pre (z ∷ rest) 0 in
       elim (cases_Bool (f (box_of z))) [

@@ -80,7 +80,7 @@ pub fn kept_regions(alloc: Global, scene: &Scene, view: &View, tile: u32) -> Res
     let mut places = Vec::new(alloc);
     scene.reach_tile(view, tile, &mut places)?;
     let kept = shares_of(alloc, scene.regions(), &places)?;
-    Scene::new(alloc, kept)
+    Scene::unindexed(alloc, kept)
 }
 
 /// What the regions at some places in their list are.

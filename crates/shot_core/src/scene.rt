@@ -125,11 +125,32 @@ impl Scene {
         requires { IsScene regions.items }
         ensures { IfOk result (λ s. s ≡ regions.items) }
     {
+        let boxes = instance_boxes(alloc, &regions)?;
+        let by_instance = index_of_many(alloc, boxes)?;
+        Scene::indexed_by(alloc, regions, by_instance)
+    }
+
+    /// The same without an index of the instances, for a scene at which no ray is shot that would look there.
+    pub(crate) fn unindexed(alloc: Global, regions: Vec<SceneRegion>) -> Result<Scene, Memory>
+        requires { IsScene regions.items }
+        ensures { IfOk result (λ s. s ≡ regions.items) }
+    {
+        Scene::indexed_by(alloc, regions, None)
+    }
+
+    /// The scene of such regions with this index of their instances, or with none.
+    fn indexed_by(
+        alloc: Global,
+        regions: Vec<SceneRegion>,
+        by_instance: Option<BoxIndex>,
+    ) -> Result<Scene, Memory>
+        requires regions { IsScene regions.items }
+        requires boxes { IfSome by_instance (λ index. index ≡ boxes_of (instances_of regions.items)) }
+        ensures { IfOk result (λ s. s ≡ regions.items) }
+    {
         let firsts = firsts_of(alloc, &regions)?;
         let boxes = boxes_of(alloc, &regions)?;
         let by_region = BoxIndex::build(alloc, boxes)?;
-        let solids = instance_boxes(alloc, &regions)?;
-        let by_instance = index_of_many(alloc, solids)?;
         Ok(Scene {
             regions,
             firsts,

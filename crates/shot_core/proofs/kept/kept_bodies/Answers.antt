@@ -1,4 +1,4 @@
-use Rattle.std.proofs.Common.{◌≡◌, ◌<◌, ◌∙◌, ℕ, List, All, length, get_or, map, ap, sym, subst}
+use Rattle.std.proofs.Common.{◌<◌, ◌∙◌, ℕ, List, All, length, get_or, map, ap, sym, subst}
 use Rattle.std.proofs.lemmas.Simd.{map-map}
 use Rattle.std.proofs.lemmas.Result.{IfOk-weaker}
 use Rattle.shot_core.specs.Regions.{Region}

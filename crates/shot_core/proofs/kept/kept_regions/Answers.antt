@@ -16,8 +16,8 @@ shares_of-requires c =
     subst (λ (l : List ℕ). All (λ i. i < length c.regions.result.now) l) (sym c.deref.ensures.value)
     (subst (λ (rs : List Region). All (λ i. i < length rs) places) (sym c.regions.ensures.value) within)
 
-pub new-requires : goal.new-requires
-new-requires c =
+pub unindexed-requires : goal.unindexed-requires
+unindexed-requires c =
     let scene = c.args.scene.now in
     let view = c.args.view.now in
     let tile = c.args.tile in
@@ -36,4 +36,4 @@ returns c =
     let kept : c.in_ok-kept.kept.items ≡ kept_for scene view tile =
     c.in_ok-kept.ensures ∙ ap (λ (rs : List Region). map (λ i. get_or rs i no_region) c.deref.result.now) c.regions.ensures.value
     ∙ ap (map (λ i. get_or scene i no_region)) c.deref.ensures.value ∙ picked_regions view tile c.requires.view c.requires.tile scene places c.in_ok-reach_tile.ensures in
-    IfOk-weaker c.new.result _ _ (λ s e. e ∙ kept) c.new.ensures
+    IfOk-weaker c.unindexed.result _ _ (λ s e. e ∙ kept) c.unindexed.ensures

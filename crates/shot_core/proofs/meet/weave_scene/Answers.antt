@@ -1,6 +1,5 @@
-use Rattle.std.proofs.Common.{◌≡◌, ◌∙◌, [], List, ℕ, length, ap, arith}
+use Rattle.std.proofs.Common.{◌≡◌, ◌∙◌, [], length, ap, arith}
 use Rattle.std.proofs.lemmas.Result.{IfOk-weaker}
-use Rattle.bool_weave.specs.declared.woven.Woven.{Woven}
 use Rattle.shot_core.specs.Regions.{instances_of}
 use Rattle.shot_core.specs.Shots.{woven_from}
 use Rattle.shot_core.specs.Steps.{owned_from, hit_from, with_instances}

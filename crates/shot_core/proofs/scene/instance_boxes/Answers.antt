@@ -1,4 +1,4 @@
-use Rattle.std.proofs.Common.{◌≡◌, ◌+◌, ◌∙◌, ◌++◌, List, map, take, ap, sym, arith}
+use Rattle.std.proofs.Common.{◌≡◌, ◌∙◌, ◌++◌, List, map, take, ap, sym}
 use Rattle.std.proofs.lemmas.List.{take_all}
 use Rattle.lattice_core.specs.declared.boxes.Box3.{Box3}
 use Rattle.shot_core.specs.Regions.{Region, RegionBody, Instance, instances_of}

@@ -35,7 +35,7 @@ use Rattle.shot_core.specs.Prepared.{boxes_of}
 use Rattle.shot_core.specs.TreeBoxes.{tree_box}
 use Rattle.shot_core.specs.RegionBoxes.{region_box, near_side, HoldsPart, BoxesHoldClaims}
 use Rattle.shot_core.specs.Shots.{woven_of, body_claims, claims_from}
-use Rattle.shot_core.proofs.Between.{between_places}
+use Rattle.solid_set.proofs.Between.{between_places}
 use Rattle.shot_core.proofs.Boxing.{are_hull_and_meet}
 use Rattle.shot_core.proofs.NearSides.{near_from_point, begun_by, entered_by}
 use Rattle.shot_core.proofs.Numbering.{get_left, get_right}

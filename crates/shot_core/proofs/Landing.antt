@@ -35,7 +35,7 @@ use Rattle.solid_set.proofs.Foremost.{IsForemost, none_moved, foremost_is}
 use Rattle.solid_set.proofs.SpanLaws.{ArePlaces, entering_places, leaving_places}
 use Rattle.solid_set.proofs.InsideLaws.{AreEnds, ends_are, not_preceding}
 use Rattle.solid_set.proofs.SurfaceLaws.{segment_tells}
-use Rattle.shot_core.proofs.Between.{between_places}
+use Rattle.solid_set.proofs.Between.{between_places}
 
 spelled_place : (x : Pos) → IsSpelled x → IsPlace x
 spelled_place (Frac p q) h = h.0

@@ -18,7 +18,7 @@ use Rattle.surd_order.specs.Order.{Precedes, IsPlace}
 use Rattle.surd_order.proofs.OrderLaws.{between}
 use Rattle.solid_set.proofs.InsideLaws.{not_preceding}
 use Rattle.shot_core.specs.RegionBoxes.{ahead_rising, ahead_falling, near_by, IsNotBefore, IsBehind}
-use Rattle.shot_core.proofs.Between.{between_places}
+use Rattle.solid_set.proofs.Between.{between_places}
 
 taken_back : (a o : ℤ) → (a -ℤ o) +ℤ o ≡ a
 taken_back a o = omega (arith, ints)

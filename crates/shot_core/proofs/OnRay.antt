@@ -33,7 +33,7 @@ use Rattle.bool_weave.proofs.Sorted.{Has, has_at}
 use Rattle.bool_weave.proofs.Cutting.{place_from, tied_same, end_of_some, from_order, to_order, cuts_sorted, precedes_from}
 use Rattle.overlap_list.specs.Hits.{cut_at}
 use Rattle.shot_core.specs.Regions.{Instance}
-use Rattle.shot_core.proofs.Between.{IsBetween}
+use Rattle.solid_set.proofs.Between.{IsBetween}
 use Rattle.shot_core.proofs.Landing.{segment_lies}
 use Rattle.shot_core.proofs.Weaving.{IsOfInstance}
 

@@ -12,3 +12,6 @@ pub mod BallLaws
 pub mod SurfaceLaws
 pub mod Landing
 pub mod Enclosed
+pub mod HitLaws
+pub mod Between
+pub mod Separated

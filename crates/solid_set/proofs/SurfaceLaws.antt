@@ -61,7 +61,7 @@ ball_cut c r ray (Some chord) held e = record {
   inside = λ p q some after before. (held p q some).1 (near_from chord.a p q chord.k some after.0 before.0);
 }
 
-surface_cut : (surface : Surface) (ray : Ray) → is_missed surface ray ≡ false → IsCutBy surface ray (entering surface ray) (leaving surface ray)
+pub surface_cut : (surface : Surface) (ray : Ray) → is_missed surface ray ≡ false → IsCutBy surface ray (entering surface ray) (leaving surface ray)
 surface_cut (Planes sides) ray e = planes_cut sides ray e
 surface_cut (HalfSpace plane) ray e = half_cut plane ray e
 surface_cut (Ball c r) ray e = ball_cut c r ray (chord_at c r ray) (held_at c r ray) e
@@ -79,12 +79,12 @@ chord_places : (o : Option Chord) (plus : Bool) → ArePlaces (chord_end o plus)
 chord_places None plus = record { each = λ x has. absurd has }
 chord_places (Some chord) plus = record { each = λ x has. elim has [ inl e ↦ subst IsPlace e tt | inr none ↦ absurd none ] }
 
-enter_places : (surface : Surface) (ray : Ray) → ArePlaces (entering surface ray)
+pub enter_places : (surface : Surface) (ray : Ray) → ArePlaces (entering surface ray)
 enter_places (Planes sides) ray = record { each = entering_places ray 1 sides }
 enter_places (HalfSpace plane) ray = record { each = entering_places ray 1 (Some plane ∷ []) }
 enter_places (Ball c r) ray = chord_places (chord_at c r ray) false
 
-leave_places : (surface : Surface) (ray : Ray) → ArePlaces (leaving surface ray)
+pub leave_places : (surface : Surface) (ray : Ray) → ArePlaces (leaving surface ray)
 leave_places (Planes sides) ray = record { each = leaving_places ray 1 sides }
 leave_places (HalfSpace plane) ray = record { each = leaving_places ray 1 (Some plane ∷ []) }
 leave_places (Ball c r) ray = chord_places (chord_at c r ray) true
@@ -102,7 +102,7 @@ some_foremost : (R : Pos → Pos → Ordering) → IsTotalOrder R → (first : P
 some_foremost R total first [] = (first, record { among = inl refl; ahead = (ap is_gt (tied_itself total first), tt) })
 some_foremost R total first (y ∷ ys) = let found = some_foremost R total first ys in foremost_more R total first y found.0 ys found.1 (R y found.0) refl
 
-ends_of : (es ls : List Crossed) → ArePlaces es → ArePlaces ls → AreEnds es ls (start_of es) (end_of ls)
+pub ends_of : (es ls : List Crossed) → ArePlaces es → ArePlaces ls → AreEnds es ls (start_of es) (end_of ls)
 ends_of es ls places places' =
     let first = some_foremost place_cmp forwards.total ray_start (places_of es) in
     let last = some_foremost turned_cmp backwards.total ray_end (places_of ls) in

@@ -4,6 +4,8 @@ pub mod Spans
 pub mod Bounds
 pub mod Surfaces
 pub mod Laws
+pub mod Separation
+pub mod Hits
 pub mod Levels
 pub mod Rpps
 pub mod Examples

@@ -115,13 +115,13 @@ part_held b ray x y from to order points =
     }
 
 -- what is woven of an instance that spans an interval
-record IsSpanning (woven : List Woven) (interval : Interval) (instance : ℕ) : Type 0 where
-  one : Woven
-  there : Has woven one
-  number : one.instance ≡ instance
-  covered : covers one.seg interval ≡ true
+pub record IsSpanning (woven : List Woven) (interval : Interval) (instance : ℕ) : Type 0 where
+  pub one : Woven
+  pub there : Has woven one
+  pub number : one.instance ≡ instance
+  pub covered : covers one.seg interval ≡ true
 
-spanning : (woven : List Woven) (interval : Interval) (instance : ℕ) → spans woven interval instance ≡ true → IsSpanning woven interval instance
+pub spanning : (woven : List Woven) (interval : Interval) (instance : ℕ) → spans woven interval instance ≡ true → IsSpanning woven interval instance
 spanning [] interval instance h = absurd (true≢false (sym h))
 spanning (w ∷ ws) interval instance h =
     elim (or_cases ((w.instance == instance) && covers w.seg interval) (spans ws interval instance) h) [
@@ -132,7 +132,7 @@ spanning (w ∷ ws) interval instance h =
     ]
 
 -- a fraction in an interval that a segment covers lies inside the segment
-inside_covered : (seg : Seg) (interval : Interval) (p q : ℤ) → IsPlace seg.start → IsPlace seg.end → IsPlace interval.start → IsPlace interval.end → covers seg interval ≡ true
+pub inside_covered : (seg : Seg) (interval : Interval) (p q : ℤ) → IsPlace seg.start → IsPlace seg.end → IsPlace interval.start → IsPlace interval.end → covers seg interval ≡ true
     → Precedes interval.start (Frac p q) → Precedes (Frac p q) interval.end → Precedes seg.start (Frac p q) × Precedes (Frac p q) seg.end
 inside_covered seg interval p q a b c d covered after before =
     let not = (covers_by_places seg interval a b c d).0 covered in (
@@ -140,7 +140,7 @@ inside_covered seg interval p q a b c d covered after before =
       elim (between (Frac p q) seg.end interval.end before) [ inl early ↦ early | inr late ↦ absurd (not.1 late) ],
     )
 
-same_some : {X : Type 0} (x y : X) → Some x ≡ Some y → x ≡ y
+pub same_some : {X : Type 0} (x y : X) → Some x ≡ Some y → x ≡ y
 same_some x y e = cc
 
 -- the instances of all regions, those of one region among them, and what is woven of them
@@ -166,12 +166,12 @@ module _ (ray : Ray) (xs : List Instance) (woven : List Woven) (of : AreSegments
       (spanned_around interval p q (place_is interval.start start) (place_is interval.end end) after before) claimed)
 
 -- the region of a number, its claims and its instances among all of them
-record IsRegionAt (woven : List Woven) (first : ℕ) (rs : List Region) (n : ℕ) (claims : RegionClaims) (region : Region) : Type 0 where
-  past : ℕ
-  claims_are : get_or (claims_from woven first rs) n claims ≡ body_claims woven (first + past) (get_or rs n region).body
-  among : (i : ℕ) → i < length (get_or rs n region).body.instances → slice_get (instances_of rs) (past + i) ≡ slice_get (get_or rs n region).body.instances i
+pub record IsRegionAt (woven : List Woven) (first : ℕ) (rs : List Region) (n : ℕ) (claims : RegionClaims) (region : Region) : Type 0 where
+  pub past : ℕ
+  pub claims_are : get_or (claims_from woven first rs) n claims ≡ body_claims woven (first + past) (get_or rs n region).body
+  pub among : (i : ℕ) → i < length (get_or rs n region).body.instances → slice_get (instances_of rs) (past + i) ≡ slice_get (get_or rs n region).body.instances i
 
-region_at : (woven : List Woven) (first : ℕ) (rs : List Region) (n : ℕ) (claims : RegionClaims) (region : Region) → n < length rs → IsRegionAt woven first rs n claims region
+pub region_at : (woven : List Woven) (first : ℕ) (rs : List Region) (n : ℕ) (claims : RegionClaims) (region : Region) → n < length rs → IsRegionAt woven first rs n claims region
 region_at woven first [] n claims region lt = absurd (omega (arith, lt))
 region_at woven first (r ∷ rs) zero claims region lt =
     let e : first ≡ first + 0 = omega arith in

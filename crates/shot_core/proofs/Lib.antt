@@ -10,6 +10,9 @@ pub mod Claiming
 pub mod PickingOverlaps
 pub mod Shooting
 pub mod ResultLaws
+pub mod Pointing
+pub mod OneList
+pub mod PointTruth
 pub mod Placing
 pub mod FirstShots
 pub mod NearSides

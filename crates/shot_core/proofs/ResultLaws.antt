@@ -43,7 +43,7 @@ trees_from woven first (r ∷ rs) leaves zero d lt = record { tree = r.body.tree
 trees_from woven first (r ∷ rs) leaves (suc k) d lt =
     trees_from woven (first + length r.body.instances) rs (λ j e in_rest. leaves (suc j) e (omega (arith, in_rest))) k d (omega (arith, lt))
 
-rows_from : (woven : List Woven) (first : ℕ) (rs : List Region) → All (λ (r : RegionClaims). length r.claims ≡ length (intervals_of woven)) (claims_from woven first rs)
+pub rows_from : (woven : List Woven) (first : ℕ) (rs : List Region) → All (λ (r : RegionClaims). length r.claims ≡ length (intervals_of woven)) (claims_from woven first rs)
 rows_from woven first [] k d lt = absurd (omega (arith, lt))
 rows_from woven first (r ∷ rs) zero d lt = length-map (intervals_of woven) (claims_interval woven r.body.tree first)
 rows_from woven first (r ∷ rs) (suc k) d lt = rows_from woven (first + length r.body.instances) rs k d (omega (arith, lt))

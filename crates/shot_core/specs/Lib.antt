@@ -7,6 +7,7 @@ pub mod Pruned
 pub mod Candidates
 pub mod FirstSteps
 pub mod Laws
+pub mod Points
 pub mod Digests
 pub mod Prepared
 pub mod Steps

@@ -5,6 +5,7 @@ ghost use Rattle.shot_core.specs.RegionBoxes.{BoxesHoldClaims, MissedRegionsClai
 ghost use Rattle.shot_core.specs.Pruned.{TellsWhetherShared, TellsWhetherTileMet, KeptSeeTheSame, KeptOverlapTheSame};
 ghost use Rattle.shot_core.specs.Candidates.{CandidatesOverlapTheSame};
 ghost use Rattle.shot_core.specs.SegmentLaws.{AreRayEnds, AreSegments};
+ghost use Rattle.shot_core.specs.Points.{PartitionsTellPoints};
 
 /// Laws of the boxes of trees and of the boxes that a ray meets. The function does nothing: its contract is the laws.
 pub fn box_laws()
@@ -39,4 +40,10 @@ pub fn kept_laws()
 pub fn segment_laws()
     ensures ends { AreRayEnds }
     ensures segments { AreSegments }
+{}
+
+/// Law of the partitions of a ray: they tell what lies at its points, and no other list of stretches does. The function does
+/// nothing: its contract is the law.
+pub fn point_law()
+    ensures { PartitionsTellPoints }
 {}

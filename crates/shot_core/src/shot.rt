@@ -8,6 +8,7 @@ ghost use Rattle.overlap_list.specs.Laws.{AreInOrder, IsPartOfRay, IsWonPart, Ha
 ghost use Rattle.shot_core.specs.MetBoxes.{met_count};
 ghost use Rattle.shot_core.specs.Shots.{woven_of, claims_on, level_of_hit, lit_by, lit_of, overlaps_on};
 ghost use Rattle.shot_core.specs.Laws.{parts_of, IsHitInScene, HoldsAllClaims, AreFirstOverlaps};
+ghost use Rattle.shot_core.specs.Points.{stretches_of, IsTrueOfPoints};
 ghost use Rattle.shot_core.specs.Steps.{numbered_claims, HasRisen, IsHitOn, renumbered, renumbered_run};
 
 use crate::meet::weave_scene;
@@ -140,6 +141,7 @@ pub fn shoot<L: Ledger>(
     ensures all { IfOk result (λ v. HoldsAllClaims scene.now ray.now v.items) }
     ensures hits { IfOk result (λ v. All (HasHit (woven_of scene.now ray.now) (claims_on scene.now ray.now)) (parts_of v.items)) }
     ensures real { IfOk result (λ v. All (IsHitInScene scene.now ray.now) v.items) }
+    ensures points { IfOk result (λ v. IsTrueOfPoints scene.now ray.now (stretches_of v.items)) }
     ensures steps { HasRisen (met_count scene.now ray.now) steps.old steps.new }
 {
     let mut weave = Weave::new(alloc)?;

@@ -12,6 +12,6 @@ pub mod BallLaws
 pub mod SurfaceLaws
 pub mod Landing
 pub mod Enclosed
-pub mod HitLaws
+pub mod HitPlaceLaws
 pub mod Between
 pub mod Separated

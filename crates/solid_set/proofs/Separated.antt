@@ -5,7 +5,7 @@ use Rattle.surd_order.specs.declared.position.Pos.TheVariants.{Frac}
 use Rattle.surd_order.specs.Order.{Precedes, SamePlace, IsPlace}
 use Rattle.surd_order.proofs.LawProofs.{outcome}
 use Rattle.surd_order.proofs.OrderLaws.{asymmetric, between, transitive}
-use Rattle.solid_set.specs.Hits.{IsAtOneOf}
+use Rattle.solid_set.specs.HitPlaces.{IsAtOneOf}
 use Rattle.solid_set.specs.Separation.{IsFractionBetween, PlacesAreSeparated}
 use Rattle.solid_set.proofs.Between.{between_places}
 use Rattle.solid_set.proofs.Foremost.{Has}

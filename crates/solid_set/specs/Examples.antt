@@ -10,7 +10,7 @@ use Rattle.surd_order.specs.PlaceOrder.{place_cmp}
 use Rattle.solid_set.specs.declared.surface.Surface.TheVariants.{Planes, HalfSpace, Ball}
 use Rattle.solid_set.specs.Segments.{segment_of}
 use Rattle.solid_set.specs.Levels.{level_at}
-use Rattle.solid_set.specs.Hits.{hit_places}
+use Rattle.solid_set.specs.HitPlaces.{hit_places}
 
 abbrev ray_from : ℤ → ℤ → ℤ → Dir → Ray
 ray_from x y z dir = record { origin = record { x = x; y = y; z = z }; dir = dir }
@@ -61,19 +61,19 @@ level_of_a_slanted_face = refl
 level_of_no_face : level_at (HalfSpace (plane (negsuc 0) (negsuc 0) (pos 0) (pos 0))) 0 (ray_from (pos 5) (pos 0) (pos 0) PlusX) ≡ 255
 level_of_no_face = refl
 
--- of two planes only the one that is crossed is hit, and what is crossed behind the ray's origin counts too
-hits_of_planes : hit_places (Planes (None ∷ Some (plane (pos 0) (pos 1) (pos 0) (pos 9)) ∷ Some (plane (negsuc 1) (pos 0) (pos 0) (pos 6)) ∷ [])) (ray_from (pos 2) (pos 0) (pos 0) PlusX)
+-- of two planes only the one that is crossed has a place, also where it is crossed before the ray begins
+places_of_planes : hit_places (Planes (None ∷ Some (plane (pos 0) (pos 1) (pos 0) (pos 9)) ∷ Some (plane (negsuc 1) (pos 0) (pos 0) (pos 6)) ∷ [])) (ray_from (pos 2) (pos 0) (pos 0) PlusX)
     ≡ Frac (pos 0) (pos 1) ∷ Frac (pos 1048576) (pos 1) ∷ Frac (negsuc 9) (pos 2) ∷ []
-hits_of_planes = refl
+places_of_planes = refl
 
-hits_of_a_ball : hit_places (Ball zero_vector (pos 5)) (ray_from (negsuc 9) (pos 1) (pos 1) PlusX)
+places_of_a_ball : hit_places (Ball zero_vector (pos 5)) (ray_from (negsuc 9) (pos 1) (pos 1) PlusX)
     ≡ Frac (pos 0) (pos 1) ∷ Frac (pos 1048576) (pos 1) ∷ Surd (pos 10) false 23 ∷ Surd (pos 10) true 23 ∷ []
-hits_of_a_ball = refl
+places_of_a_ball = refl
 
--- a ball that is touched has no segment, and a hit where it is touched
-hits_of_a_touched_ball : hit_places (Ball zero_vector (pos 5)) (ray_from (negsuc 9) (pos 5) (pos 0) PlusX)
+-- a ball that is touched has no segment, but a place where it is touched
+places_of_a_touched_ball : hit_places (Ball zero_vector (pos 5)) (ray_from (negsuc 9) (pos 5) (pos 0) PlusX)
     ≡ Frac (pos 0) (pos 1) ∷ Frac (pos 1048576) (pos 1) ∷ Surd (pos 10) false 0 ∷ Surd (pos 10) true 0 ∷ []
-hits_of_a_touched_ball = refl
+places_of_a_touched_ball = refl
 
-hits_of_a_missed_ball : hit_places (Ball zero_vector (pos 5)) (ray_from (negsuc 9) (pos 6) (pos 0) PlusX) ≡ Frac (pos 0) (pos 1) ∷ Frac (pos 1048576) (pos 1) ∷ []
-hits_of_a_missed_ball = refl
+places_of_a_missed_ball : hit_places (Ball zero_vector (pos 5)) (ray_from (negsuc 9) (pos 6) (pos 0) PlusX) ≡ Frac (pos 0) (pos 1) ∷ Frac (pos 1048576) (pos 1) ∷ []
+places_of_a_missed_ball = refl

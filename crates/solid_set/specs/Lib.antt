@@ -5,7 +5,7 @@ pub mod Bounds
 pub mod Surfaces
 pub mod Laws
 pub mod Separation
-pub mod Hits
+pub mod HitPlaces
 pub mod Levels
 pub mod Rpps
 pub mod Examples

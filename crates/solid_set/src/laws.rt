@@ -12,7 +12,7 @@ pub fn ray_laws()
     ensures { (p q : ℤ) → pos 0 <ℤ q → IsOnRay p q ↔ IsWithinRay (Pos.Frac p q) }
 {}
 
-/// Between two places that are not the same lie fractions at more places than any number. The function does nothing: its
+/// Between two different places lie fractions, each before the next, as many as one likes. The function does nothing: its
 /// contract is the law.
 pub fn separation_law()
     ensures { PlacesAreSeparated }

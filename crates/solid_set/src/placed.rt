@@ -85,7 +85,7 @@ impl Placed {
     ghost use Rattle.solid_set.specs.Segments.{segment_of};
     ghost use Rattle.solid_set.specs.Levels.{level_at, IsFaceOn};
     ghost use Rattle.solid_set.specs.Laws.{TellsInside, IsSound, IsSegInRange};
-    ghost use Rattle.solid_set.specs.Hits.{TellsByHits};
+    ghost use Rattle.solid_set.specs.HitPlaces.{TellsByHitPlaces};
 
     fn arb8(arb8: &Arb8, by: &Placement) -> Placed
         requires { IsWithin SHIFT by.now.shift }
@@ -130,7 +130,7 @@ impl Placed {
         requires { IsWithin WORLD ray.now.origin }
         ensures exact { result ≡ segment_of self.now.surface ray.now }
         ensures inside { TellsInside self.now.surface ray.now result }
-        ensures hits { TellsByHits self.now.surface ray.now result }
+        ensures hits { TellsByHitPlaces self.now.surface ray.now result }
         ensures sound { ForSome result IsSound }
     {
         self.cut(ray)

@@ -8,8 +8,10 @@ use Rattle.overlap_list.specs.Partitions.{partitions_of}
 use Rattle.overlap_list.specs.Laws.{AreInOrder, IsPartOfRay, IsWonPart, HasHit}
 use Rattle.shot_core.specs.declared.shot.Lit.{Lit}
 use Rattle.shot_core.specs.Laws.{parts_of, IsHitInScene, HoldsAllClaims}
+use Rattle.shot_core.specs.Points.{stretches_of, IsTrueOfPoints}
 use Rattle.shot_core.specs.Shots.{woven_of, claims_on, lit_by, lit_of}
 use Rattle.shot_core.specs.Steps.{numbered_claims, IsHitOn, renumbered}
+use Rattle.shot_core.proofs.PointTruth.{true_of_points}
 use Rattle.shot_core.proofs.Shooting.{empty_from, lit_none, lit_picked, lit_within, rows, few, parts_within, hits_on, numbers_below}
 use Rattle.shot_core.proofs.ResultLaws.{lit_in_order, lit_on_ray, lit_won, lit_all, lit_hits, lit_hits_in_scene}
 use Rattle.shot_core.proofs.shot.shoot.Goals as goal
@@ -167,3 +169,16 @@ pub returns-clause-segments : goal.returns-clause-segments
 returns-clause-segments g c =
     let sound : IsWoven (woven_of c.args.scene.now c.args.ray.now) = subst IsWoven c.in_ok-numbers.ensures.woven c.woven.ensures.sound in
     IfOk-weaker c.lit_by_all.result (λ v. v.items ≡ lit_of c.args.scene.now c.args.ray.now) (λ _. IsWoven (woven_of c.args.scene.now c.args.ray.now)) (λ v h. sound) (returns-clause-lit g c)
+
+pub returns-then-is_empty-clause-points : goal.returns-then-is_empty-clause-points
+returns-then-is_empty-clause-points g c =
+    let sound : IsWoven (woven_of c.args.scene.now c.args.ray.now) = subst IsWoven c.in_ok-numbers.ensures.woven c.woven.ensures.sound in
+    subst (λ (ls : List Lit). IsTrueOfPoints c.args.scene.now c.args.ray.now (stretches_of ls)) (sym (returns-then-is_empty-clause-lit g c))
+    (true_of_points c.args.scene.now c.args.ray.now c.in_ok-numbers.ensures.sound c.in_ok-numbers.ensures.leaves sound)
+
+pub returns-clause-points : goal.returns-clause-points
+returns-clause-points g c =
+    let sound : IsWoven (woven_of c.args.scene.now c.args.ray.now) = subst IsWoven c.in_ok-numbers.ensures.woven c.woven.ensures.sound in
+    IfOk-weaker c.lit_by_all.result (λ v. v.items ≡ lit_of c.args.scene.now c.args.ray.now) (λ v. IsTrueOfPoints c.args.scene.now c.args.ray.now (stretches_of v.items))
+    (λ v h. subst (λ (ls : List Lit). IsTrueOfPoints c.args.scene.now c.args.ray.now (stretches_of ls)) (sym h)
+    (true_of_points c.args.scene.now c.args.ray.now c.in_ok-numbers.ensures.sound c.in_ok-numbers.ensures.leaves sound)) (returns-clause-lit g c)

@@ -1,8 +1,9 @@
 use Rattle.std.proofs.Common.{◌∙◌, sym, subst, Option}
 use Rattle.surd_order.specs.declared.position.Seg.{Seg}
-use Rattle.solid_set.specs.Laws.{TellsInside}
-use Rattle.solid_set.specs.Hits.{TellsByHits}
-use Rattle.solid_set.proofs.HitLaws.{few_hits, tells_by_hits}
+use Rattle.std.specs.Option.{ForSome}
+use Rattle.solid_set.specs.Laws.{TellsInside, IsSegInRange}
+use Rattle.solid_set.specs.HitPlaces.{TellsByHitPlaces}
+use Rattle.solid_set.proofs.HitPlaceLaws.{few_hits, tells_by_hits}
 use Rattle.solid_set.proofs.SurfaceLaws.{segment_tells, segment_sound}
 use Rattle.solid_set.proofs.placed.Placed.segment.Goals as goal
 
@@ -15,5 +16,6 @@ returns-clause-sound c = λ seg is. segment_sound c.args.self.now.surface c.args
 
 pub returns-clause-hits : goal.returns-clause-hits
 returns-clause-hits c =
-    subst (λ (o : Option Seg). TellsByHits c.args.self.now.surface c.args.ray.now o) (sym c.cut.ensures.value)
-    (tells_by_hits c.args.self.now.surface c.args.ray.now (few_hits c.args.self.now.surface c.args.self.now.bounds c.args.ray.now c.args.self.now.made))
+    subst (λ (o : Option Seg). TellsByHitPlaces c.args.self.now.surface c.args.ray.now o) (sym c.cut.ensures.value)
+    (tells_by_hits c.args.self.now.surface c.args.ray.now (few_hits c.args.self.now.surface c.args.self.now.bounds c.args.ray.now c.args.self.now.made)
+    (subst (λ (o : Option Seg). ForSome o IsSegInRange) c.cut.ensures.value c.cut.ensures.range))

@@ -1,5 +1,7 @@
--- Where a ray hits a surface, and which of the points between these places lie inside.
-use Rattle.std.specs.Prelude.{◌↔◌, ◌⊎◌, ◌≤◌, ℤ, pos, negsuc, true, false, List, [], ◌∷◌, ◌++◌, length, Option, Some, None, IfSome}
+-- The places at which a ray may come into a surface or leave it, and which of the points between them lie inside. A hit place is a
+-- place on the ray, and no hit in the sense of an instance and a face.
+use Rattle.std.specs.Prelude.{◌↔◌, ◌⊎◌, ◌≤◌, ℤ, pos, negsuc, true, false, List, [], ◌∷◌, ◌++◌, length, Option, Some, None}
+use Rattle.std.specs.Option.{ForSome}
 use Rattle.lattice_core.specs.declared.ray.Ray.{Ray}
 use Rattle.lattice_core.specs.Rays.{IsOnRay}
 use Rattle.plane_geom.specs.declared.plane.Plane.{Plane}
@@ -13,27 +15,29 @@ use Rattle.surd_order.specs.declared.position.Seg.{Seg}
 use Rattle.surd_order.specs.Order.{Precedes, SamePlace}
 use Rattle.solid_set.specs.declared.surface.Surface.{Surface}
 use Rattle.solid_set.specs.declared.surface.Surface.TheVariants.{Planes, HalfSpace, Ball}
+use Rattle.solid_set.specs.Laws.{IsSound}
 use Rattle.solid_set.specs.Segments.{ray_start, ray_end}
 use Rattle.solid_set.specs.Surfaces.{IsInside}
 
--- where a plane is crossed
+-- where the line of a ray crosses a plane; one that holds or misses the ray is crossed nowhere
 abbrev pub crossing_places : Crossing → List Pos
 crossing_places (Enters p q) = Frac p q ∷ []
 crossing_places (Leaves p q) = Frac p q ∷ []
 crossing_places Holds = []
 crossing_places Misses = []
 
--- where the planes of faces are; a degenerate face has none
+-- where it crosses the planes of faces; a degenerate face has none
 abbrev pub side_places : Ray → List (Option Plane) → List Pos
 side_places ray [] = []
 side_places ray (side ∷ sides) = crossing_places (side_crossing side ray) ++ side_places ray sides
 
--- a - √k and a + √k, where k is not negative
+-- a - √k and a + √k, where k is not negative; for 0 both are at a
 abbrev pub root_places : ℤ → ℤ → List Pos
 root_places a (pos k) = Surd a false k ∷ Surd a true k ∷ []
 root_places a (negsuc k) = []
 
--- where a ray crosses the planes of a surface, or the ball, also where it only touches it
+-- where the line of a ray crosses the planes of a surface or the ball, also where it only touches the ball, and also before the ray
+-- begins and after it ends
 abbrev pub surface_places : Surface → Ray → List Pos
 surface_places (Planes sides) ray = side_places ray sides
 surface_places (HalfSpace plane) ray = side_places ray (Some plane ∷ [])
@@ -48,23 +52,25 @@ abbrev pub IsAtOneOf : List Pos → Pos → Type 0
 IsAtOneOf [] x = ⊥
 IsAtOneOf (y ∷ ys) x = SamePlace x y ⊎ IsAtOneOf ys x
 
--- a position is a hit of a surface on a ray
-abbrev pub IsHit : Surface → Ray → Pos → Type 0
-IsHit surface ray x = IsAtOneOf (hit_places surface ray) x
+-- a position is at a hit place of a surface
+abbrev pub IsHitPlace : Surface → Ray → Pos → Type 0
+IsHitPlace surface ray x = IsAtOneOf (hit_places surface ray) x
 
 -- a position lies strictly between the ends of a segment, where there is one
-abbrev pub LiesWithin : Option Seg → Pos → Type 0
-LiesWithin None x = ⊥
-LiesWithin (Some seg) x = Precedes seg.start x × Precedes x seg.end
+abbrev pub LiesBetweenEnds : Option Seg → Pos → Type 0
+LiesBetweenEnds None x = ⊥
+LiesBetweenEnds (Some seg) x = Precedes seg.start x × Precedes x seg.end
 
--- both ends of a segment are hits
-pub record EndsAreHits (surface : Surface) (ray : Ray) (seg : Seg) : Type 0 where
-  pub start : IsHit surface ray seg.start
-  pub end : IsHit surface ray seg.end
+-- both ends of a segment are at hit places
+pub record EndsAreHitPlaces (surface : Surface) (ray : Ray) (seg : Seg) : Type 0 where
+  pub start : IsHitPlace surface ray seg.start
+  pub end : IsHitPlace surface ray seg.end
 
--- there are at most 14 places of hits, both ends of the segment are such, and a fraction of the ray that is none lies inside
--- exactly where it lies strictly between the ends
-pub record TellsByHits (surface : Surface) (ray : Ray) (answer : Option Seg) : Type 0 where
+-- the list of hit places is no longer than 14, repeated ones counted; the segment lies on the ray and starts before it ends, both
+-- ends are at hit places, and a fraction of the ray that is at none lies inside exactly where it lies strictly between the ends.
+-- So this is all that need be known of a kind of solid
+pub record TellsByHitPlaces (surface : Surface) (ray : Ray) (answer : Option Seg) : Type 0 where
   pub few : length (hit_places surface ray) ≤ 14
-  pub ends : IfSome answer (EndsAreHits surface ray)
-  pub exact : (p q : ℤ) → IsOnRay p q → ¬ (IsHit surface ray (Frac p q)) → IsInside surface ray p q ↔ LiesWithin answer (Frac p q)
+  pub sound : ForSome answer IsSound
+  pub ends : ForSome answer (EndsAreHitPlaces surface ray)
+  pub exact : (p q : ℤ) → IsOnRay p q → ¬ (IsHitPlace surface ray (Frac p q)) → IsInside surface ray p q ↔ LiesBetweenEnds answer (Frac p q)

@@ -1,9 +1,10 @@
--- What the hits of a surface tell of the points between them.
+-- What the hit places of a surface tell of the points between them.
 use Rattle.std.proofs.Common.{◌≡◌, ◌↔◌, ◌≤◌, ◌+◌, ℕ, zero, suc, ℤ, pos, negsuc, ◌-ℤ◌, ◌*ℤ◌, ◌<ℤ◌, ◌≤ℤ◌, Bool, true, false, cond, List, [], ◌∷◌, ◌++◌, length, Option, Some, None, IfSome, refl, sym, subst, inl, inr, arith}
 use Rattle.std.proofs.lemmas.Int.{ints}
 use Rattle.std.proofs.lemmas.List.{length-append}
 use native.Mathlib.Bridge.{le_prop}
 use Rattle.std.proofs.Math.Logic.{∥∥₁_elim}
+use Rattle.std.specs.Option.{ForSome}
 use Rattle.std.specs.Ordering.{is_lt}
 use Rattle.std.specs.declared.cmp.Ordering.{Ordering}
 use Rattle.std.specs.declared.cmp.Ordering.TheVariants.{Less}
@@ -39,14 +40,14 @@ use Rattle.solid_set.specs.declared.solid.Solid.TheVariants as solids
 use Rattle.solid_set.specs.declared.surface.Surface.{Surface}
 use Rattle.solid_set.specs.declared.surface.Surface.TheVariants.{Planes, HalfSpace, Ball}
 use Rattle.solid_set.specs.Crossings.{entered, left, entering_from, leaving_from}
-use Rattle.solid_set.specs.Hits.{crossing_places, side_places, root_places, surface_places, hit_places, IsAtOneOf, IsHit, LiesWithin, EndsAreHits, TellsByHits}
-use Rattle.solid_set.specs.Laws.{TellsInside}
+use Rattle.solid_set.specs.HitPlaces.{crossing_places, side_places, root_places, surface_places, hit_places, IsAtOneOf, IsHitPlace, LiesBetweenEnds, EndsAreHitPlaces, TellsByHitPlaces}
+use Rattle.solid_set.specs.Laws.{TellsInside, IsSegInRange}
 use Rattle.solid_set.specs.Segments.{ray_start, ray_end, places_of, face_at, start_of, end_of, segment_between, segment_of, entering, leaving, is_missed, chord_end, is_no_chord}
 use Rattle.solid_set.specs.Surfaces.{IsInside, IsMade, surface_of, placed_sides, plane_of_half}
 use Rattle.solid_set.proofs.BallLaws.{near_not_before}
 use Rattle.solid_set.proofs.Foremost.{Has}
 use Rattle.solid_set.proofs.InsideLaws.{NoneAfter, NoneBefore, AreEnds, missed_all, on_ray_within}
-use Rattle.solid_set.proofs.SurfaceLaws.{surface_cut, enter_places, leave_places, ends_of, segment_tells}
+use Rattle.solid_set.proofs.SurfaceLaws.{surface_cut, enter_places, leave_places, ends_of, segment_tells, segment_sound}
 
 -- a position at the place of one of a list
 pub at_one : (ys : List Pos) (x y : Pos) → Has ys y → SamePlace x y → IsAtOneOf ys x
@@ -120,7 +121,7 @@ record IsStrict (es ls : List Crossed) (f : Pos) : Type 0 where
   after : Precedes (start_of es) f
   before : Precedes f (end_of ls)
 
-strict : (surface : Surface) (ray : Ray) → is_missed surface ray ≡ false → (p q : ℤ) → IsOnRay p q → ¬ (IsHit surface ray (Frac p q)) → IsInside surface ray p q
+strict : (surface : Surface) (ray : Ray) → is_missed surface ray ≡ false → (p q : ℤ) → IsOnRay p q → ¬ (IsHitPlace surface ray (Frac p q)) → IsInside surface ray p q
     → AreEnds (entering surface ray) (leaving surface ray) (start_of (entering surface ray)) (end_of (leaving surface ray)) → IsStrict (entering surface ray) (leaving surface ray) (Frac p q)
 strict surface ray e p q on no_hit inside ends =
     let es : List Crossed = entering surface ray in
@@ -139,11 +140,11 @@ strict surface ray e p q on no_hit inside ends =
 abbrev found_seg : List Crossed → List Crossed → Seg
 found_seg es ls = record { start = spelled (start_of es); start_face = face_at (start_of es) es; end = spelled (end_of ls); end_face = face_at (end_of ls) ls }
 
-within_ends : (es ls : List Crossed) (f : Pos) → AreEnds es ls (start_of es) (end_of ls) → IsPlace f → IsStrict es ls f → LiesWithin (segment_between es ls) f
+within_ends : (es ls : List Crossed) (f : Pos) → AreEnds es ls (start_of es) (end_of ls) → IsPlace f → IsStrict es ls f → LiesBetweenEnds (segment_between es ls) f
 within_ends es ls f ends place h =
     let order : place_cmp (start_of es) (end_of ls) ≡ Less =
     (places_are_compared (start_of es) (end_of ls) ends.start_place ends.end_place).less.1 (transitive (start_of es) f (end_of ls) place ends.end_place h.after h.before) in
-    subst (λ (r : Ordering). LiesWithin (cond (is_lt r) (Some (found_seg es ls)) None) f) (sym order) (
+    subst (λ (r : Ordering). LiesBetweenEnds (cond (is_lt r) (Some (found_seg es ls)) None) f) (sym order) (
       is_kept_by_same_place.before (spelled (start_of es)) (start_of es) f (is_one_spelling.place (start_of es) ends.start_place) h.after,
       is_kept_by_same_place.after f (end_of ls) (spelled (end_of ls)) h.before (same_symm _ _ (is_one_spelling.place (end_of ls) ends.end_place)),
     )
@@ -180,37 +181,37 @@ touched a (pos zero) p q some e near = inl (at_touch a p q some near)
 touched a (pos (suc k)) p q some e near = absurd (let f : false ≡ true = e in cc)
 touched a (negsuc k) p q some e near = absurd (not_near a k p q some near)
 
-missed_hit : (surface : Surface) (ray : Ray) → is_missed surface ray ≡ true → (p q : ℤ) → pos 0 <ℤ q → IsInside surface ray p q → IsHit surface ray (Frac p q)
+missed_hit : (surface : Surface) (ray : Ray) → is_missed surface ray ≡ true → (p q : ℤ) → pos 0 <ℤ q → IsInside surface ray p q → IsHitPlace surface ray (Frac p q)
 missed_hit (Planes sides) ray e p q some inside = absurd (missed_all ray sides e p q some inside)
 missed_hit (HalfSpace plane) ray e p q some inside = absurd (missed_all ray (Some plane ∷ []) e p q some (inside, tt))
 missed_hit (Ball c r) ray e p q some inside = inr (inr (touched (nearest_on c ray) (half_chord_squared c r ray) p q some e ((held_near c r ray p q).0 inside)))
 
 -- what is inside and no hit lies within the segment
-into_by : (surface : Surface) (ray : Ray) (p q : ℤ) → IsOnRay p q → ¬ (IsHit surface ray (Frac p q)) → IsInside surface ray p q → (missed : Bool) → is_missed surface ray ≡ missed
-    → LiesWithin (cond missed None (segment_between (entering surface ray) (leaving surface ray))) (Frac p q)
+into_by : (surface : Surface) (ray : Ray) (p q : ℤ) → IsOnRay p q → ¬ (IsHitPlace surface ray (Frac p q)) → IsInside surface ray p q → (missed : Bool) → is_missed surface ray ≡ missed
+    → LiesBetweenEnds (cond missed None (segment_between (entering surface ray) (leaving surface ray))) (Frac p q)
 into_by surface ray p q on no_hit inside true e = absurd (no_hit (missed_hit surface ray e p q on.positive inside))
 into_by surface ray p q on no_hit inside false e =
     let ends = ends_of (entering surface ray) (leaving surface ray) (enter_places surface ray) (leave_places surface ray) in
     within_ends (entering surface ray) (leaving surface ray) (Frac p q) ends on.positive (strict surface ray e p q on no_hit inside ends)
 
 -- and what lies within it is inside
-out_of : (surface : Surface) (ray : Ray) (o : Option Seg) (p q : ℤ) → TellsInside surface ray o → pos 0 <ℤ q → LiesWithin o (Frac p q) → IsInside surface ray p q
+out_of : (surface : Surface) (ray : Ray) (o : Option Seg) (p q : ℤ) → TellsInside surface ray o → pos 0 <ℤ q → LiesBetweenEnds o (Frac p q) → IsInside surface ray p q
 out_of surface ray None p q tells some within = absurd within
 out_of surface ray (Some seg) p q tells some within = tells.between p q some within.0 within.1
 
 -- the ends of the segment are hits
-spelled_hit : (surface : Surface) (ray : Ray) (x : Pos) → IsPlace x → Has (hit_places surface ray) x → IsHit surface ray (spelled x)
+spelled_hit : (surface : Surface) (ray : Ray) (x : Pos) → IsPlace x → Has (hit_places surface ray) x → IsHitPlace surface ray (spelled x)
 spelled_hit surface ray x place has = at_one (hit_places surface ray) (spelled x) x has (is_one_spelling.place x place)
 
 ends_hit : (surface : Surface) (ray : Ray) (order : Bool) → AreEnds (entering surface ray) (leaving surface ray) (start_of (entering surface ray)) (end_of (leaving surface ray))
-    → IfSome (cond order (Some (found_seg (entering surface ray) (leaving surface ray))) None) (EndsAreHits surface ray)
+    → IfSome (cond order (Some (found_seg (entering surface ray) (leaving surface ray))) None) (EndsAreHitPlaces surface ray)
 ends_hit surface ray true ends = record {
   start = spelled_hit surface ray (start_of (entering surface ray)) ends.start_place (start_among surface ray (start_of (entering surface ray)) ends.start_among);
   end = spelled_hit surface ray (end_of (leaving surface ray)) ends.end_place (end_among surface ray (end_of (leaving surface ray)) ends.end_among);
 }
 ends_hit surface ray false ends = tt
 
-ends_by : (surface : Surface) (ray : Ray) (missed : Bool) → IfSome (cond missed None (segment_between (entering surface ray) (leaving surface ray))) (EndsAreHits surface ray)
+ends_by : (surface : Surface) (ray : Ray) (missed : Bool) → IfSome (cond missed None (segment_between (entering surface ray) (leaving surface ray))) (EndsAreHitPlaces surface ray)
 ends_by surface ray true = tt
 ends_by surface ray false =
     ends_hit surface ray (is_lt (place_cmp (start_of (entering surface ray)) (end_of (leaving surface ray))))
@@ -246,14 +247,23 @@ few_made surface bounds ray made = subst (λ (s : Surface). length (hit_places s
 pub few_hits : (surface : Surface) (bounds : Box3) (ray : Ray) → ∥ IsMade surface bounds ∥₁ → length (hit_places surface ray) ≤ 14
 few_hits surface bounds ray made = ∥∥₁_elim made (le_prop) (λ (m : IsMade surface bounds). few_made surface bounds ray m)
 
-pub ends_are_hits : (surface : Surface) (ray : Ray) → IfSome (segment_of surface ray) (EndsAreHits surface ray)
-ends_are_hits surface ray = ends_by surface ray (is_missed surface ray)
+some_for : {X : Type 0} (P : X → Type 0) (o : Option X) → IfSome o P → ForSome o P
+some_for P None h = λ x is. absurd (let e : None ≡ Some x = is in cc)
+some_for P (Some y) h = λ x is. let same : y ≡ x = cc in subst P same h
 
-pub inside_exactly : (surface : Surface) (ray : Ray) (p q : ℤ) → IsOnRay p q → ¬ (IsHit surface ray (Frac p q)) → IsInside surface ray p q ↔ LiesWithin (segment_of surface ray) (Frac p q)
+pub ends_are_hits : (surface : Surface) (ray : Ray) → ForSome (segment_of surface ray) (EndsAreHitPlaces surface ray)
+ends_are_hits surface ray = some_for (EndsAreHitPlaces surface ray) (segment_of surface ray) (ends_by surface ray (is_missed surface ray))
+
+pub inside_exactly : (surface : Surface) (ray : Ray) (p q : ℤ) → IsOnRay p q → ¬ (IsHitPlace surface ray (Frac p q)) → IsInside surface ray p q ↔ LiesBetweenEnds (segment_of surface ray) (Frac p q)
 inside_exactly surface ray p q on no_hit = (
   λ inside. into_by surface ray p q on no_hit inside (is_missed surface ray) refl,
   λ within. out_of surface ray (segment_of surface ray) p q (segment_tells surface ray) on.positive within,
 )
 
-pub tells_by_hits : (surface : Surface) (ray : Ray) → length (hit_places surface ray) ≤ 14 → TellsByHits surface ray (segment_of surface ray)
-tells_by_hits surface ray few = record { few = few; ends = ends_are_hits surface ray; exact = inside_exactly surface ray }
+pub tells_by_hits : (surface : Surface) (ray : Ray) → length (hit_places surface ray) ≤ 14 → ForSome (segment_of surface ray) IsSegInRange → TellsByHitPlaces surface ray (segment_of surface ray)
+tells_by_hits surface ray few range = record {
+  few = few;
+  sound = λ seg is. segment_sound surface ray seg is (range seg is);
+  ends = ends_are_hits surface ray;
+  exact = inside_exactly surface ray;
+}

@@ -1,5 +1,5 @@
 -- Two lists of stretches that have the same regions at all fractions of a ray but some are one list.
-use Rattle.std.proofs.Common.{◌≡◌, ◌≢◌, ◌⊎◌, ℕ, ℤ, pos, ◌<ℤ◌, List, [], ◌∷◌, ap, sym, ◌∙◌, subst, refl, inl, inr, arith}
+use Rattle.std.proofs.Common.{◌≡◌, ◌⊎◌, ℕ, ℤ, pos, ◌<ℤ◌, List, [], ◌∷◌, ap, sym, ◌∙◌, subst, refl, inl, inr, arith}
 use Rattle.std.proofs.lemmas.Int.{ints}
 use Rattle.lattice_core.specs.Rays.{IsOnRay}
 use Rattle.surd_order.specs.declared.position.Pos.{Pos}
@@ -127,6 +127,9 @@ pick avoided x y z places place place_y place_z begun not_ended not_ended_z to_y
       }
 ]
 
+abbrev made : ℕ → Pos → Pos → Stretch
+made n start end = record { region = n; start = start; end = end }
+
 module _ (avoided : List Pos) (places : ArePlaces avoided) where
   -- a list that has something is not given by one that has nothing
   not_empty : (s : Stretch) (ss : List Stretch) → AreGood (s ∷ ss) → ¬ (Gives avoided (s ∷ ss) [])
@@ -196,7 +199,7 @@ module _ (avoided : List Pos) (places : ArePlaces avoided) where
       ]
 
   stretch_same : (s t : Stretch) → s.region ≡ t.region → s.start ≡ t.start → s.end ≡ t.end → s ≡ t
-  stretch_same s t e f g = cc
+  stretch_same s t e f g = ap (λ (n : ℕ). made n s.start s.end) e ∙ ap (λ (x : Pos). made t.region x s.end) f ∙ ap (λ (x : Pos). made t.region t.start x) g
 
   heads_same : (s t : Stretch) (ss ts : List Stretch) → AreGood (s ∷ ss) → AreGood (t ∷ ts) → Gives avoided (s ∷ ss) (t ∷ ts) → Gives avoided (t ∷ ts) (s ∷ ss) → s ≡ t
   heads_same s t ss ts good good' gives back =

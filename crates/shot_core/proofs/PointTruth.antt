@@ -1,35 +1,33 @@
 -- The partitions of a ray are the one list of stretches that tells what lies at its points.
-use Rattle.std.proofs.Common.{◌≡◌, ◌⊎◌, ◌<◌, ℕ, zero, suc, ℤ, pos, negsuc, List, [], ◌∷◌, ◌++◌, length, map, flat_map, get_or, Option, Some, None, All, AllPairs, Any, ap, sym, subst, ◌∙◌, refl, inl, inr, arith}
+use Rattle.std.proofs.Common.{◌≡◌, ◌<◌, ℕ, zero, suc, ℤ, pos, negsuc, List, [], ◌∷◌, ◌++◌, length, flat_map, get_or, Option, Some, None, All, AllPairs, ap, sym, subst, refl, inl, inr, arith}
 use Rattle.std.proofs.lemmas.Int.{ints}
 use Rattle.std.proofs.lemmas.List.{length-map}
 use Rattle.std.proofs.lemmas.List.Elements.{All-map, All-weaker}
 use Rattle.lattice_core.specs.declared.ray.Ray.{Ray}
-use Rattle.lattice_core.specs.Rays.{IsOnRay}
 use Rattle.plane_geom.specs.declared.plane.Plane.{Plane}
 use Rattle.plane_geom.specs.declared.plane.Crossing.{Crossing}
 use Rattle.plane_geom.specs.declared.plane.Crossing.TheVariants.{Enters, Leaves, Holds, Misses}
-use Rattle.plane_geom.specs.Crossings.{crossing_of, side_crossing}
+use Rattle.plane_geom.specs.Crossings.{crossing_of}
 use Rattle.plane_geom.specs.Planes.{IsCrossing}
 use Rattle.plane_geom.proofs.Unique.{crossing_is}
 use Rattle.prim_sphere.specs.Spheres.{nearest_on, half_chord_squared}
 use Rattle.surd_order.specs.declared.position.Pos.{Pos}
-use Rattle.surd_order.specs.declared.position.Pos.TheVariants.{Frac, Surd}
+use Rattle.surd_order.specs.declared.position.Pos.TheVariants.{Frac}
 use Rattle.surd_order.specs.Order.{Precedes, SamePlace, IsPlace}
 use Rattle.surd_order.proofs.LawProofs.{outcome}
-use Rattle.surd_order.proofs.OrderLaws.{asymmetric, same_refl, same_symm}
+use Rattle.surd_order.proofs.OrderLaws.{asymmetric, same_symm}
 use Rattle.solid_set.specs.declared.surface.Surface.{Surface}
 use Rattle.solid_set.specs.declared.surface.Surface.TheVariants.{Planes, HalfSpace, Ball}
 use Rattle.solid_set.specs.HitPlaces.{crossing_places, side_places, root_places, surface_places, IsAtOneOf}
-use Rattle.bool_weave.specs.Cuts.{IsWoven}
-use Rattle.bool_weave.proofs.Sorted.{Has, has_from_contains, contains_from_has}
+use Rattle.bool_weave.proofs.Sorted.{Has, contains_from_has}
 use Rattle.overlap_list.specs.declared.partition.Partition.{Partition}
 use Rattle.overlap_list.specs.Laws.{IsPartOfRay, IsWonPart, LiesBefore}
 use Rattle.overlap_list.specs.Partitions.{partitions_of}
 use Rattle.overlap_list.proofs.Parts.{partitions_are_won}
 use Rattle.shot_core.specs.declared.shot.Lit.{Lit}
 use Rattle.shot_core.specs.Laws.{part_of, parts_of}
-use Rattle.shot_core.specs.Points.{ray_places, LiesAt, Stretch, stretch_of, stretches_of, HasPosition, HasRegionAt, TellsPoints, IsStretch, EndsBefore, AreStretches, PartitionsTellPoints}
-use Rattle.shot_core.specs.Regions.{Instance, Region, HaveInstances, instances_of}
+use Rattle.shot_core.specs.Points.{ray_places, Stretch, stretch_of, stretches_of, HasPosition, HasRegionAt, TellsPoints, IsStretch, EndsBefore, AreStretches, PartitionsTellPoints}
+use Rattle.shot_core.specs.Regions.{Instance, Region, instances_of}
 use Rattle.shot_core.specs.Shots.{woven_of, claims_on, lit_by, lit_of}
 use Rattle.shot_core.specs.Steps.{no_region}
 use Rattle.shot_core.proofs.Claiming.{claims_length}
@@ -96,12 +94,6 @@ one_around : (ss : List Stretch) (n : ℕ) (x : Pos) → HasAround ss n x → (s
 one_around [] n x around = absurd around
 one_around (t ∷ ts) n x around = elim around [ inl here ↦ (t, inl refl, here) | inr more ↦ let s = one_around ts n x more in (s.0, inr s.1, s.2) ]
 
-behind : (x y : Pos) → IsPlace x → IsPlace y → ¬ (Precedes y x) → ¬ (SamePlace y x) → Precedes x y
-behind x y place place' not_before not_same = elim (outcome x y place place') [
-  | inl before ↦ before
-  | inr rest ↦ elim rest [ inl same ↦ absurd (not_same (same_symm x y same)) | inr after ↦ absurd (not_before after) ]
-]
-
 has_around : (ss : List Stretch) → ((s : Stretch) → Has ss s → IsStretch s) → (n : ℕ) (x : Pos) → IsPlace x → ¬ (IsAtOneOf (ends_of ss) x) → HasRegionAt ss n x → HasAround ss n x
 has_around ss each n x place apart any =
     let s = any_to (λ (s : Stretch). (s.region ≡ n) × HasPosition s x) ss any in
@@ -145,15 +137,15 @@ module _ (regions : List Region) (ray : Ray) (ss ts : List Stretch) (ordered : A
 
   gives : TellsPoints regions ray ss → TellsPoints regions ray ts → Gives avoided ss ts
   gives tells tells' p q n on apart around =
-      let no_hit = λ at. apart (at_left (ray_places regions ray) (ends_of ss ++ ends_of ts) (Frac p q) at) in
-      let apart_ts = λ at. apart (at_right (ray_places regions ray) (ends_of ss ++ ends_of ts) (Frac p q) (at_right (ends_of ss) (ends_of ts) (Frac p q) at)) in
+      let no_hit : ¬ (IsAtOneOf (ray_places regions ray) (Frac p q)) = λ at. apart (at_left (ray_places regions ray) (ends_of ss ++ ends_of ts) (Frac p q) at) in
+      let apart_ts : ¬ (IsAtOneOf (ends_of ts) (Frac p q)) = λ at. apart (at_right (ray_places regions ray) (ends_of ss ++ ends_of ts) (Frac p q) (at_right (ends_of ss) (ends_of ts) (Frac p q) at)) in
       has_around ts (each_of ts ordered'.each) n (Frac p q) on.positive apart_ts
       ((tells' p q n on no_hit).1 ((tells p q n on no_hit).0 (around_has ss (each_of ss ordered.each) n (Frac p q) on.positive around)))
 
   gives_back : TellsPoints regions ray ss → TellsPoints regions ray ts → Gives avoided ts ss
   gives_back tells tells' p q n on apart around =
-      let no_hit = λ at. apart (at_left (ray_places regions ray) (ends_of ss ++ ends_of ts) (Frac p q) at) in
-      let apart_ss = λ at. apart (at_right (ray_places regions ray) (ends_of ss ++ ends_of ts) (Frac p q) (at_left (ends_of ss) (ends_of ts) (Frac p q) at)) in
+      let no_hit : ¬ (IsAtOneOf (ray_places regions ray) (Frac p q)) = λ at. apart (at_left (ray_places regions ray) (ends_of ss ++ ends_of ts) (Frac p q) at) in
+      let apart_ss : ¬ (IsAtOneOf (ends_of ss) (Frac p q)) = λ at. apart (at_right (ray_places regions ray) (ends_of ss ++ ends_of ts) (Frac p q) (at_left (ends_of ss) (ends_of ts) (Frac p q) at)) in
       has_around ss (each_of ss ordered.each) n (Frac p q) on.positive apart_ss
       ((tells p q n on no_hit).1 ((tells' p q n on no_hit).0 (around_has ts (each_of ts ordered'.each) n (Frac p q) on.positive around)))
 

@@ -1,8 +1,7 @@
 -- At each point that is no hit the partitions of a ray have the region that lies there.
-use Rattle.std.proofs.Common.{◌≡◌, ◌≢◌, ◌↔◌, ◌⊎◌, ◌<◌, ◌≤◌, ◌+◌, ◌==◌, ℕ, zero, suc, ℤ, pos, ◌<ℤ◌, List, [], ◌∷◌, ◌++◌, length, map, flat_map, get_or, slice_get, Bool, true, false, ◌&&◌, ◌||◌, not, Option, Some, None, IfSome, All, Any, Contains, ap, sym, subst, ◌∙◌, refl, inl, inr, arith}
-use Rattle.std.proofs.lemmas.Bool.{cases_lt, cases_eq, cases_Bool, and_parts, and_from, or_cases, eq-eqb, true≢false}
-use Rattle.std.proofs.lemmas.Int.{ints}
-use Rattle.std.proofs.lemmas.List.{get_or-map, length-map}
+use Rattle.std.proofs.Common.{◌≡◌, ◌↔◌, ◌⊎◌, ◌<◌, ◌≤◌, ◌+◌, ◌-◌, ◌==◌, ℕ, zero, suc, ℤ, List, [], ◌∷◌, ◌++◌, length, map, flat_map, get_or, slice_get, Bool, true, false, ◌&&◌, ◌||◌, not, Option, Some, None, IfSome, All, Any, Contains, ap, sym, subst, ◌∙◌, refl, inl, inr, arith}
+use Rattle.std.proofs.lemmas.Bool.{cases_lt, cases_Bool, and_parts, and_from, or_cases, eq-eqb, true≢false}
+use Rattle.std.proofs.lemmas.List.{get_or-map}
 use Rattle.std.proofs.lemmas.Option.{slice_get_within, get_or_from_slice_get}
 use Rattle.lattice_core.specs.declared.ray.Ray.{Ray}
 use Rattle.lattice_core.specs.Rays.{IsOnRay}
@@ -28,7 +27,7 @@ use Rattle.bool_weave.proofs.Claimed.{intervals_length, intervals_at}
 use Rattle.bool_weave.proofs.Cutting.{place_from, end_of_some, start_is_place, end_is_place, segment_of as woven_segment, from_order, to_cuts}
 use Rattle.bool_weave.proofs.Kept.{two_cuts}
 use Rattle.bool_weave.proofs.LawProofs.{cuts_within, covers_by_places}
-use Rattle.bool_weave.proofs.Sorted.{Has, has_at, has_from_contains, contains_from_has, has_append_left, has_append_right}
+use Rattle.bool_weave.proofs.Sorted.{Has, has_at, contains_from_has, has_append_left, has_append_right}
 use Rattle.overlap_list.specs.declared.partition.Partition.{Partition}
 use Rattle.overlap_list.specs.declared.region.RegionClaims.{RegionClaims}
 use Rattle.overlap_list.specs.Hits.{cut_at}
@@ -38,13 +37,12 @@ use Rattle.overlap_list.specs.Winners.{claims_at}
 use Rattle.overlap_list.proofs.Covering.{claims_are_partitioned}
 use Rattle.overlap_list.proofs.Overlapping.{slice_at}
 use Rattle.overlap_list.proofs.Parts.{cut_before, cut_place, partitions_are_won}
-use Rattle.shot_core.specs.declared.shot.Lit.{Lit}
 use Rattle.shot_core.specs.Points.{ray_places, IsRayHitPlace, TreeHolds, IsInInstance, HoldsPoint, WinsAgainst, LiesAt, Stretch, stretch_of, stretches_of, HasPosition, HasRegionAt, TellsPoints}
-use Rattle.shot_core.specs.Regions.{Instance, RegionBody, Region, HasLeavesBelow, HaveInstances, has_air, instances_of}
-use Rattle.shot_core.specs.Shots.{woven_if, woven_from, woven_of, body_claims, claims_from, claims_on, lit_by, lit_of}
+use Rattle.shot_core.specs.Regions.{Instance, Region, HasLeavesBelow, HaveInstances, has_air, instances_of}
+use Rattle.shot_core.specs.Shots.{woven_if, woven_from, woven_of, body_claims, claims_on, lit_by, lit_of}
 use Rattle.shot_core.specs.Steps.{no_region}
 use Rattle.shot_core.proofs.Claiming.{claims_length, no_claims}
-use Rattle.shot_core.proofs.InBoxes.{IsSpanning, spanning, inside_covered, IsRegionAt, region_at, same_some}
+use Rattle.shot_core.proofs.InBoxes.{spanning, inside_covered, IsRegionAt, region_at, same_some}
 use Rattle.shot_core.proofs.ResultLaws.{rows_from}
 use Rattle.shot_core.proofs.Weaving.{has_woven}
 

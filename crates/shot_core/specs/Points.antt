@@ -2,7 +2,7 @@
 -- which region wins there. Of all lists of stretches that are in order, the partitions of the ray are the only one that has at each
 -- point what lies there, hit places aside, of which nothing is said. A hit place is a place on the ray, and no hit in the sense of an
 -- instance and a face.
-use Rattle.std.specs.Prelude.{◌≡◌, ◌≢◌, ◌↔◌, ◌⊎◌, ◌<◌, ℕ, ℤ, List, [], ◌∷◌, Option, Some, None, true, false, All, AllPairs, Any, Contains, length, map, flat_map, slice_get}
+use Rattle.std.specs.Prelude.{◌≡◌, ◌≢◌, ◌↔◌, ◌⊎◌, ◌<◌, ℕ, ℤ, List, ◌∷◌, Option, Some, None, true, false, All, AllPairs, Any, Contains, length, map, flat_map, slice_get}
 use Rattle.lattice_core.specs.declared.ray.Ray.{Ray}
 use Rattle.lattice_core.specs.Rays.{IsOnRay}
 use Rattle.surd_order.specs.declared.position.Pos.{Pos}

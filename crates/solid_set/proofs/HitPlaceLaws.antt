@@ -46,7 +46,7 @@ use Rattle.solid_set.specs.Segments.{ray_start, ray_end, places_of, face_at, sta
 use Rattle.solid_set.specs.Surfaces.{IsInside, IsMade, surface_of, placed_sides, plane_of_half}
 use Rattle.solid_set.proofs.BallLaws.{near_not_before}
 use Rattle.solid_set.proofs.Foremost.{Has}
-use Rattle.solid_set.proofs.InsideLaws.{NoneAfter, NoneBefore, AreEnds, missed_all, on_ray_within}
+use Rattle.solid_set.proofs.InsideLaws.{AreEnds, has_none_after, has_none_before, missed_all, on_ray_within}
 use Rattle.solid_set.proofs.SurfaceLaws.{surface_cut, enter_places, leave_places, ends_of, segment_tells, segment_sound}
 
 -- a position at the place of one of a list
@@ -101,16 +101,8 @@ start_among surface ray x has = elim has [ inl e ↦ inl e | inr more ↦ inr (i
 end_among : (surface : Surface) (ray : Ray) (x : Pos) → Has (ray_end ∷ places_of (leaving surface ray)) x → Has (hit_places surface ray) x
 end_among surface ray x has = elim has [ inl e ↦ inr (inl e) | inr more ↦ inr (inr (leaving_among surface ray x more)) ]
 
--- a fraction that is no hit lies behind the places that it does not precede, and before those that do not precede it
-has_none_after : (ys : List Pos) (x f : Pos) → Has ys x → NoneAfter ys f → ¬ (Precedes f x)
-has_none_after [] x f has none = absurd has
-has_none_after (y ∷ ys) x f has none = elim has [ inl e ↦ subst (λ (z : Pos). ¬ (Precedes f z)) e none.0 | inr more ↦ has_none_after ys x f more none.1 ]
-
-has_none_before : (ys : List Pos) (x f : Pos) → Has ys x → NoneBefore ys f → ¬ (Precedes x f)
-has_none_before [] x f has none = absurd has
-has_none_before (y ∷ ys) x f has none = elim has [ inl e ↦ subst (λ (z : Pos). ¬ (Precedes z f)) e none.0 | inr more ↦ has_none_before ys x f more none.1 ]
-
-behind : (x f : Pos) → IsPlace x → IsPlace f → ¬ (Precedes f x) → ¬ (SamePlace f x) → Precedes x f
+-- a place that neither precedes another one nor is at its place lies behind it
+pub behind : (x f : Pos) → IsPlace x → IsPlace f → ¬ (Precedes f x) → ¬ (SamePlace f x) → Precedes x f
 behind x f place place' not_before not_same = elim (outcome x f place place') [
   | inl before ↦ before
   | inr rest ↦ elim rest [ inl same ↦ absurd (not_same (same_symm x f same)) | inr after ↦ absurd (not_before after) ]

@@ -120,11 +120,11 @@ missed_all ray (Some plane ∷ sides) e p q some = λ h.
 not_ahead : (x y : Pos) → IsPlace x → IsPlace y → is_gt (place_cmp y x) ≡ false → ¬ (Precedes x y)
 not_ahead x y place place' e = λ before. let gt : place_cmp y x ≡ Greater = (places_are_compared y x place' place).greater.1 before in absurd (let f : true ≡ false = sym (ap is_gt gt) ∙ e in cc)
 
-has_none_after : (ys : List Pos) (x f : Pos) → Has ys x → NoneAfter ys f → ¬ (Precedes f x)
+pub has_none_after : (ys : List Pos) (x f : Pos) → Has ys x → NoneAfter ys f → ¬ (Precedes f x)
 has_none_after [] x f has none = absurd has
 has_none_after (y ∷ ys) x f has none = elim has [ inl e ↦ subst (λ (z : Pos). ¬ (Precedes f z)) e none.0 | inr more ↦ has_none_after ys x f more none.1 ]
 
-has_none_before : (ys : List Pos) (x f : Pos) → Has ys x → NoneBefore ys f → ¬ (Precedes x f)
+pub has_none_before : (ys : List Pos) (x f : Pos) → Has ys x → NoneBefore ys f → ¬ (Precedes x f)
 has_none_before [] x f has none = absurd has
 has_none_before (y ∷ ys) x f has none = elim has [ inl e ↦ subst (λ (z : Pos). ¬ (Precedes z f)) e none.0 | inr more ↦ has_none_before ys x f more none.1 ]
 

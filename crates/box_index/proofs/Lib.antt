@@ -4,3 +4,4 @@ mod Listing
 mod Touching
 mod Cutting
 mod Trees
+mod Parting

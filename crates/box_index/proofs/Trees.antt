@@ -9,7 +9,7 @@ use Rattle.lattice_core.specs.declared.boxes.Box3.{Box3}
 use Rattle.box_index.specs.declared.cut.Cut.{Cut}
 use Rattle.box_index.specs.declared.cut.Half.{Half}
 use Rattle.box_index.specs.declared.cut.Half.TheVariants.{Below, Above}
-use Rattle.box_index.specs.declared.grow.Part.TheVariants.{Here, Low, High}
+use Rattle.box_index.specs.declared.part.Part.TheVariants.{Here, Low, High}
 use Rattle.box_index.specs.declared.node.Node.{Node}
 use Rattle.box_index.specs.Cuts.{is_below, is_above, is_inside, does_reach}
 use Rattle.box_index.specs.Nodes.{box_at, is_touched, has_part, content, AreInside, AreSound, IsForked, AreNodesOf, IsLeft}

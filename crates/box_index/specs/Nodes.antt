@@ -4,8 +4,8 @@ use Rattle.std.specs.List.Sorted.{IsPermutation}
 use Rattle.lattice_core.specs.declared.boxes.Box3.{Box3}
 use Rattle.lattice_core.specs.declared.boxes.Box3.TheVariants.{Empty}
 use Rattle.box_index.specs.declared.cut.Cut.{Cut}
-use Rattle.box_index.specs.declared.grow.Part.{Part}
-use Rattle.box_index.specs.declared.grow.Part.TheVariants.{Here, Low, High}
+use Rattle.box_index.specs.declared.part.Part.{Part}
+use Rattle.box_index.specs.declared.part.Part.TheVariants.{Here, Low, High}
 use Rattle.box_index.specs.declared.cut.Half.{Half}
 use Rattle.box_index.specs.declared.node.Node.{Node}
 use Rattle.box_index.specs.Places.{places_where}

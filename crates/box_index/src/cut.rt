@@ -1,7 +1,7 @@
 //! Cuts of space across an axis.
 
 ghost use Rattle.std.specs.Prelude.{◌≡◌};
-ghost use Rattle.box_index.specs.Cuts.{extent_on, is_below, is_above, starts_below, ends_above, does_reach};
+ghost use Rattle.box_index.specs.Cuts.{extent_on, is_side_below, is_side_above, starts_below, ends_above, does_reach};
 
 use lattice_core::{Box3, Extent, Side};
 
@@ -41,29 +41,23 @@ pub(crate) fn extent_on(b: &Box3, axis: Axis) -> Option<Extent>
     }
 }
 
-/// Whether a box lies below a cut, without touching it.
-pub(crate) fn is_below(b: &Box3, cut: Cut) -> bool
-    ensures { result ≡ is_below b.now cut }
+/// Whether a side lies below a coordinate.
+pub(crate) fn is_side_below(side: Side, at: i64) -> bool
+    ensures { result ≡ is_side_below at side }
 {
-    match extent_on(b, cut.axis) {
-        Some(extent) => match extent.high {
-            Side::Open => false,
-            Side::At(high) => high < cut.at,
-        },
-        None => false,
+    match side {
+        Side::Open => false,
+        Side::At(end) => end < at,
     }
 }
 
-/// Whether a box lies above a cut, without touching it.
-pub(crate) fn is_above(b: &Box3, cut: Cut) -> bool
-    ensures { result ≡ is_above b.now cut }
+/// Whether a side lies above a coordinate.
+pub(crate) fn is_side_above(side: Side, at: i64) -> bool
+    ensures { result ≡ is_side_above at side }
 {
-    match extent_on(b, cut.axis) {
-        Some(extent) => match extent.low {
-            Side::Open => false,
-            Side::At(low) => low > cut.at,
-        },
-        None => false,
+    match side {
+        Side::Open => false,
+        Side::At(end) => end > at,
     }
 }
 

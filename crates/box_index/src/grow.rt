@@ -1,12 +1,13 @@
 //! The tree of cuts of some boxes.
 
-ghost use Rattle.std.specs.Prelude.{◌≡◌, ◌<◌, ◌^◌, ◌++◌, filter, length, IfOk, IfSome};
-ghost use Rattle.box_index.specs.Nodes.{has_part, IsForked, AreInside, AreNodesOf};
+ghost use Rattle.std.specs.Prelude.{◌≡◌, ◌<◌, ◌^◌, ◌++◌, length, IfOk, IfSome};
+ghost use Rattle.box_index.specs.Nodes.{IsForked, AreInside, AreNodesOf};
 ghost use Rattle.box_index.specs.Places.{places_where};
 ghost use Rattle.box_index.specs.Reaches.{has_points};
 
-use crate::cut::{Cut, Half, is_above, is_below};
+use crate::cut::{Cut, Half};
 use crate::node::Node;
+use crate::part::{Parts, divided};
 use crate::reach::has_points;
 use crate::spread::cut_for;
 use lattice_core::Box3;
@@ -19,47 +20,6 @@ const MOST_HERE: usize = 32;
 
 /// The greatest number of cuts from the root of a tree to a leaf.
 pub(crate) const MOST_CUTS: u32 = 16;
-
-/// Where a box lies by a cut: touched by it, or on one of its sides.
-#[derive(Clone, Copy, Debug, PartialEq, Eq)]
-pub(crate) enum Part {
-    Here,
-    Low,
-    High,
-}
-
-/// Whether the box at a place lies so.
-fn has_part(boxes: &[Box3], cut: Cut, part: Part, place: u32) -> bool
-    ensures { result ≡ has_part boxes.now cut part place }
-{
-    match boxes.get(place as usize) {
-        Some(b) => match part {
-            Part::Here => !is_below(b, cut) && !is_above(b, cut),
-            Part::Low => is_below(b, cut),
-            Part::High => !is_below(b, cut) && is_above(b, cut),
-        },
-        None => matches!(part, Part::Here),
-    }
-}
-
-/// The places of those boxes that lie so.
-fn part_of(
-    alloc: Global,
-    boxes: &[Box3],
-    places: &[u32],
-    cut: Cut,
-    part: Part,
-) -> Result<Vec<u32>, Memory>
-    ensures { IfOk result (λ v. v.items ≡ filter (has_part boxes.now cut part) places.now) }
-{
-    let mut chosen = Vec::new(alloc);
-    for place in places {
-        if has_part(boxes, cut, part, *place) {
-            chosen.push(*place)?;
-        }
-    }
-    Ok(chosen)
-}
 
 /// The nodes of one list, and behind them those of another.
 fn joined(mut nodes: Vec<Node>, more: Vec<Node>) -> Result<Vec<Node>, Memory>
@@ -108,12 +68,10 @@ pub(crate) fn grow(
     let Some(cut) = wanted_cut(boxes, &places, cuts) else {
         return forked(alloc, half, places, Vec::new(alloc));
     };
-    let here = part_of(alloc, boxes, &places, cut, Part::Here)?;
+    let Parts { here, low, high } = divided(alloc, boxes, &places, cut)?;
     if here.len() == places.len() {
         return forked(alloc, half, places, Vec::new(alloc));
     }
-    let low = part_of(alloc, boxes, &places, cut, Part::Low)?;
-    let high = part_of(alloc, boxes, &places, cut, Part::High)?;
     let low = grow(alloc, boxes, Half::Below(cut), low, cuts - 1)?;
     let high = grow(alloc, boxes, Half::Above(cut), high, cuts - 1)?;
     forked(alloc, half, here, joined(low, high)?)

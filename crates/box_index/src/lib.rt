@@ -5,6 +5,7 @@ mod cut;
 mod grow;
 mod index;
 mod node;
+mod part;
 mod reach;
 mod spread;
 

@@ -1,6 +1,6 @@
 //! Where to cut a group of boxes: across the axis on which their middles spread most, at the mean of the middles.
 
-use crate::cut::{Axis, Cut, extent_on};
+use crate::cut::{Axis, Cut};
 use lattice_core::{Box3, Extent, Side};
 
 /// The middles of some boxes along an axis, each doubled so that it is whole: how many they are, their sum, the least and the
@@ -23,11 +23,14 @@ impl Spread {
         }
     }
 
-    fn add(&mut self, middle: i128) {
-        self.count = self.count.saturating_add(1);
-        self.sum = self.sum.saturating_add(middle);
-        self.least = self.least.min(middle);
-        self.greatest = self.greatest.max(middle);
+    /// Takes in the middle of an extent, if it has one.
+    fn add(&mut self, extent: &Extent) {
+        if let Some(middle) = doubled_middle(extent) {
+            self.count = self.count.saturating_add(1);
+            self.sum = self.sum.saturating_add(middle);
+            self.least = self.least.min(middle);
+            self.greatest = self.greatest.max(middle);
+        }
     }
 
     fn width(&self) -> i128 {
@@ -42,33 +45,40 @@ impl Spread {
 }
 
 /// The doubled middle of an extent. One with an open side has none.
-fn doubled_middle(extent: Extent) -> Option<i128> {
+fn doubled_middle(extent: &Extent) -> Option<i128> {
     match (extent.low, extent.high) {
         (Side::At(low), Side::At(high)) => Some(i128::from(low) + i128::from(high)),
         _ => None,
     }
 }
 
-fn middle_at(boxes: &[Box3], place: u32, axis: Axis) -> Option<i128> {
-    let b = boxes.get(place as usize)?;
-    doubled_middle(extent_on(b, axis)?)
+/// The middles of some boxes along each axis.
+struct Spreads {
+    x: Spread,
+    y: Spread,
+    z: Spread,
 }
 
-fn spread_on(boxes: &[Box3], places: &[u32], axis: Axis) -> Spread {
-    let mut spread = Spread::new();
+/// The spreads of the boxes at some places.
+fn spreads_of(boxes: &[Box3], places: &[u32]) -> Spreads {
+    let mut spreads = Spreads {
+        x: Spread::new(),
+        y: Spread::new(),
+        z: Spread::new(),
+    };
     for place in places {
-        if let Some(middle) = middle_at(boxes, *place, axis) {
-            spread.add(middle);
+        if let Some(Box3::Span { x, y, z }) = boxes.get(*place as usize) {
+            spreads.x.add(x);
+            spreads.y.add(y);
+            spreads.z.add(z);
         }
     }
-    spread
+    spreads
 }
 
 /// A cut for some boxes of a list, if one of them has a middle.
 pub(crate) fn cut_for(boxes: &[Box3], places: &[u32]) -> Option<Cut> {
-    let x = spread_on(boxes, places, Axis::X);
-    let y = spread_on(boxes, places, Axis::Y);
-    let z = spread_on(boxes, places, Axis::Z);
+    let Spreads { x, y, z } = spreads_of(boxes, places);
     let (axis, spread) = if x.width() >= y.width() && x.width() >= z.width() {
         (Axis::X, x)
     } else if y.width() >= z.width() {

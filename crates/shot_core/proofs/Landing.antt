@@ -1,9 +1,7 @@
 -- A ray that misses the box of an instance has no segment in it.
-use Rattle.std.proofs.Common.{◌≡◌, ℤ, pos, ◌*ℤ◌, ◌<ℤ◌, ◌≤ℤ◌, Bool, true, false, cond, List, [], ◌∷◌, Option, Some, None, refl, ap, sym, subst, ◌∙◌, inl, inr, arith}
-use Rattle.std.proofs.lemmas.Cmp.{tied_itself}
+use Rattle.std.proofs.Common.{◌≡◌, ℤ, pos, ◌*ℤ◌, ◌<ℤ◌, ◌≤ℤ◌, Bool, true, false, cond, List, Option, Some, None, refl, ap, sym, subst, inl, inr, arith}
 use Rattle.std.proofs.lemmas.Int.{ints, by_lt_z}
-use Rattle.std.specs.Cmp.{IsTotalOrder}
-use Rattle.std.specs.Ordering.{is_lt, is_gt, ordering_reverse}
+use Rattle.std.specs.Ordering.{is_lt}
 use Rattle.std.specs.declared.cmp.Ordering.{Ordering}
 use Rattle.std.specs.declared.cmp.Ordering.TheVariants.{Less, Equal, Greater}
 use Rattle.lattice_core.specs.declared.limit.TheConstants.{FAR}
@@ -11,8 +9,6 @@ use Rattle.lattice_core.specs.declared.boxes.Box3.{Box3}
 use Rattle.lattice_core.specs.declared.ray.Ray.{Ray}
 use Rattle.lattice_core.specs.Boxes.{MeetsRay}
 use Rattle.lattice_core.specs.Rays.{IsOnRay}
-use Rattle.prim_sphere.specs.declared.chord.Chord.{Chord}
-use Rattle.prim_sphere.specs.Spheres.{chord_at}
 use Rattle.surd_order.specs.declared.position.Pos.{Pos}
 use Rattle.surd_order.specs.declared.position.Pos.TheVariants.{Frac, Surd}
 use Rattle.surd_order.specs.declared.position.Seg.{Seg}
@@ -26,15 +22,11 @@ use Rattle.surd_order.proofs.PlaceOrderLaws.{places_are_compared}
 use Rattle.surd_order.proofs.SpelledPlaces.{is_one_spelling}
 use Rattle.solid_set.specs.declared.crossed.Crossed.{Crossed}
 use Rattle.solid_set.specs.declared.surface.Surface.{Surface}
-use Rattle.solid_set.specs.declared.surface.Surface.TheVariants.{Planes, HalfSpace, Ball}
 use Rattle.solid_set.specs.Laws.{TellsInside, Encloses}
-use Rattle.solid_set.specs.Segments.{ray_start, ray_end, places_of, face_at, start_of, end_of, segment_between, segment_of, entering, leaving, is_missed, chord_end}
+use Rattle.solid_set.specs.Segments.{ray_start, ray_end, face_at, start_of, end_of, segment_between, segment_of, entering, leaving, is_missed}
 use Rattle.solid_set.specs.Surfaces.{HoldsInside}
-use Rattle.solid_set.proofs.Ranking.{turned_cmp, forwards, backwards}
-use Rattle.solid_set.proofs.Foremost.{IsForemost, none_moved, foremost_is}
-use Rattle.solid_set.proofs.SpanLaws.{ArePlaces, entering_places, leaving_places}
-use Rattle.solid_set.proofs.InsideLaws.{AreEnds, ends_are, not_preceding}
-use Rattle.solid_set.proofs.SurfaceLaws.{segment_tells}
+use Rattle.solid_set.proofs.InsideLaws.{AreEnds, not_preceding}
+use Rattle.solid_set.proofs.SurfaceLaws.{enter_places, leave_places, ends_of, segment_tells}
 use Rattle.solid_set.proofs.Between.{between_places}
 
 spelled_place : (x : Pos) → IsSpelled x → IsPlace x
@@ -58,40 +50,6 @@ not_ended y p q some not before =
       | inr beyond ↦ absurd (not beyond)
     ])
     (λ le. le)
-
--- the places of a surface's crossings are places
-chord_places : (o : Option Chord) (plus : Bool) → ArePlaces (chord_end o plus)
-chord_places None plus = record { each = λ x has. absurd has }
-chord_places (Some chord) plus = record { each = λ x has. elim has [ inl e ↦ subst IsPlace e tt | inr none ↦ absurd none ] }
-
-enter_places : (surface : Surface) (ray : Ray) → ArePlaces (entering surface ray)
-enter_places (Planes sides) ray = record { each = entering_places ray 1 sides }
-enter_places (HalfSpace plane) ray = record { each = entering_places ray 1 (Some plane ∷ []) }
-enter_places (Ball c r) ray = chord_places (chord_at c r ray) false
-
-leave_places : (surface : Surface) (ray : Ray) → ArePlaces (leaving surface ray)
-leave_places (Planes sides) ray = record { each = leaving_places ray 1 sides }
-leave_places (HalfSpace plane) ray = record { each = leaving_places ray 1 (Some plane ∷ []) }
-leave_places (Ball c r) ray = chord_places (chord_at c r ray) true
-
--- some place is foremost
-foremost_more : (R : Pos → Pos → Ordering) → IsTotalOrder R → (first y x : Pos) (ys : List Pos) → IsForemost R first ys x → (r : Ordering) → R y x ≡ r → (z : Pos) × IsForemost R first (y ∷ ys) z
-foremost_more R total first y x ys h Less e = (x, record { among = elim h.among [ inl same ↦ inl same | inr more ↦ inr (inr more) ]; ahead = (h.ahead.0, (ap is_gt e, h.ahead.1)) })
-foremost_more R total first y x ys h Equal e = (x, record { among = elim h.among [ inl same ↦ inl same | inr more ↦ inr (inr more) ]; ahead = (h.ahead.0, (ap is_gt e, h.ahead.1)) })
-foremost_more R total first y x ys h Greater e =
-    let back : R x y ≡ Less = total.antisymm x y ∙ ap ordering_reverse e in
-    let moved = none_moved R total x y (ap is_gt back) (first ∷ ys) h.ahead in
-    (y, record { among = inr (inl refl); ahead = (moved.0, (ap is_gt (tied_itself total y), moved.1)) })
-
-some_foremost : (R : Pos → Pos → Ordering) → IsTotalOrder R → (first : Pos) (rest : List Pos) → (x : Pos) × IsForemost R first rest x
-some_foremost R total first [] = (first, record { among = inl refl; ahead = (ap is_gt (tied_itself total first), tt) })
-some_foremost R total first (y ∷ ys) = let found = some_foremost R total first ys in foremost_more R total first y found.0 ys found.1 (R y found.0) refl
-
-ends_of : (es ls : List Crossed) → ArePlaces es → ArePlaces ls → AreEnds es ls (start_of es) (end_of ls)
-ends_of es ls places places' =
-    let first = some_foremost place_cmp forwards.total ray_start (places_of es) in
-    let last = some_foremost turned_cmp backwards.total ray_end (places_of ls) in
-    ends_are es ls places places' (foremost_is place_cmp ray_start (places_of es) first.0 first.1) (foremost_is turned_cmp ray_end (places_of ls) last.0 last.1)
 
 -- a segment lies on the ray, its start before its end
 pub record LiesOnRay (seg : Seg) : Type 0 where

@@ -13,12 +13,12 @@ use Rattle.plane_geom.proofs.Unique.{crossing_is}
 use Rattle.prim_sphere.specs.Spheres.{nearest_on, half_chord_squared}
 use Rattle.surd_order.specs.declared.position.Pos.{Pos}
 use Rattle.surd_order.specs.declared.position.Pos.TheVariants.{Frac}
-use Rattle.surd_order.specs.Order.{Precedes, SamePlace, IsPlace}
-use Rattle.surd_order.proofs.LawProofs.{outcome}
+use Rattle.surd_order.specs.Order.{IsPlace}
 use Rattle.surd_order.proofs.OrderLaws.{asymmetric, same_symm}
 use Rattle.solid_set.specs.declared.surface.Surface.{Surface}
 use Rattle.solid_set.specs.declared.surface.Surface.TheVariants.{Planes, HalfSpace, Ball}
 use Rattle.solid_set.specs.HitPlaces.{crossing_places, side_places, root_places, surface_places, IsAtOneOf}
+use Rattle.solid_set.proofs.HitPlaceLaws.{behind}
 use Rattle.bool_weave.proofs.Sorted.{Has, contains_from_has}
 use Rattle.overlap_list.specs.declared.partition.Partition.{Partition}
 use Rattle.overlap_list.specs.Laws.{IsPartOfRay, IsWonPart, LiesBefore}

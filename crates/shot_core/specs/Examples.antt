@@ -25,6 +25,8 @@ use Rattle.shot_core.specs.MetBoxes.{met_count}
 use Rattle.shot_core.specs.Shots.{lit_of, overlaps_on}
 use Rattle.shot_core.specs.Pruned.{kept_for}
 use Rattle.shot_core.specs.Candidates.{candidates_of}
+use Rattle.shot_core.specs.Points.{TreeHolds, Stretch, ray_places, stretches_of}
+use Rattle.shot_core.specs.Steps.{noted, owned_from, with_instances}
 
 -- a box by its least and greatest x, y and z
 abbrev span : ℤ → ℤ → ℤ → ℤ → ℤ → ℤ → Box3
@@ -177,3 +179,42 @@ candidates_touch = refl
 -- nothing overlaps a region of air
 no_candidates_with_air : candidates_of (overlapping 1) ≡ []
 no_candidates_with_air = refl
+
+-- a box is crossed at two planes of its faces and at two of its vertices' box; the others hold the ray
+places_of_a_box : ray_places (single 1 0 first_box ∷ []) (ray (negsuc 4) (pos 5) (pos 5)) ≡ whole 0 ∷ whole 1048576 ∷ Frac (pos 500) (pos 100) ∷ Frac (pos 1500) (pos 100) ∷ whole 15 ∷ whole 5 ∷ []
+places_of_a_box = refl
+
+-- nothing is crossed of a box beside the ray, but the planes across it are
+places_of_a_box_beside : ray_places (single 1 0 (box (pos 0) (pos 10) (pos 50) (pos 60) (pos 0) (pos 10)) ∷ []) (ray (negsuc 4) (pos 5) (pos 5))
+    ≡ whole 0 ∷ whole 1048576 ∷ Frac (pos 500) (pos 100) ∷ Frac (pos 1500) (pos 100) ∷ whole 15 ∷ whole 5 ∷ []
+places_of_a_box_beside = refl
+
+abbrev stretch : ℕ → Pos → Pos → Stretch
+stretch r start end = record { region = r; start = start; end = end }
+
+stretches_beside_air : stretches_of (lit_of (overlapping 1) (ray (negsuc 4) (pos 5) (pos 5))) ≡ stretch 0 (whole 5) (whole 10) ∷ stretch 1 (whole 10) (whole 20) ∷ []
+unfolding place_cmp
+stretches_beside_air = refl
+
+-- to take away a missing member takes nothing away, and of one nothing is left
+less_a_missing_member : (says : ℕ → Type 0) → says 0 → TreeHolds (Join Minus (leaf 0) (Leaf None)) says
+less_a_missing_member says here = (here, λ none. none)
+
+of_a_missing_member : (says : ℕ → Type 0) → ¬ (TreeHolds (Join Minus (Leaf None) (leaf 0)) says)
+of_a_missing_member says = λ holds. holds.0
+
+-- instances in the order of their numbers, each with its region's number
+owned_instances : owned_from 3 (overlapping 0) ≡ (3, first_box) ∷ (4, box (pos 5) (pos 15) (pos 0) (pos 10) (pos 0) (pos 10)) ∷ []
+owned_instances = refl
+
+noted_where_it_was_the_last : noted (2 ∷ 5 ∷ []) 5 ≡ 2 ∷ 5 ∷ []
+noted_where_it_was_the_last = refl
+
+noted_where_it_came_earlier : noted (5 ∷ 2 ∷ []) 5 ≡ 5 ∷ 2 ∷ 5 ∷ []
+noted_where_it_came_earlier = refl
+
+-- the second of two instances is woven in and its region noted; there is no third one
+one_instance_woven : with_instances (ray (negsuc 4) (pos 5) (pos 5)) (owned_from 0 (overlapping 0)) ([], []) (1 ∷ 2 ∷ [])
+    ≡ (record { instance = 1; seg = record { start = whole 10; start_face = 1; end = whole 20; end_face = 2 } } ∷ [], 1 ∷ [])
+unfolding place_cmp
+one_instance_woven = refl

@@ -8,8 +8,8 @@ use std::alloc::Global;
 use std::marker::Model;
 
 /// The regions of a list of names, in the order of their places, with the number of each region's first instance, an index of
-/// their boxes, and one of the boxes of their instances where these are more than `FEW_INSTANCES`. Contracts see it as the list
-/// of regions.
+/// their boxes, and one of the boxes of their instances where these are more than `FEW_INSTANCES`; the scene of a tile has none
+/// of these. Contracts see it as the list of regions.
 #[derive(Debug, Drop)]
 pub struct Scene {
     regions: Vec<SceneRegion>,
@@ -88,7 +88,7 @@ fn instance_boxes(alloc: Global, regions: &[SceneRegion]) -> Result<Vec<Box3>, M
     Ok(boxes)
 }
 
-/// An index of the boxes where they are more than `FEW_INSTANCES`: to look at each of a few takes no longer than to ask one.
+/// An index of the boxes where they are more than `FEW_INSTANCES`.
 fn index_of_many(alloc: Global, boxes: Vec<Box3>) -> Result<Option<BoxIndex>, Memory>
     requires { vec_len boxes < 2 ^ 31 }
     ensures { IfOk result (λ found. IfSome found (λ index. index ≡ boxes.items)) }
@@ -184,7 +184,7 @@ impl Scene {
         self.by_region.meets_tile(view, tile, out)
     }
 
-    /// The index of the instances' boxes. There is none where they are few.
+    /// The index of the instances' boxes. There is none where they are few, nor in the scene of a tile.
     pub(crate) fn by_instance(&self) -> Option<&BoxIndex>
         ensures boxes { IfSome result (λ index. index.now ≡ boxes_of (instances_of self.now)) }
         ensures sound { IsScene self.now }

@@ -63,11 +63,11 @@ nobody = None
 no_winner : IsSome nobody → ⊥
 no_winner i = true≢false (sym i)
 
-some_of : (o : Option ℕ) → IsSome o → o ≡ Some (or_zero o)
+pub some_of : (o : Option ℕ) → IsSome o → o ≡ Some (or_zero o)
 some_of None i = absurd (no_winner i)
 some_of (Some n) i = refl
 
-or_zero_apart : (a b : Option ℕ) → IsSome a → IsSome b → b ≢ a → or_zero a ≢ or_zero b
+pub or_zero_apart : (a b : Option ℕ) → IsSome a → IsSome b → b ≢ a → or_zero a ≢ or_zero b
 or_zero_apart a b i j ne e = ne (some_of b j ∙ ap (λ n. Some n) (sym e) ∙ sym (some_of a i))
 
 -- cuts rise

@@ -1,8 +1,8 @@
 -- The partitions of a ray are the one list of stretches that tells what lies at its points.
-use Rattle.std.proofs.Common.{◌≡◌, ◌<◌, ℕ, zero, suc, ℤ, pos, negsuc, List, [], ◌∷◌, ◌++◌, length, flat_map, get_or, Option, Some, None, All, AllPairs, ap, sym, subst, refl, inl, inr, arith}
+use Rattle.std.proofs.Common.{◌≡◌, ◌<◌, ℕ, zero, suc, ℤ, pos, negsuc, List, [], ◌∷◌, ◌++◌, length, flat_map, Option, Some, None, All, AllPairs, ap, sym, subst, refl, inl, inr, arith, ◌≤◌, map}
+use Rattle.std.proofs.lemmas.Bool.{cases_lt}
 use Rattle.std.proofs.lemmas.Int.{ints}
-use Rattle.std.proofs.lemmas.List.{length-map}
-use Rattle.std.proofs.lemmas.List.Elements.{All-map, All-weaker}
+use Rattle.std.proofs.lemmas.List.Elements.{All-map}
 use Rattle.lattice_core.specs.declared.ray.Ray.{Ray}
 use Rattle.plane_geom.specs.declared.plane.Plane.{Plane}
 use Rattle.plane_geom.specs.declared.plane.Crossing.{Crossing}
@@ -13,27 +13,32 @@ use Rattle.plane_geom.proofs.Unique.{crossing_is}
 use Rattle.prim_sphere.specs.Spheres.{nearest_on, half_chord_squared}
 use Rattle.surd_order.specs.declared.position.Pos.{Pos}
 use Rattle.surd_order.specs.declared.position.Pos.TheVariants.{Frac}
-use Rattle.surd_order.specs.Order.{IsPlace}
-use Rattle.surd_order.proofs.OrderLaws.{asymmetric, same_symm}
+use Rattle.surd_order.specs.Order.{IsPlace, SamePlace}
+use Rattle.surd_order.proofs.OrderLaws.{asymmetric, same_symm, same_refl}
 use Rattle.solid_set.specs.declared.surface.Surface.{Surface}
 use Rattle.solid_set.specs.declared.surface.Surface.TheVariants.{Planes, HalfSpace, Ball}
 use Rattle.solid_set.specs.HitPlaces.{crossing_places, side_places, root_places, surface_places, IsAtOneOf}
 use Rattle.solid_set.proofs.HitPlaceLaws.{behind}
+use Rattle.bool_weave.specs.declared.woven.Woven.{Woven}
+use Rattle.bool_weave.specs.Claims.{intervals_of}
 use Rattle.bool_weave.proofs.Sorted.{Has, contains_from_has}
 use Rattle.overlap_list.specs.declared.partition.Partition.{Partition}
-use Rattle.overlap_list.specs.Laws.{IsPartOfRay, IsWonPart, LiesBefore}
-use Rattle.overlap_list.specs.Partitions.{partitions_of}
-use Rattle.overlap_list.proofs.Parts.{partitions_are_won}
+use Rattle.overlap_list.specs.declared.region.RegionClaims.{RegionClaims}
+use Rattle.overlap_list.specs.Hits.{cut_at}
+use Rattle.overlap_list.specs.Laws.{IsWonRun}
+use Rattle.overlap_list.specs.Partitions.{or_zero, won_runs, partition_of}
+use Rattle.overlap_list.specs.Runs.{IntervalRun}
+use Rattle.overlap_list.specs.Winners.{winner_of}
+use Rattle.overlap_list.proofs.Ordered.{all_from_has, pairs_from_rises, rises_map, rises_weaker}
+use Rattle.overlap_list.proofs.Parts.{AreApart, some_of, or_zero_apart, runs_rise, winner_is, won_run}
 use Rattle.shot_core.specs.declared.shot.Lit.{Lit}
-use Rattle.shot_core.specs.Laws.{part_of, parts_of}
 use Rattle.shot_core.specs.Points.{ray_places, Stretch, stretch_of, stretches_of, HasPosition, HasRegionAt, TellsPoints, IsStretch, EndsBefore, AreStretches, PartitionsTellPoints}
-use Rattle.shot_core.specs.Regions.{Instance, Region, instances_of}
+use Rattle.shot_core.specs.Regions.{Instance, Region, HaveInstances, instances_of}
 use Rattle.shot_core.specs.Shots.{woven_of, claims_on, lit_by, lit_of}
 use Rattle.shot_core.specs.Steps.{no_region}
 use Rattle.shot_core.proofs.Claiming.{claims_length}
 use Rattle.shot_core.proofs.OneList.{IsAround, HasAround, AreGood, ArePlaces, start_place, end_place, Gives, one_list}
-use Rattle.shot_core.proofs.Pointing.{at_of, at_left, at_right, any_from, any_to, tells_points}
-use Rattle.shot_core.proofs.ResultLaws.{lit_in_order, lit_on_ray}
+use Rattle.shot_core.proofs.Pointing.{at_of, at_left, at_right, any_from, any_to, on_ray, rises, tells_points}
 
 -- the places of hits are places
 places_append : (xs ys : List Pos) → ArePlaces xs → ArePlaces ys → ArePlaces (xs ++ ys)
@@ -153,49 +158,66 @@ module _ (regions : List Region) (ray : Ray) (ss ts : List Stretch) (ordered : A
   same_lists tells tells' =
       one_list avoided avoided_placed ss ts (good_of ss ordered.each ordered.apart) (good_of ts ordered'.each ordered'.apart) (gives tells tells') (gives_back tells tells')
 
--- the stretches of what is lit are in order
-stretches_each : (ls : List Lit) → All (λ (l : Lit). IsPartOfRay l.start l.end) ls → All IsStretch (stretches_of ls)
-stretches_each [] all k d lt = absurd (omega (arith, lt))
-stretches_each (l ∷ ls) all zero d lt =
-    let h = all zero l (omega arith) in record { forward = h.ordered; begun = h.begun; not_ended = h.not_ended; start_spelled = h.start_spelled; end_spelled = h.end_spelled }
-stretches_each (l ∷ ls) all (suc k) d lt = stretches_each ls (λ j e in_rest. all (suc j) e (omega (arith, in_rest))) k d (omega (arith, lt))
+-- the stretches of what is lit, by the runs of intervals that they are made of
+module _ (regions : List Region) (ray : Ray) (below : HaveInstances regions) where
+  abbrev woven : List Woven
+  woven = woven_of regions ray
 
-stretches_numbered : (count : ℕ) (ls : List Lit) → All (λ (l : Lit). l.region < count) ls → All (λ (s : Stretch). s.region < count) (stretches_of ls)
-stretches_numbered count ls all = All-map (λ (s : Stretch). s.region < count) stretch_of ls all
+  abbrev claimed : List RegionClaims
+  claimed = claims_on regions ray
 
-abbrev plain_part : Partition → Stretch
-plain_part p = record { region = p.region; start = p.start; end = p.end }
+  abbrev count : ℕ
+  count = length (intervals_of woven)
 
-get_stretch : (ls : List Lit) (i : ℕ) (d : Stretch) (e : Partition) → i < length ls → get_or (stretches_of ls) i d ≡ plain_part (get_or (parts_of ls) i e)
-get_stretch [] i d e lt = absurd (omega (arith, lt))
-get_stretch (l ∷ ls) zero d e lt = refl
-get_stretch (l ∷ ls) (suc i) d e lt = get_stretch ls i d e (omega (arith, lt))
+  abbrev made_of : IntervalRun → Stretch
+  made_of run = record { region = or_zero (winner_of claimed run.from); start = cut_at woven run.from; end = cut_at woven run.to }
 
-abbrev no_part : Partition
-no_part = record { region = 0; start = Frac (pos 0) (pos 1); end = Frac (pos 0) (pos 1); hit = record { instance = 0; face = 0 } }
+  run_is : (run : IntervalRun) → Has (won_runs claimed count) run → IsWonRun claimed run × (run.to ≤ count)
+  run_is run has = won_run claimed count run has
 
-stretches_apart : (ls : List Lit) → AllPairs LiesBefore (parts_of ls) → AllPairs EndsBefore (stretches_of ls)
-stretches_apart ls pairs i j d lt within =
-    let shorter : length (stretches_of ls) ≡ length ls = length-map ls stretch_of in
-    let parts_length : length (parts_of ls) ≡ length ls = length-map ls part_of in
-    let there : j < length ls = omega (arith, within, shorter) in
-    subst (λ (s : Stretch). EndsBefore s (get_or (stretches_of ls) j d)) (sym (get_stretch ls i d no_part (omega (arith, lt, there))))
-    (subst (EndsBefore (plain_part (get_or (parts_of ls) i no_part))) (sym (get_stretch ls j d no_part there))
-    (pairs i j no_part lt (omega (arith, there, parts_length))))
+  numbered : (run : IntervalRun) → Has (won_runs claimed count) run → or_zero (winner_of claimed run.from) < length regions
+  numbered run has =
+      let r = run_is run has in
+      omega (arith, (winner_is claimed run.from (or_zero (winner_of claimed run.from)) (some_of (winner_of claimed run.from) r.0.region)).there, claims_length woven 0 regions)
 
-lit_numbered : (regions : List Region) (ray : Ray) → All (λ (l : Lit). l.region < length regions) (lit_of regions ray)
-lit_numbered regions ray =
-    All-map (λ (l : Lit). l.region < length regions) (lit_by regions ray) (partitions_of (woven_of regions ray) (claims_on regions ray))
-    (All-weaker (IsWonPart (woven_of regions ray) (claims_on regions ray)) (λ (p : Partition). p.region < length regions)
-    (λ p won. omega (arith, (won.won won.run.from (omega arith) won.some).there, claims_length (woven_of regions ray) 0 regions))
-    (partitions_of (woven_of regions ray) (claims_on regions ray)) (partitions_are_won (woven_of regions ray) (claims_on regions ray)))
+  is_stretch : (run : IntervalRun) → Has (won_runs claimed count) run → IsStretch (made_of run)
+  is_stretch run has =
+      let r = run_is run has in
+      let start = on_ray regions ray below run.from (omega (arith, r.0.some, r.1)) in
+      let end = on_ray regions ray below run.to r.1 in
+      record { forward = rises regions ray below run.from run.to r.0.some r.1; begun = start.begun; not_ended = end.not_ended; start_spelled = start.spelled; end_spelled = end.spelled }
+
+  ends_before : (a b : IntervalRun) → Has (won_runs claimed count) a → Has (won_runs claimed count) b → AreApart claimed a b → EndsBefore (made_of a) (made_of b)
+  ends_before a b p q apart =
+      let v = run_is a p in
+      let w = run_is b q in
+      elim (cases_lt a.to b.from) [
+        | inl lt ↦ inl (rises regions ray below a.to b.from lt (omega (arith, w.0.some, w.1)))
+        | inr le ↦
+            let e : a.to ≡ b.from = omega (arith, le, apart.order) in
+            inr (subst (λ n. SamePlace (cut_at woven a.to) (cut_at woven n)) e (same_refl (cut_at woven a.to)), or_zero_apart (winner_of claimed a.from) (winner_of claimed b.from) v.0.region w.0.region (apart.touching e))
+      ]
+
+  abbrev runs : List IntervalRun
+  runs = won_runs claimed count
+
+  ordered_lit : AreStretches (length regions) (stretches_of (lit_of regions ray))
+  ordered_lit = record {
+    numbers = All-map (λ (s : Stretch). s.region < length regions) stretch_of (lit_of regions ray)
+        (All-map (λ (l : Lit). l.region < length regions) (lit_by regions ray) (map (partition_of woven claimed) runs)
+        (All-map (λ (p : Partition). p.region < length regions) (partition_of woven claimed) runs (all_from_has (λ (r : IntervalRun). or_zero (winner_of claimed r.from) < length regions) runs numbered)));
+    each = All-map IsStretch stretch_of (lit_of regions ray)
+        (All-map (λ (l : Lit). IsStretch (stretch_of l)) (lit_by regions ray) (map (partition_of woven claimed) runs)
+        (All-map (λ (p : Partition). IsStretch (stretch_of (lit_by regions ray p))) (partition_of woven claimed) runs (all_from_has (λ (r : IntervalRun). IsStretch (made_of r)) runs is_stretch)));
+    apart = pairs_from_rises EndsBefore (stretches_of (lit_of regions ray))
+        (rises_map EndsBefore stretch_of (lit_of regions ray)
+        (rises_map (λ (k l : Lit). EndsBefore (stretch_of k) (stretch_of l)) (lit_by regions ray) (map (partition_of woven claimed) runs)
+        (rises_map (λ (p r : Partition). EndsBefore (stretch_of (lit_by regions ray p)) (stretch_of (lit_by regions ray r))) (partition_of woven claimed) runs
+        (rises_weaker (AreApart claimed) (λ (a b : IntervalRun). EndsBefore (made_of a) (made_of b)) runs (λ a b p q apart. ends_before a b p q apart) (runs_rise claimed count)))));
+  }
 
 pub true_of_points : PartitionsTellPoints
-true_of_points regions ray scene below sound =
-    let tells : TellsPoints regions ray (stretches_of (lit_of regions ray)) = tells_points regions ray below sound (λ i j lt within. scene.rising i j no_region lt within) in
-    let ordered : AreStretches (length regions) (stretches_of (lit_of regions ray)) = record {
-      numbers = stretches_numbered (length regions) (lit_of regions ray) (lit_numbered regions ray);
-      each = stretches_each (lit_of regions ray) (lit_on_ray regions ray below sound);
-      apart = stretches_apart (lit_of regions ray) (lit_in_order regions ray below sound).apart;
-    } in
+true_of_points regions ray rising below =
+    let tells : TellsPoints regions ray (stretches_of (lit_of regions ray)) = tells_points regions ray below (λ i j lt within. rising i j no_region lt within) in
+    let ordered : AreStretches (length regions) (stretches_of (lit_of regions ray)) = ordered_lit regions ray below in
     record { ordered = ordered; tells = tells; alone = λ others ordered' tells'. same_lists regions ray others (stretches_of (lit_of regions ray)) ordered' ordered tells' tells }

@@ -1,7 +1,7 @@
 -- At each point that is no hit the partitions of a ray have the region that lies there.
-use Rattle.std.proofs.Common.{◌≡◌, ◌↔◌, ◌⊎◌, ◌<◌, ◌≤◌, ◌+◌, ◌-◌, ◌==◌, ℕ, zero, suc, ℤ, List, [], ◌∷◌, ◌++◌, length, map, flat_map, get_or, slice_get, Bool, true, false, ◌&&◌, ◌||◌, not, Option, Some, None, IfSome, All, Any, Contains, ap, sym, subst, ◌∙◌, refl, inl, inr, arith}
+use Rattle.std.proofs.Common.{◌≡◌, ◌↔◌, ◌⊎◌, ◌<◌, ◌≤◌, ◌+◌, ◌==◌, ℕ, zero, suc, ℤ, List, [], ◌∷◌, ◌++◌, length, map, flat_map, get_or, slice_get, Bool, true, false, ◌&&◌, ◌||◌, not, Option, Some, None, IfSome, MatchOption, All, Any, Contains, ap, sym, subst, ◌∙◌, refl, inl, inr, arith}
 use Rattle.std.proofs.lemmas.Bool.{cases_lt, cases_Bool, and_parts, and_from, or_cases, eq-eqb, true≢false}
-use Rattle.std.proofs.lemmas.List.{get_or-map}
+use Rattle.std.proofs.lemmas.List.{get_or-map, get_or_default}
 use Rattle.std.proofs.lemmas.Option.{slice_get_within, get_or_from_slice_get}
 use Rattle.lattice_core.specs.declared.ray.Ray.{Ray}
 use Rattle.lattice_core.specs.Rays.{IsOnRay}
@@ -19,30 +19,32 @@ use Rattle.solid_set.specs.Surfaces.{IsInside}
 use Rattle.solid_set.proofs.HitPlaceLaws.{ends_are_hits, inside_exactly}
 use Rattle.solid_set.proofs.InsideLaws.{on_ray_within}
 use Rattle.bool_weave.specs.declared.woven.Woven.{Woven}
-use Rattle.bool_weave.specs.Cuts.{ray_start, ray_end, IsWoven, places_of, cuts_of}
+use Rattle.bool_weave.specs.Cuts.{ray_start, ray_end, places_of, cuts_of}
 use Rattle.bool_weave.specs.Masks.{Mask, mask_holds}
 use Rattle.bool_weave.specs.Claims.{Interval, intervals_of, covers, spans, claims_interval, claims_of}
 use Rattle.bool_weave.specs.Tables.{interval_at}
 use Rattle.bool_weave.proofs.Claimed.{intervals_length, intervals_at}
-use Rattle.bool_weave.proofs.Cutting.{place_from, end_of_some, start_is_place, end_is_place, segment_of as woven_segment, from_order, to_cuts}
-use Rattle.bool_weave.proofs.Kept.{two_cuts}
-use Rattle.bool_weave.proofs.LawProofs.{cuts_within, covers_by_places}
-use Rattle.bool_weave.proofs.Sorted.{Has, has_at, contains_from_has, has_append_left, has_append_right}
+use Rattle.bool_weave.proofs.Cutting.{end_of_some, start_is_place, end_is_place, from_order}
+use Rattle.bool_weave.proofs.LawProofs.{covers_by_places}
+use Rattle.bool_weave.proofs.Sorted.{Has, has_at, has_from_contains, contains_from_has, has_append_left, has_append_right}
 use Rattle.overlap_list.specs.declared.partition.Partition.{Partition}
 use Rattle.overlap_list.specs.declared.region.RegionClaims.{RegionClaims}
 use Rattle.overlap_list.specs.Hits.{cut_at}
-use Rattle.overlap_list.specs.Laws.{IsWinner, IsWonPart, LiesIn}
-use Rattle.overlap_list.specs.Partitions.{partitions_of}
-use Rattle.overlap_list.specs.Winners.{claims_at}
-use Rattle.overlap_list.proofs.Covering.{claims_are_partitioned}
+use Rattle.overlap_list.specs.Laws.{IsWinner, IsWonPart}
+use Rattle.overlap_list.specs.Partitions.{or_zero, won_runs, partition_of, partitions_of}
+use Rattle.overlap_list.specs.Runs.{IntervalRun}
+use Rattle.overlap_list.specs.Winners.{claims_at, winner_of}
+use Rattle.overlap_list.proofs.Covering.{run_about, nobody_past}
+use Rattle.overlap_list.proofs.LawProofs.{winners_are_right, runs_are_maximal}
 use Rattle.overlap_list.proofs.Overlapping.{slice_at}
-use Rattle.overlap_list.proofs.Parts.{cut_before, cut_place, partitions_are_won}
+use Rattle.overlap_list.proofs.Parts.{winner_is, partitions_are_won}
 use Rattle.shot_core.specs.Points.{ray_places, IsRayHitPlace, TreeHolds, IsInInstance, HoldsPoint, WinsAgainst, LiesAt, Stretch, stretch_of, stretches_of, HasPosition, HasRegionAt, TellsPoints}
 use Rattle.shot_core.specs.Regions.{Instance, Region, HasLeavesBelow, HaveInstances, has_air, instances_of}
 use Rattle.shot_core.specs.Shots.{woven_if, woven_from, woven_of, body_claims, claims_on, lit_by, lit_of}
 use Rattle.shot_core.specs.Steps.{no_region}
 use Rattle.shot_core.proofs.Claiming.{claims_length, no_claims}
 use Rattle.shot_core.proofs.InBoxes.{spanning, inside_covered, IsRegionAt, region_at, same_some}
+use Rattle.shot_core.proofs.OnRay.{IsRayPlace, AreSegmentsOf, place_is, woven_on_ray, cut_on_ray, cuts_rise, place_is_cut}
 use Rattle.shot_core.proofs.ResultLaws.{rows_from}
 use Rattle.shot_core.proofs.Weaving.{has_woven}
 
@@ -184,7 +186,7 @@ all_to : {X : Type 0} (P : X → Type 0) (xs : List X) (x : X) → All P xs → 
 all_to P xs x all has = let c = contains_from_has xs x has in subst P c.2 (all c.0 x c.1)
 
 -- the ray of a scene, and a point of it that is no hit
-module _ (regions : List Region) (ray : Ray) (below : HaveInstances regions) (sound : IsWoven (woven_of regions ray)) where
+module _ (regions : List Region) (ray : Ray) (below : HaveInstances regions) where
   abbrev woven : List Woven
   woven = woven_of regions ray
 
@@ -197,17 +199,53 @@ module _ (regions : List Region) (ray : Ray) (below : HaveInstances regions) (so
   abbrev count : ℕ
   count = length (intervals_of woven)
 
-  cuts_count : length (cuts_of woven) ≡ count + 1
-  cuts_count = omega (arith, intervals_length (cuts_of woven), two_cuts woven sound)
+  of : AreSegmentsOf ray (instances_of regions) woven
+  of w there = has_woven ray 0 (instances_of regions) w there
+
+  -- a place of the ray is one of the cuts
+  record IsCut (z : Pos) : Type 0 where
+    at : ℕ
+    within : at < length (cuts_of woven)
+    is : cut_at woven at ≡ z
+
+  cut_of : (z : Pos) → Has (places_of woven) z → IsCut z
+  cut_of z has =
+      let c = contains_from_has (cuts_of woven) z (place_is_cut ray (instances_of regions) woven of z has) in
+      record { at = c.0; within = c.1; is = get_or_default (cuts_of woven) c.0 ray_start z c.1 ∙ c.2 }
+
+  pub cuts_count : length (cuts_of woven) ≡ count + 1
+  cuts_count = omega (arith, intervals_length (cuts_of woven), (cut_of ray_start (inl refl)).within)
+
+  pub on_ray : (k : ℕ) → k ≤ count → IsRayPlace (cut_at woven k)
+  on_ray k le = cut_on_ray ray (instances_of regions) woven of k (omega (arith, le, cuts_count))
 
   place : (k : ℕ) → k ≤ count → IsPlace (cut_at woven k)
-  place k le = cut_place woven sound k (omega (arith, le, cuts_count))
+  place k le = place_is (cut_at woven k) (on_ray k le)
+
+  pub rises : (i j : ℕ) → i < j → j ≤ count → Precedes (cut_at woven i) (cut_at woven j)
+  rises i j lt within = cuts_rise ray (instances_of regions) woven of i j lt (omega (arith, within, cuts_count))
 
   not_back : (i j : ℕ) → i ≤ j → j ≤ count → ¬ (Precedes (cut_at woven j) (cut_at woven i))
   not_back i j le within before =
       elim (cases_lt i j) [
-        | inl lt ↦ asymmetric (cut_at woven i) (cut_at woven j) (place i (omega (arith, le, within))) (place j within) (cut_before woven i j sound lt within) before
+        | inl lt ↦ asymmetric (cut_at woven i) (cut_at woven j) (place i (omega (arith, le, within))) (place j within) (rises i j lt within) before
         | inr ge ↦ let e : i ≡ j = omega (arith, le, ge) in (same_refl (cut_at woven j)).not_before (subst (λ n. Precedes (cut_at woven j) (cut_at woven n)) e before)
+      ]
+
+  first_cut : cut_at woven 0 ≡ ray_start
+  first_cut =
+      let c = cut_of ray_start (inl refl) in
+      elim (cases_lt 0 c.at) [
+        | inl behind ↦ absurd ((on_ray 0 (omega arith)).begun (subst (Precedes (cut_at woven 0)) c.is (rises 0 c.at behind (omega (arith, c.within, cuts_count)))))
+        | inr here ↦ ap (λ n. cut_at woven n) (let e : 0 ≡ c.at = omega (arith, here) in e) ∙ c.is
+      ]
+
+  last_cut : cut_at woven count ≡ ray_end
+  last_cut =
+      let c = cut_of ray_end (inr (inl refl)) in
+      elim (cases_lt c.at count) [
+        | inl before ↦ absurd ((on_ray count (omega arith)).not_ended (subst (λ (z : Pos). Precedes z (cut_at woven count)) c.is (rises c.at count before (omega arith))))
+        | inr here ↦ ap (λ n. cut_at woven n) (let e : count ≡ c.at = omega (arith, here, c.within, cuts_count) in e) ∙ c.is
       ]
 
   cut_hit : (k : ℕ) → k ≤ count → IsRayHitPlace regions ray (cut_at woven k)
@@ -229,7 +267,7 @@ module _ (regions : List Region) (ray : Ray) (below : HaveInstances regions) (so
 
     search_from : (n k : ℕ) → k + n ≡ count → Precedes (cut_at woven k) (Frac p q) → IsLocated
     search_from zero k e after =
-        let last : cut_at woven k ≡ ray_end = ap (λ n. cut_at woven n) (let f : k ≡ length (cuts_of woven) - 1 = omega (arith, e, cuts_count) in f) ∙ (cuts_within woven sound).last ray_start in
+        let last : cut_at woven k ≡ ray_end = ap (λ n. cut_at woven n) (let f : k ≡ count = omega (arith, e) in f) ∙ last_cut in
         absurd (((on_ray_within p q on.positive).0 on).1 (subst (λ (z : Pos). Precedes z (Frac p q)) last after))
     search_from (suc n) k e after = elim (outcome (Frac p q) (cut_at woven (k + 1)) on.positive (place (k + 1) (omega (arith, e)))) [
       | inl before ↦ record { k = k; within = omega (arith, e); after = after; before = before }
@@ -238,56 +276,34 @@ module _ (regions : List Region) (ray : Ray) (below : HaveInstances regions) (so
 
     located : IsLocated
     located =
-        let first : cut_at woven 0 ≡ ray_start = (cuts_within woven sound).first ray_start in
         search_from count 0 (omega arith) (elim (outcome (cut_at woven 0) (Frac p q) (place 0 (omega arith)) on.positive) [
           | inl after ↦ after
           | inr rest ↦ elim rest [
             | inl same ↦ absurd (apart 0 (omega arith) (same_symm (cut_at woven 0) (Frac p q) same))
-            | inr early ↦ absurd (((on_ray_within p q on.positive).0 on).0 (subst (λ (z : Pos). Precedes (Frac p q) z) first early))
+            | inr early ↦ absurd (((on_ray_within p q on.positive).0 on).0 (subst (λ (z : Pos). Precedes (Frac p q) z) first_cut early))
           ]
         ])
-
-    abbrev k : ℕ
-    k = located.k
-
-    abbrev interval : Interval
-    interval = interval_at (cuts_of woven) located.k
-
-    abbrev kin : located.k ≤ count
-    kin = omega (arith, located.within)
 
     -- an end of a segment that is not behind the point is not behind the interval's start, and likewise for its end
     start_early : (z : Pos) → Has (places_of woven) z → Precedes z (Frac p q) → ¬ (Precedes (cut_at woven located.k) z)
     start_early z has before late =
-        let c = contains_from_has (cuts_of woven) z (to_cuts woven z sound has) in
-        let is : cut_at woven c.0 ≡ z = same_get (cuts_of woven) c.0 ray_start z c.1 ∙ c.2 in
-        elim (cases_lt located.k c.0) [
+        let c = cut_of z has in
+        elim (cases_lt located.k c.at) [
           | inl behind ↦
-              not_back (located.k + 1) c.0 (omega (arith, behind)) (omega (arith, c.1, cuts_count))
-              (transitive (cut_at woven c.0) (Frac p q) (cut_at woven (located.k + 1)) on.positive (place (located.k + 1) (omega (arith, located.within))) (subst (λ (y : Pos). Precedes y (Frac p q)) (sym is) before) located.before)
-          | inr early ↦ not_back c.0 located.k (omega (arith, early)) (omega (arith, located.within)) (subst (Precedes (cut_at woven located.k)) (sym is) late)
+              not_back (located.k + 1) c.at (omega (arith, behind)) (omega (arith, c.within, cuts_count))
+              (transitive (cut_at woven c.at) (Frac p q) (cut_at woven (located.k + 1)) on.positive (place (located.k + 1) (omega (arith, located.within))) (subst (λ (y : Pos). Precedes y (Frac p q)) (sym c.is) before) located.before)
+          | inr early ↦ not_back c.at located.k (omega (arith, early)) (omega (arith, located.within)) (subst (Precedes (cut_at woven located.k)) (sym c.is) late)
         ]
-      where
-        same_get : (zs : List Pos) (n : ℕ) (d e : Pos) → n < length zs → get_or zs n d ≡ get_or zs n e
-        same_get [] n d e lt = absurd (omega (arith, lt))
-        same_get (y ∷ ys) zero d e lt = refl
-        same_get (y ∷ ys) (suc n) d e lt = same_get ys n d e (omega (arith, lt))
 
     end_late : (z : Pos) → Has (places_of woven) z → Precedes (Frac p q) z → ¬ (Precedes z (cut_at woven (located.k + 1)))
     end_late z has after early =
-        let c = contains_from_has (cuts_of woven) z (to_cuts woven z sound has) in
-        let is : cut_at woven c.0 ≡ z = same_get (cuts_of woven) c.0 ray_start z c.1 ∙ c.2 in
-        elim (cases_lt located.k c.0) [
-          | inl behind ↦ not_back (located.k + 1) c.0 (omega (arith, behind)) (omega (arith, c.1, cuts_count)) (subst (λ (y : Pos). Precedes y (cut_at woven (located.k + 1))) (sym is) early)
+        let c = cut_of z has in
+        elim (cases_lt located.k c.at) [
+          | inl behind ↦ not_back (located.k + 1) c.at (omega (arith, behind)) (omega (arith, c.within, cuts_count)) (subst (λ (y : Pos). Precedes y (cut_at woven (located.k + 1))) (sym c.is) early)
           | inr before ↦
-              not_back c.0 located.k (omega (arith, before)) (omega (arith, located.within))
-              (transitive (cut_at woven located.k) (Frac p q) (cut_at woven c.0) on.positive (place c.0 (omega (arith, c.1, cuts_count))) located.after (subst (Precedes (Frac p q)) (sym is) after))
+              not_back c.at located.k (omega (arith, before)) (omega (arith, located.within))
+              (transitive (cut_at woven located.k) (Frac p q) (cut_at woven c.at) on.positive (place c.at (omega (arith, c.within, cuts_count))) located.after (subst (Precedes (Frac p q)) (sym c.is) after))
         ]
-      where
-        same_get : (zs : List Pos) (n : ℕ) (d e : Pos) → n < length zs → get_or zs n d ≡ get_or zs n e
-        same_get [] n d e lt = absurd (omega (arith, lt))
-        same_get (y ∷ ys) zero d e lt = refl
-        same_get (y ∷ ys) (suc n) d e lt = same_get ys n d e (omega (arith, lt))
 
     start_placed : IsPlace (cut_at woven located.k)
     start_placed = place located.k (omega (arith, located.within))
@@ -300,10 +316,10 @@ module _ (regions : List Region) (ray : Ray) (below : HaveInstances regions) (so
     spanned_inside number place_of one e there spanned =
         let s = spanning woven (interval_at (cuts_of woven) located.k) number spanned in
         let w = has_woven ray 0 (instances_of regions) s.one s.there in
-        let seg = woven_segment woven s.one sound s.there in
+        let seg = woven_on_ray ray (instances_of regions) woven of s.one s.there in
         let number_is : w.place ≡ place_of = omega (arith, w.number, s.number, e) in
         let same : w.one ≡ one = same_some w.one one (sym w.there ∙ ap (slice_get (instances_of regions)) number_is ∙ there) in
-        let inside = inside_covered s.one.seg (interval_at (cuts_of woven) located.k) p q (place_from s.one.seg.start seg.start_spelled) (place_from s.one.seg.end seg.end_spelled) start_placed end_placed s.covered located.after located.before in
+        let inside = inside_covered s.one.seg (interval_at (cuts_of woven) located.k) p q (place_is s.one.seg.start seg.start) (place_is s.one.seg.end seg.end) start_placed end_placed s.covered located.after located.before in
         let found : segment_of one.surface ray ≡ Some s.one.seg = ap (λ (o : Instance). segment_of o.surface ray) (sym same) ∙ w.segment in
         (inside_exactly one.surface ray p q on (λ hit. no_hit (hit_of_ray regions ray place_of one (Frac p q) there hit))).1 (subst (λ (o : Option Seg). LiesBetweenEnds o (Frac p q)) (sym found) inside)
 
@@ -313,9 +329,9 @@ module _ (regions : List Region) (ray : Ray) (below : HaveInstances regions) (so
     spanned_by number place_of one e there (Some seg) is within =
         let w : Woven = record { instance = number; seg = seg } in
         let has : Has woven w = woven_has ray 0 (instances_of regions) place_of number one seg (omega (arith, e)) there is in
-        let sounds = woven_segment woven w sound has in
+        let ends = woven_on_ray ray (instances_of regions) woven of w has in
         spans_from woven (interval_at (cuts_of woven) located.k) w number refl has
-        ((covers_by_places seg (interval_at (cuts_of woven) located.k) (place_from seg.start sounds.start_spelled) (place_from seg.end sounds.end_spelled) start_placed end_placed).1 (
+        ((covers_by_places seg (interval_at (cuts_of woven) located.k) (place_is seg.start ends.start) (place_is seg.end ends.end) start_placed end_placed).1 (
           start_early seg.start (inr (inr (start_is_place woven w has))) within.0,
           end_late seg.end (inr (inr (end_is_place woven w has))) within.1,
         ))
@@ -392,11 +408,11 @@ module _ (regions : List Region) (ray : Ray) (below : HaveInstances regions) (so
           ])
         ])
 
-    -- and one in which that interval lies has the point
-    has_point : (p' : Partition) → IsPlace p'.start → IsPlace p'.end → LiesIn woven located.k p' → HasPosition (record { region = p'.region; start = p'.start; end = p'.end }) (Frac p q)
-    has_point p' start end lies = record {
-      begun = λ early. lies.start (transitive (cut_at woven located.k) (Frac p q) p'.start on.positive start located.after early);
-      not_ended = λ late. lies.end (transitive p'.end (Frac p q) (cut_at woven (located.k + 1)) on.positive end_placed late located.before);
+    -- and what is made of intervals among which it is has the point
+    has_point : (run : IntervalRun) → run.from ≤ located.k → located.k < run.to → run.to ≤ count → (n : ℕ) → HasPosition (record { region = n; start = cut_at woven run.from; end = cut_at woven run.to }) (Frac p q)
+    has_point run low high within n = record {
+      begun = λ early. not_back run.from located.k low (omega (arith, located.within)) (transitive (cut_at woven located.k) (Frac p q) (cut_at woven run.from) on.positive (place run.from (omega (arith, low, located.within))) located.after early);
+      not_ended = λ late. not_back (located.k + 1) run.to (omega (arith, high)) within (transitive (cut_at woven run.to) (Frac p q) (cut_at woven (located.k + 1)) on.positive end_placed late located.before);
     }
 
     number_there : (n : ℕ) → n < length claimed → slice_get regions n ≡ Some (get_or regions n no_region)
@@ -481,25 +497,28 @@ module _ (regions : List Region) (ray : Ray) (below : HaveInstances regions) (so
           let not_ended : ¬ (Precedes part.0.end (Frac p q)) = subst (λ (t : Stretch). ¬ (Precedes t.end (Frac p q))) (sym is) s.2.1.not_ended in
           winner_lies n (subst (IsWinner claimed located.k) region (part_in part.0 won begun not_ended)) rising
 
+      -- the region of the interval in which the point lies
+      some_winner : (n : ℕ) (o : Option ℕ) → winner_of claimed located.k ≡ o → n < length claimed → claims_at (get_or claimed n no_claims) located.k ≡ true → (w : ℕ) × (winner_of claimed located.k ≡ Some w)
+      some_winner n None is lt claims =
+          let none : (s : ℕ) (d : RegionClaims) → s < length claimed → claims_at (get_or claimed s d) located.k ≡ false =
+          subst (λ o. MatchOption o ((s : ℕ) (d : RegionClaims) → s < length claimed → claims_at (get_or claimed s d) located.k ≡ false) (IsWinner claimed located.k)) is (winners_are_right claimed located.k) in
+          absurd (true≢false (sym claims ∙ none n no_claims lt))
+      some_winner n (Some w) is lt claims = (w, is)
+
       from_lies : (n : ℕ) → LiesAt regions ray p q n → HasRegionAt (stretches_of (lit_of regions ray)) n (Frac p q)
       from_lies n lies =
           let mine = region_of n lies.region lies.there in
           let lt : n < length claimed = omega (arith, slice_get_within regions n lies.region lies.there, claims_length woven 0 regions) in
-          let some : Any (λ (r : RegionClaims). claims_at r located.k ≡ true) claimed = (n, get_or claimed n no_claims, lt, get_same claimed n (get_or claimed n no_claims) no_claims lt, (mine.claims no_claims).1 lies.holds) in
-          let found = any_to (LiesIn woven located.k) parts (claims_are_partitioned woven claimed sound (rows_from woven 0 regions) located.k located.within some) in
-          let won : IsWonPart woven claimed found.0 = all_to (IsWonPart woven claimed) parts found.0 (partitions_are_won woven claimed) found.1 in
-          let start : IsPlace found.0.start = subst IsPlace (sym won.start) (place won.run.from (omega (arith, won.some, won.within))) in
-          let end : IsPlace found.0.end = subst IsPlace (sym won.end) (place won.run.to won.within) in
-          let has = has_point found.0 start end found.2 in
-          let win : IsWinner claimed located.k found.0.region = part_in found.0 won has.begun has.not_ended in
-          let same : found.0.region ≡ n = one_winner n found.0.region lies.region (get_or regions found.0.region no_region) lies.there (number_there found.0.region win.there) lies.holds lies.wins win rising in
-          any_from (λ (s : Stretch). (s.region ≡ n) × HasPosition s (Frac p q)) (stretches_of (lit_of regions ray)) (stretch_of (lit_by regions ray found.0))
-          (mapped_has stretch_of (lit_of regions ray) (lit_by regions ray found.0) (mapped_has (lit_by regions ray) parts found.0 found.1)) (same, has)
-        where
-          get_same : (xs : List RegionClaims) (i : ℕ) (d e : RegionClaims) → i < length xs → get_or xs i d ≡ get_or xs i e
-          get_same [] i d e lt = absurd (omega (arith, lt))
-          get_same (y ∷ ys) zero d e lt = refl
-          get_same (y ∷ ys) (suc i) d e lt = get_same ys i d e (omega (arith, lt))
+          let w = some_winner n (winner_of claimed located.k) refl lt ((mine.claims no_claims).1 lies.holds) in
+          let win : IsWinner claimed located.k w.0 = winner_is claimed located.k w.0 w.1 in
+          let same : w.0 ≡ n = one_winner n w.0 lies.region (get_or regions w.0 no_region) lies.there (number_there w.0 win.there) lies.holds lies.wins win rising in
+          let run = run_about claimed w.0 count located.k located.within w.1 (nobody_past claimed count w.0 (rows_from woven 0 regions)) in
+          let there : Has parts (partition_of woven claimed run.0) =
+          mapped_has (partition_of woven claimed) (won_runs claimed count) run.0 (has_from_contains (won_runs claimed count) run.0 ((runs_are_maximal claimed count run.0).1 (run.1, run.2))) in
+          let region : or_zero (winner_of claimed run.0.from) ≡ n = ap or_zero (sym (run.1.won located.k run.3 run.4) ∙ w.1) ∙ same in
+          any_from (λ (s : Stretch). (s.region ≡ n) × HasPosition s (Frac p q)) (stretches_of (lit_of regions ray)) (stretch_of (lit_by regions ray (partition_of woven claimed run.0)))
+          (mapped_has stretch_of (lit_of regions ray) (lit_by regions ray (partition_of woven claimed run.0)) (mapped_has (lit_by regions ray) parts (partition_of woven claimed run.0) there))
+          (region, has_point run.0 run.3 run.4 run.2 (or_zero (winner_of claimed run.0.from)))
 
   pub tells_points : ((i j : ℕ) → i < j → j < length regions → (get_or regions i no_region).place < (get_or regions j no_region).place) → TellsPoints regions ray (stretches_of (lit_of regions ray))
   tells_points rising p q n on no_hit = (to_lies p q on no_hit rising n, from_lies p q on no_hit rising n)

@@ -14,11 +14,10 @@ use Rattle.tree_forms.specs.Trees.{Leaf, Join}
 use Rattle.solid_set.specs.HitPlaces.{surface_places, IsAtOneOf}
 use Rattle.solid_set.specs.Segments.{ray_start, ray_end}
 use Rattle.solid_set.specs.Surfaces.{IsInside}
-use Rattle.bool_weave.specs.Cuts.{IsWoven}
 use Rattle.bool_weave.specs.Masks.{Mask}
 use Rattle.shot_core.specs.declared.shot.Lit.{Lit}
-use Rattle.shot_core.specs.Regions.{Instance, RegionBody, Region, HaveInstances, IsScene, has_air, instances_of}
-use Rattle.shot_core.specs.Shots.{woven_of, lit_of}
+use Rattle.shot_core.specs.Regions.{Instance, RegionBody, Region, HaveInstances, has_air, instances_of}
+use Rattle.shot_core.specs.Shots.{lit_of}
 
 -- the hit places of a ray: where it begins, where it ends, and where it crosses the surface of an instance
 abbrev pub ray_places : List Region → Ray → List Pos
@@ -106,6 +105,6 @@ pub record IsTrueOfPoints (regions : List Region) (ray : Ray) (stretches : List 
   pub tells : TellsPoints regions ray stretches
   pub alone : (others : List Stretch) → AreStretches (length regions) others → TellsPoints regions ray others → others ≡ stretches
 
--- what is lit of a ray does so in every scene, where the segments of its instances can be woven
+-- the partitions of every ray do so, whatever the regions are whose places rise
 abbrev pub PartitionsTellPoints : Type 0
-PartitionsTellPoints = (regions : List Region) (ray : Ray) → IsScene regions → HaveInstances regions → IsWoven (woven_of regions ray) → IsTrueOfPoints regions ray (stretches_of (lit_of regions ray))
+PartitionsTellPoints = (regions : List Region) (ray : Ray) → AllPairs (λ r s. r.place < s.place) regions → HaveInstances regions → IsTrueOfPoints regions ray (stretches_of (lit_of regions ray))

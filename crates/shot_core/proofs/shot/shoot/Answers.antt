@@ -172,13 +172,11 @@ returns-clause-segments g c =
 
 pub returns-then-is_empty-clause-points : goal.returns-then-is_empty-clause-points
 returns-then-is_empty-clause-points g c =
-    let sound : IsWoven (woven_of c.args.scene.now c.args.ray.now) = subst IsWoven c.in_ok-numbers.ensures.woven c.woven.ensures.sound in
     subst (λ (ls : List Lit). IsTrueOfPoints c.args.scene.now c.args.ray.now (stretches_of ls)) (sym (returns-then-is_empty-clause-lit g c))
-    (true_of_points c.args.scene.now c.args.ray.now c.in_ok-numbers.ensures.sound c.in_ok-numbers.ensures.leaves sound)
+    (true_of_points c.args.scene.now c.args.ray.now c.in_ok-numbers.ensures.sound.rising c.in_ok-numbers.ensures.leaves)
 
 pub returns-clause-points : goal.returns-clause-points
 returns-clause-points g c =
-    let sound : IsWoven (woven_of c.args.scene.now c.args.ray.now) = subst IsWoven c.in_ok-numbers.ensures.woven c.woven.ensures.sound in
     IfOk-weaker c.lit_by_all.result (λ v. v.items ≡ lit_of c.args.scene.now c.args.ray.now) (λ v. IsTrueOfPoints c.args.scene.now c.args.ray.now (stretches_of v.items))
     (λ v h. subst (λ (ls : List Lit). IsTrueOfPoints c.args.scene.now c.args.ray.now (stretches_of ls)) (sym h)
-    (true_of_points c.args.scene.now c.args.ray.now c.in_ok-numbers.ensures.sound c.in_ok-numbers.ensures.leaves sound)) (returns-clause-lit g c)
+    (true_of_points c.args.scene.now c.args.ray.now c.in_ok-numbers.ensures.sound.rising c.in_ok-numbers.ensures.leaves)) (returns-clause-lit g c)

@@ -37,7 +37,7 @@ written_first old new tree no_nodes no_solids w =
 pub mask_is : (out : Expansion) (tree : Expanded) (mask : Mask) → mask_nodes mask ≡ out.nodes.items → IsWritten out tree → mask ≡ numbered 0 tree
 mask_is out tree mask is w = sym (mask_back mask) ∙ ap mask_of (is ∙ w.nodes) ∙ mask_back (numbered 0 tree)
 
-below : (bound first : ℕ) (tree : Expanded) → first + length (solids_of tree) ≤ bound → HasLeavesBelow bound (numbered first tree)
+pub below : (bound first : ℕ) (tree : Expanded) → first + length (solids_of tree) ≤ bound → HasLeavesBelow bound (numbered first tree)
 below bound first (Leaf None) le = All-cons (λ (leaf : Option ℕ). IfSome leaf (λ i. i < bound)) None [] tt (All-nil (λ (leaf : Option ℕ). IfSome leaf (λ i. i < bound)))
 below bound first (Leaf (Some one)) le =
     All-cons (λ (leaf : Option ℕ). IfSome leaf (λ i. i < bound)) (Some first) [] (omega (arith, le)) (All-nil (λ (leaf : Option ℕ). IfSome leaf (λ i. i < bound)))

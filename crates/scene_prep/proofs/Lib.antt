@@ -8,6 +8,7 @@ mod Numbers
 mod Parts
 mod PathLines
 mod Placements
+pub mod Pointing
 mod Scening
 mod Settling
 mod Sizing

@@ -62,9 +62,12 @@ rising_from place [] = λ i j d lt below. absurd (omega (arith, below))
 rising_from place (region ∷ regions) =
     AllPairs-cons (λ (r s : Region). r.place < s.place) (region_at place region) (scene_from (place + 1) regions) (after_from place (place + 1) regions (omega arith)) (rising_from (place + 1) regions)
 
+pub scene_rising : (directory : Entries) (names : List Name) → AllPairs (λ (r s : Region). r.place < s.place) (scene_of directory names)
+scene_rising directory names = rising_from 1 (regions_of directory names)
+
 pub scene_sound : (directory : Entries) (names : List Name) → names_size directory names ≤ most_size → IsScene (scene_of directory names)
 scene_sound directory names small = record {
-  rising = rising_from 1 (regions_of directory names);
+  rising = scene_rising directory names;
   begun = begun_from 1 1 (regions_of directory names) (omega arith);
   size = omega (arith, size_from 1 (regions_of directory names), regions_within_size directory names, small);
   instances = omega (arith, instances_from 1 (regions_of directory names), regions_within_size directory names, small);

@@ -4,13 +4,17 @@ use Rattle.std.specs.List.{list_any, range_with_len}
 use Rattle.tree_forms.specs.Trees.{leaves, holds_by}
 use Rattle.name_core.specs.declared.name.Name.{Name}
 use Rattle.lattice_core.specs.declared.placement.Placement.{Placement}
+use Rattle.lattice_core.specs.declared.ray.Ray.{Ray}
 use Rattle.lattice_core.specs.declared.vector.V3.{V3}
 use Rattle.lattice_core.specs.Placements.{placed}
 use Rattle.solid_set.specs.Surfaces.{surface_of, bounds_of}
 use Rattle.directory.specs.Walks.{Entries, object_of, IsSound}
+use Rattle.shot_core.specs.Points.{stretches_of, IsTrueOfPoints}
+use Rattle.shot_core.specs.Shots.{lit_of}
 use Rattle.scene_prep.specs.Solids.{PlacedSolid, Expanded, solids_of, numbered, point_under, in_world}
 use Rattle.scene_prep.specs.Expanding.{expanded, expanded_object}
 use Rattle.scene_prep.specs.Regions.{regions_of_name, regions_of, regions_of_object}
+use Rattle.scene_prep.specs.Scenes.{scene_of}
 use Rattle.scene_prep.specs.Sizes.{size_of_name, names_size, object_size}
 
 -- a name's tree is made of those of its members: the number of levels cuts nothing off
@@ -57,3 +61,8 @@ DoesAll by placements = (p : V3) → placed by p ≡ point_under placements p
 abbrev pub PlacementsAreOne : Type 0
 PlacementsAreOne = (one : PlacedSolid) (by : Placement) → DoesAll by one.placements
     → ((in_world one).surface ≡ surface_of one.solid by) × ((in_world one).bounds ≡ bounds_of one.solid by)
+
+-- the partitions of a ray and the regions of names are the one list that tells what lies at its points, whatever the directory, the
+-- names and the ray
+abbrev pub PartitionsTellPoints : Type 0
+PartitionsTellPoints = (directory : Entries) (names : List Name) (ray : Ray) → IsTrueOfPoints (scene_of directory names) ray (stretches_of (lit_of (scene_of directory names) ray))

@@ -13,3 +13,4 @@ pub mod MoreLaws
 pub mod SessionLaws
 mod FlightLaws
 mod FlyLaws
+pub mod PointLaws

@@ -3,6 +3,7 @@ pub mod Replies
 pub mod Answers
 pub mod Pictures
 pub mod Flights
+pub mod Points
 pub mod Laws
 pub mod Kept
 pub mod Sessions

@@ -1,5 +1,6 @@
 //! What a reader may conclude of any run.
 ghost use Rattle.session_run.specs.Laws.{AnswersAtPlaces, RisesWithEdits, VersionsNeverFall};
+ghost use Rattle.session_run.specs.Points.{ShotsAreTrue};
 
 /// Along the commands of a session versions never fall; a version rises by one exactly at an edit that is accepted, and not
 /// answered for want of memory; and the answer of a command is that of the directory at its place in the order. The function
@@ -8,4 +9,10 @@ pub fn run_laws()
     ensures versions { VersionsNeverFall }
     ensures edits { RisesWithEdits }
     ensures places { AnswersAtPlaces }
+{}
+
+/// The lines of an accepted shot are those of partitions that tell what lies at the points of its ray, and no other list of
+/// stretches does. The function does nothing: its contract is the law.
+pub fn shot_law()
+    ensures { ShotsAreTrue }
 {}

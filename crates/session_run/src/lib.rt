@@ -12,6 +12,6 @@ mod session;
 
 pub use answer::{Answer, Book, Found, Own, answer_command, answer_look};
 pub use keep::Keep;
-pub use laws::run_laws;
+pub use laws::{run_laws, shot_law};
 pub use limit::{MOST_USED, limit_laws};
 pub use session::Session;

@@ -9,6 +9,7 @@ ghost use Rattle.session_run.specs.Answers.{core_answer};
 ghost use Rattle.session_run.specs.Flights.{Flies, HasRunOf, IsBegun, IsBegunNext, IsLook, IsReady, IsShooting};
 ghost use Rattle.session_run.specs.Kept.{IsCurrent};
 ghost use Rattle.session_run.specs.Own.{OwnState};
+ghost use Rattle.session_run.specs.Points.{IsTrueReply};
 ghost use Rattle.session_run.specs.declared.answer.Answer.{Answer as AnyAnswer};
 ghost use Rattle.session_run.specs.Replies.{core_rules, most_used, nothing_used, table_outcome};
 ghost use Rattle.session_run.specs.Sessions.{HasRun, IsNext, IsCurrentPast, book_at};
@@ -443,6 +444,7 @@ impl Session {
     ) -> Answer
         requires looks { is_look command.now ≡ true }
         ensures answer { core_answer result ≡ answer_of core_rules (book_at (arc_value directory.now) version) self.old.own (shown_as command.now (core_answer result)) }
+        ensures points { IsTrueReply (arc_value directory.now).objects command.now (core_answer result).reply }
         ensures own { self.new.own ≡ own_after core_rules (book_at (arc_value directory.now) version) self.old.own (shown_as command.now (core_answer result)) }
         ensures current { IsCurrent self.new.keep version (arc_value directory.now).objects }
         ensures session { self.new.session ≡ self.old.session }

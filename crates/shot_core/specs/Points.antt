@@ -62,9 +62,11 @@ pub record Stretch : Type 0 where
   pub start : Pos
   pub end : Pos
 
+-- what a partition has, without its hit and its level
 abbrev pub stretch_of : Lit → Stretch
 stretch_of lit = record { region = lit.region; start = lit.start; end = lit.end }
 
+-- those of partitions
 abbrev pub stretches_of : List Lit → List Stretch
 stretches_of lit = map stretch_of lit
 

@@ -1,0 +1,59 @@
+-- The answer to a shot tells what lies at the points of its ray.
+use Rattle.std.proofs.Common.{ℕ, ◌+◌, Bool, true, false, cond, nat_le, List, Option, Some, None, Result, Ok, Err, codes, refl}
+use Rattle.name_core.specs.declared.name.Name.{Name}
+use Rattle.lattice_core.specs.declared.ray.Ray.{Ray}
+use Rattle.outside_core.specs.declared.traits.File.{File}
+use Rattle.transcript.specs.Run.{Book, Marked, Reply, Accepted, Refused}
+use Rattle.command_set.specs.declared.command.Command.{Command}
+use Rattle.command_set.specs.declared.command.Command.TheVariants.{Bad, Edit as IsEdit, Query as IsQuery, Shoot as IsShoot}
+use Rattle.command_set.specs.declared.command.Query.{Query}
+use Rattle.command_set.specs.declared.command.Query.TheVariants as queries
+use Rattle.command_set.specs.declared.refusal.Refusal.{Refusal}
+use Rattle.command_set.specs.declared.refusal.Refusal.TheVariants.{Quota}
+use Rattle.directory.specs.Listing.{Listing}
+use Rattle.directory.specs.Walks.{Entries}
+use Rattle.shot_core.specs.Shots.{lit_of}
+use Rattle.scene_prep.specs.declared.fault.PrepFault.{PrepFault}
+use Rattle.scene_prep.specs.Outcomes.{prep_fault}
+use Rattle.scene_prep.specs.Scenes.{scene_of}
+use Rattle.scene_prep.proofs.Pointing.{partitions_tell_points}
+use Rattle.session_run.specs.declared.answer.Found.{Found}
+use Rattle.session_run.specs.Own.{OwnState}
+use Rattle.session_run.specs.Points.{IsTrueShot, IsTrueOfQuery, IsTrueReply, ShotsAreTrue}
+use Rattle.session_run.specs.Replies.{Outcome, core_rules, most_used, size_of, within_quota, found_unless, lines_alone, lines_of_scene, shot_of, found, outcome_of, shown}
+
+true_shot : (objects : Entries) (ray : Ray) (names : List Name) → IsTrueShot objects ray names (lines_of_scene (scene_of objects names) ray)
+true_shot objects ray names = record { lit = lit_of (scene_of objects names) ray; lines_are = refl; points = partitions_tell_points objects names ray }
+
+-- what is left of a body where there is room for it is the body
+roomy : (objects : Entries) (query : Query) (found : Found) → IsTrueOfQuery objects query found.body → (room : Bool) (refusal : Refusal) → IsTrueReply objects (IsQuery query) (shown (cond room (Ok found) (Err refusal)))
+roomy objects query found h true refusal = h
+roomy objects query found h false refusal = tt
+
+shot_true : (objects : Entries) (ray : Ray) (names : List Name) (used : ℕ) (fault : Option PrepFault)
+    → IsTrueReply objects (IsQuery (queries.Shot ray names)) (shown (within_quota used (found_unless fault (lines_alone (lines_of_scene (scene_of objects names) ray)))))
+shot_true objects ray names used None =
+    roomy objects (queries.Shot ray names) (lines_alone (lines_of_scene (scene_of objects names) ray)) (true_shot objects ray names)
+    (nat_le (used + size_of (lines_alone (lines_of_scene (scene_of objects names) ray))) most_used) Quota
+shot_true objects ray names used (Some fault) = tt
+
+other : (objects : Entries) (query : Query) (reply : Reply File) → ((lines : List (List ℕ)) → IsTrueOfQuery objects query lines) → IsTrueReply objects (IsQuery query) reply
+other objects query (Accepted lines file) h = h lines
+other objects query (Refused text) h = tt
+
+found_true : (d : Listing) (own : OwnState) (query : Query) → IsTrueReply d.objects (IsQuery query) (shown (outcome_of d own (IsQuery query)))
+found_true d own (queries.List names) = other d.objects (queries.List names) (shown (outcome_of d own (IsQuery (queries.List names)))) (λ lines. tt)
+found_true d own queries.Names = other d.objects queries.Names (shown (outcome_of d own (IsQuery queries.Names))) (λ lines. tt)
+found_true d own (queries.Tree names) = other d.objects (queries.Tree names) (shown (outcome_of d own (IsQuery (queries.Tree names)))) (λ lines. tt)
+found_true d own (queries.Save file) = other d.objects (queries.Save file) (shown (outcome_of d own (IsQuery (queries.Save file)))) (λ lines. tt)
+found_true d own (queries.Shot ray names) = shot_true d.objects ray names own.used (prep_fault d.objects names)
+
+marked_true : (book : Book Listing) (own : OwnState) (command : Command) (memory : Bool) → IsTrueReply book.directory.objects command (cond memory (Refused (codes "memory")) (core_rules.reply book.directory own command))
+marked_true book own (Bad refusal) memory = tt
+marked_true book own (IsEdit edit) memory = tt
+marked_true book own (IsShoot shoot) memory = tt
+marked_true book own (IsQuery query) true = tt
+marked_true book own (IsQuery query) false = found_true book.directory own query
+
+pub shots_are_true : ShotsAreTrue
+shots_are_true book own m = marked_true book own m.command m.memory

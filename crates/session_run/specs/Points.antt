@@ -1,0 +1,44 @@
+-- What the answer to a shot says of the points of its ray.
+use Rattle.std.specs.Prelude.{◌≡◌, ℕ, List}
+use Rattle.name_core.specs.declared.name.Name.{Name}
+use Rattle.lattice_core.specs.declared.ray.Ray.{Ray}
+use Rattle.outside_core.specs.declared.traits.File.{File}
+use Rattle.transcript.specs.Run.{Book, Marked, Reply, Accepted, Refused, answer_of}
+use Rattle.command_set.specs.declared.command.Command.{Command}
+use Rattle.command_set.specs.declared.command.Command.TheVariants.{Bad, Edit as IsEdit, Query as IsQuery, Shoot as IsShoot}
+use Rattle.command_set.specs.declared.command.Query.{Query}
+use Rattle.command_set.specs.declared.command.Query.TheVariants as queries
+use Rattle.directory.specs.Listing.{Listing}
+use Rattle.directory.specs.Walks.{Entries}
+use Rattle.shot_core.specs.declared.shot.Lit.{Lit}
+use Rattle.shot_core.specs.Points.{stretches_of, IsTrueOfPoints}
+use Rattle.scene_prep.specs.Scenes.{scene_of}
+use Rattle.report_text.specs.Shots.{shot_lines}
+use Rattle.session_run.specs.Own.{OwnState}
+use Rattle.session_run.specs.Replies.{core_rules}
+
+-- the lines are those of partitions that are the one list that tells what lies at the points of the ray
+pub record IsTrueShot (objects : Entries) (ray : Ray) (names : List Name) (lines : List (List ℕ)) : Type 0 where
+  pub lit : List Lit
+  pub lines_are : lines ≡ shot_lines (scene_of objects names) lit
+  pub points : IsTrueOfPoints (scene_of objects names) ray (stretches_of lit)
+
+-- the lines of a shot's body are such; of other queries nothing is said
+abbrev pub IsTrueOfQuery : Entries → Query → List (List ℕ) → Type 0
+IsTrueOfQuery objects (queries.List names) lines = Unit {0}
+IsTrueOfQuery objects queries.Names lines = Unit {0}
+IsTrueOfQuery objects (queries.Tree names) lines = Unit {0}
+IsTrueOfQuery objects (queries.Save file) lines = Unit {0}
+IsTrueOfQuery objects (queries.Shot ray names) lines = IsTrueShot objects ray names lines
+
+-- where a shot is accepted, the lines of its body are such
+abbrev pub IsTrueReply : Entries → Command → Reply File → Type 0
+IsTrueReply objects (Bad refusal) reply = Unit {0}
+IsTrueReply objects (IsEdit edit) reply = Unit {0}
+IsTrueReply objects (IsShoot shoot) reply = Unit {0}
+IsTrueReply objects (IsQuery query) (Refused text) = Unit {0}
+IsTrueReply objects (IsQuery query) (Accepted lines file) = IsTrueOfQuery objects query lines
+
+-- the answer of each command of a run is such with the objects of its place in the run
+abbrev pub ShotsAreTrue : Type 0
+ShotsAreTrue = (book : Book Listing) (own : OwnState) (m : Marked Command) → IsTrueReply book.directory.objects m.command (answer_of core_rules book own m).reply

@@ -1,9 +1,9 @@
 -- The answer to a shot tells what lies at the points of its ray.
-use Rattle.std.proofs.Common.{ℕ, ◌+◌, Bool, true, false, cond, nat_le, List, Option, Some, None, Result, Ok, Err, codes, refl}
+use Rattle.std.proofs.Common.{◌≡◌, sym, subst, ℕ, ◌+◌, Bool, true, false, cond, nat_le, List, Option, Some, None, Ok, Err, codes, refl}
 use Rattle.name_core.specs.declared.name.Name.{Name}
 use Rattle.lattice_core.specs.declared.ray.Ray.{Ray}
 use Rattle.outside_core.specs.declared.traits.File.{File}
-use Rattle.transcript.specs.Run.{Book, Marked, Reply, Accepted, Refused}
+use Rattle.transcript.specs.Run.{Answer, Book, Marked, Reply, Accepted, Refused, answer_of}
 use Rattle.command_set.specs.declared.command.Command.{Command}
 use Rattle.command_set.specs.declared.command.Command.TheVariants.{Bad, Edit as IsEdit, Query as IsQuery, Shoot as IsShoot}
 use Rattle.command_set.specs.declared.command.Query.{Query}
@@ -19,8 +19,9 @@ use Rattle.scene_prep.specs.Scenes.{scene_of}
 use Rattle.scene_prep.proofs.Pointing.{partitions_tell_points}
 use Rattle.session_run.specs.declared.answer.Found.{Found}
 use Rattle.session_run.specs.Own.{OwnState}
+use Rattle.session_run.specs.Sessions.{book_at}
 use Rattle.session_run.specs.Points.{IsTrueShot, IsTrueOfQuery, IsTrueReply, ShotsAreTrue}
-use Rattle.session_run.specs.Replies.{Outcome, core_rules, most_used, size_of, within_quota, found_unless, lines_alone, lines_of_scene, shot_of, found, outcome_of, shown}
+use Rattle.session_run.specs.Replies.{core_rules, most_used, size_of, within_quota, found_unless, lines_alone, lines_of_scene, found, outcome_of, shown}
 
 true_shot : (objects : Entries) (ray : Ray) (names : List Name) → IsTrueShot objects ray names (lines_of_scene (scene_of objects names) ray)
 true_shot objects ray names = record { lit = lit_of (scene_of objects names) ray; lines_are = refl; points = partitions_tell_points objects names ray }
@@ -57,3 +58,7 @@ marked_true book own (IsQuery query) false = found_true book.directory own query
 
 pub shots_are_true : ShotsAreTrue
 shots_are_true book own m = marked_true book own m.command m.memory
+
+-- also where the directory is that of some version
+pub answered_true : (d : Listing) (version : ℕ) (own : OwnState) (m : Marked Command) (answer : Answer File) → answer ≡ answer_of core_rules (book_at d version) own m → IsTrueReply d.objects m.command answer.reply
+answered_true d version own m answer e = subst (λ (a : Answer File). IsTrueReply d.objects m.command a.reply) (sym e) (shots_are_true (book_at d version) own m)

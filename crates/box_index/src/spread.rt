@@ -3,14 +3,14 @@
 use crate::cut::{Axis, Cut};
 use lattice_core::{Box3, Extent, Side};
 
-/// The middles of some boxes along an axis, each doubled so that it is whole: how many they are, their sum, the least and the
-/// greatest.
+/// The middles of some boxes along an axis: how many they are, their sum, the least and the greatest. Where the sum passes 64
+/// bits, the cut lies elsewhere, which costs time alone.
 #[derive(Clone, Copy)]
 struct Spread {
     count: u32,
-    sum: i128,
-    least: i128,
-    greatest: i128,
+    sum: i64,
+    least: i64,
+    greatest: i64,
 }
 
 impl Spread {
@@ -18,36 +18,34 @@ impl Spread {
         Spread {
             count: 0,
             sum: 0,
-            least: i128::MAX,
-            greatest: i128::MIN,
+            least: i64::MAX,
+            greatest: i64::MIN,
         }
     }
 
     /// Takes in the middle of an extent, if it has one.
     fn add(&mut self, extent: &Extent) {
-        if let Some(middle) = doubled_middle(extent) {
-            self.count = self.count.saturating_add(1);
-            self.sum = self.sum.saturating_add(middle);
+        if let Some(middle) = middle_of(extent) {
+            self.count = self.count.wrapping_add(1);
+            self.sum = self.sum.wrapping_add(middle);
             self.least = self.least.min(middle);
             self.greatest = self.greatest.max(middle);
         }
     }
 
-    fn width(&self) -> i128 {
+    fn width(&self) -> i64 {
         self.greatest.saturating_sub(self.least)
     }
 
     fn mean(&self) -> Option<i64> {
-        let doubled = i128::from(self.count) * 2;
-        let mean = self.sum.checked_div(doubled)?;
-        i64::try_from(mean).ok()
+        self.sum.checked_div(i64::from(self.count))
     }
 }
 
-/// The doubled middle of an extent. One with an open side has none.
-fn doubled_middle(extent: &Extent) -> Option<i128> {
+/// A whole coordinate next to the middle of an extent. One with an open side has none.
+fn middle_of(extent: &Extent) -> Option<i64> {
     match (extent.low, extent.high) {
-        (Side::At(low), Side::At(high)) => Some(i128::from(low) + i128::from(high)),
+        (Side::At(low), Side::At(high)) => Some(low / 2 + high / 2),
         _ => None,
     }
 }

@@ -9,8 +9,11 @@ use Rattle.lattice_core.specs.declared.vector.V3.{V3}
 use Rattle.lattice_core.specs.Placements.{placed}
 use Rattle.solid_set.specs.Surfaces.{surface_of, bounds_of}
 use Rattle.directory.specs.Walks.{Entries, object_of, IsSound}
+use Rattle.shot_core.specs.FirstShots.{first_seen}
+use Rattle.shot_core.specs.OverlapPoints.{AreTrueOverlaps}
 use Rattle.shot_core.specs.Points.{stretches_of, IsTrueOfPoints}
-use Rattle.shot_core.specs.Shots.{lit_of}
+use Rattle.shot_core.specs.SeenPoints.{IsSeenFirst}
+use Rattle.shot_core.specs.Shots.{lit_of, overlaps_on}
 use Rattle.scene_prep.specs.Solids.{PlacedSolid, Expanded, solids_of, numbered, point_under, in_world}
 use Rattle.scene_prep.specs.Expanding.{expanded, expanded_object}
 use Rattle.scene_prep.specs.Regions.{regions_of_name, regions_of, regions_of_object}
@@ -62,7 +65,15 @@ abbrev pub PlacementsAreOne : Type 0
 PlacementsAreOne = (one : PlacedSolid) (by : Placement) → DoesAll by one.placements
     → ((in_world one).surface ≡ surface_of one.solid by) × ((in_world one).bounds ≡ bounds_of one.solid by)
 
--- the partitions of a ray and the regions of names are the one list that tells what lies at its points, whatever the directory, the
--- names and the ray
+-- what a ray meets of the regions of names tells what lies at its points, whatever the directory, the names and the ray: its
+-- partitions, as no other list of stretches does
 abbrev pub PartitionsTellPoints : Type 0
 PartitionsTellPoints = (directory : Entries) (names : List Name) (ray : Ray) → IsTrueOfPoints (scene_of directory names) ray (stretches_of (lit_of (scene_of directory names) ray))
+
+-- its overlaps
+abbrev pub OverlapsTellPoints : Type 0
+OverlapsTellPoints = (directory : Entries) (names : List Name) (ray : Ray) → AreTrueOverlaps (scene_of directory names) ray (overlaps_on (scene_of directory names) ray)
+
+-- and what it shows first
+abbrev pub SeenTellsPoints : Type 0
+SeenTellsPoints = (directory : Entries) (names : List Name) (ray : Ray) → IsSeenFirst (scene_of directory names) ray (first_seen (scene_of directory names) ray)

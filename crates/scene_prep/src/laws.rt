@@ -1,4 +1,4 @@
-ghost use Rattle.scene_prep.specs.Laws.{TreesAreWhole, RegionsAreWhole, SizesAreWhole, SizesCountLeaves, RegionsAreWithinSize, RegionsHoldTogether, NumbersFollow, PlacementsAreOne, PartitionsTellPoints};
+ghost use Rattle.scene_prep.specs.Laws.{TreesAreWhole, RegionsAreWhole, SizesAreWhole, SizesCountLeaves, RegionsAreWithinSize, RegionsHoldTogether, NumbersFollow, PlacementsAreOne, PartitionsTellPoints, OverlapsTellPoints, SeenTellsPoints};
 
 /// Laws of the regions of names, of their trees and their sizes. The function does nothing: its contract is the laws.
 pub fn region_laws()
@@ -12,8 +12,11 @@ pub fn region_laws()
     ensures placements { PlacementsAreOne }
 {}
 
-/// The partitions of a ray and the regions of names tell what lies at its points, and no other list of stretches does. The
-/// function does nothing: its contract is the law.
-pub fn point_law()
-    ensures { PartitionsTellPoints }
+/// Laws of the points of a ray and the regions of names: the partitions tell what lies there, and no other list of stretches does;
+/// the overlaps tell where two regions lie together; what is shown first begins where first a region without air lies. The
+/// function does nothing: its contract is the laws.
+pub fn point_laws()
+    ensures partitions { PartitionsTellPoints }
+    ensures overlaps { OverlapsTellPoints }
+    ensures seen { SeenTellsPoints }
 {}

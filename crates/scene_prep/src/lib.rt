@@ -15,6 +15,6 @@ mod size;
 mod walk;
 
 pub use fault::PrepFault;
-pub use laws::{point_law, region_laws};
+pub use laws::{point_laws, region_laws};
 pub use preparing::prepare;
 pub use size::{MOST_SIZE, limit_laws};

@@ -13,6 +13,8 @@ pub mod ResultLaws
 pub mod Pointing
 pub mod OneList
 pub mod PointTruth
+pub mod OverlapTruth
+pub mod SeenTruth
 pub mod Placing
 pub mod FirstShots
 pub mod NearSides

@@ -70,7 +70,7 @@ none_around : (ss : List Stretch) (n : ℕ) (x : Pos) → ((t : Stretch) → Has
 none_around [] n x not_after = λ around. around
 none_around (s ∷ ss) n x not_after = λ around. elim around [ inl here ↦ not_after s (inl refl) here.after | inr more ↦ none_around ss n x (λ t has. not_after t (inr has)) more ]
 
-good_one : (ss : List Stretch) (t : Stretch) → AreGood ss → Has ss t → IsStretch t
+pub good_one : (ss : List Stretch) (t : Stretch) → AreGood ss → Has ss t → IsStretch t
 good_one [] t good has = absurd has
 good_one (s ∷ ss) t good has = elim has [ inl e ↦ subst IsStretch e good.0 | inr more ↦ good_one ss t good.2 more ]
 

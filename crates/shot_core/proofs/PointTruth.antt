@@ -122,7 +122,7 @@ around_has ss each n x place around =
 each_of : (ss : List Stretch) → All IsStretch ss → (s : Stretch) → Has ss s → IsStretch s
 each_of ss all s has = let c = contains_from_has ss s has in subst IsStretch c.2 (all c.0 s c.1)
 
-good_of : (ss : List Stretch) → All IsStretch ss → AllPairs EndsBefore ss → AreGood ss
+pub good_of : (ss : List Stretch) → All IsStretch ss → AllPairs EndsBefore ss → AreGood ss
 good_of [] all pairs = tt
 good_of (s ∷ ss) all pairs = (
   all zero s (omega arith),
@@ -201,7 +201,7 @@ module _ (regions : List Region) (ray : Ray) (below : HaveInstances regions) whe
   abbrev runs : List IntervalRun
   runs = won_runs claimed count
 
-  ordered_lit : AreStretches (length regions) (stretches_of (lit_of regions ray))
+  pub ordered_lit : AreStretches (length regions) (stretches_of (lit_of regions ray))
   ordered_lit = record {
     numbers = All-map (λ (s : Stretch). s.region < length regions) stretch_of (lit_of regions ray)
         (All-map (λ (l : Lit). l.region < length regions) (lit_by regions ray) (map (partition_of woven claimed) runs)

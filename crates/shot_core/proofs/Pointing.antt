@@ -168,7 +168,7 @@ spans_from (v ∷ vs) interval w m is has covered = elim has [
     second false b e = e
 
 -- lists by membership
-has_mapped : {X Y : Type 0} (f : X → Y) (xs : List X) (y : Y) → Has (map f xs) y → (x : X) × Has xs x × (f x ≡ y)
+pub has_mapped : {X Y : Type 0} (f : X → Y) (xs : List X) (y : Y) → Has (map f xs) y → (x : X) × Has xs x × (f x ≡ y)
 has_mapped f [] y has = absurd has
 has_mapped f (x ∷ xs) y has = elim has [ inl e ↦ (x, inl refl, e) | inr more ↦ let m = has_mapped f xs y more in (m.0, inr m.1, m.2) ]
 
@@ -219,13 +219,13 @@ module _ (regions : List Region) (ray : Ray) (below : HaveInstances regions) whe
   pub on_ray : (k : ℕ) → k ≤ count → IsRayPlace (cut_at woven k)
   on_ray k le = cut_on_ray ray (instances_of regions) woven of k (omega (arith, le, cuts_count))
 
-  place : (k : ℕ) → k ≤ count → IsPlace (cut_at woven k)
+  pub place : (k : ℕ) → k ≤ count → IsPlace (cut_at woven k)
   place k le = place_is (cut_at woven k) (on_ray k le)
 
   pub rises : (i j : ℕ) → i < j → j ≤ count → Precedes (cut_at woven i) (cut_at woven j)
   rises i j lt within = cuts_rise ray (instances_of regions) woven of i j lt (omega (arith, within, cuts_count))
 
-  not_back : (i j : ℕ) → i ≤ j → j ≤ count → ¬ (Precedes (cut_at woven j) (cut_at woven i))
+  pub not_back : (i j : ℕ) → i ≤ j → j ≤ count → ¬ (Precedes (cut_at woven j) (cut_at woven i))
   not_back i j le within before =
       elim (cases_lt i j) [
         | inl lt ↦ asymmetric (cut_at woven i) (cut_at woven j) (place i (omega (arith, le, within))) (place j within) (rises i j lt within) before
@@ -240,7 +240,7 @@ module _ (regions : List Region) (ray : Ray) (below : HaveInstances regions) whe
         | inr here ↦ ap (λ n. cut_at woven n) (let e : 0 ≡ c.at = omega (arith, here) in e) ∙ c.is
       ]
 
-  last_cut : cut_at woven count ≡ ray_end
+  pub last_cut : cut_at woven count ≡ ray_end
   last_cut =
       let c = cut_of ray_end (inr (inl refl)) in
       elim (cases_lt c.at count) [
@@ -256,11 +256,11 @@ module _ (regions : List Region) (ray : Ray) (below : HaveInstances regions) whe
     x = Frac p q
 
     -- the interval in which the point lies
-    record IsLocated : Type 0 where
-      k : ℕ
-      within : k < count
-      after : Precedes (cut_at woven k) (Frac p q)
-      before : Precedes (Frac p q) (cut_at woven (k + 1))
+    pub record IsLocated : Type 0 where
+      pub k : ℕ
+      pub within : k < count
+      pub after : Precedes (cut_at woven k) (Frac p q)
+      pub before : Precedes (Frac p q) (cut_at woven (k + 1))
 
     apart : (k : ℕ) → k ≤ count → ¬ (SamePlace (Frac p q) (cut_at woven k))
     apart k le same = no_hit (at_same (ray_places regions ray) (Frac p q) (cut_at woven k) same (cut_hit k le))
@@ -274,7 +274,7 @@ module _ (regions : List Region) (ray : Ray) (below : HaveInstances regions) whe
       | inr rest ↦ elim rest [ inl same ↦ absurd (apart (k + 1) (omega (arith, e)) same) | inr behind ↦ search_from n (k + 1) (omega (arith, e)) behind ]
     ]
 
-    located : IsLocated
+    pub located : IsLocated
     located =
         search_from count 0 (omega arith) (elim (outcome (cut_at woven 0) (Frac p q) (place 0 (omega arith)) on.positive) [
           | inl after ↦ after
@@ -354,9 +354,9 @@ module _ (regions : List Region) (ray : Ray) (below : HaveInstances regions) whe
         absurd (let f : Some w.one ≡ None = sym w.there ∙ ap (slice_get (instances_of regions)) number_is ∙ there in cc)
     leaf_to number place_of (Some one) e there spanned = spanned_inside number place_of one e there spanned
 
-    record IsRegionOf (n : ℕ) (region : Region) : Type 0 where
-      claims : (d : RegionClaims) → (claims_at (get_or claimed n d) located.k ≡ true) ↔ HoldsPoint region.body ray p q
-      air : (d : RegionClaims) → (get_or claimed n d).air ≡ has_air region.body
+    pub record IsRegionOf (n : ℕ) (region : Region) : Type 0 where
+      pub claims : (d : RegionClaims) → (claims_at (get_or claimed n d) located.k ≡ true) ↔ HoldsPoint region.body ray p q
+      pub air : (d : RegionClaims) → (get_or claimed n d).air ≡ has_air region.body
 
     claims_row : (tree : Mask) (first : ℕ) → get_or (claims_of woven tree first) located.k false ≡ claims_interval woven tree first (interval_at (cuts_of woven) located.k)
     claims_row tree first =
@@ -364,7 +364,7 @@ module _ (regions : List Region) (ray : Ray) (below : HaveInstances regions) whe
         let d = interval_at (cuts_of woven) located.k in
         get_or-map (claims_interval woven tree first) (intervals_of woven) located.k d false located.within ∙ ap (claims_interval woven tree first) (intervals_at (cuts_of woven) located.k d within)
 
-    region_of : (n : ℕ) (region : Region) → slice_get regions n ≡ Some region → IsRegionOf n region
+    pub region_of : (n : ℕ) (region : Region) → slice_get regions n ≡ Some region → IsRegionOf n region
     region_of n region there =
         let lt : n < length regions = slice_get_within regions n region there in
         let is : get_or regions n region ≡ region = get_or_from_slice_get regions n region region there in
@@ -419,7 +419,7 @@ module _ (regions : List Region) (ray : Ray) (below : HaveInstances regions) whe
     number_there n lt = slice_at regions n no_region (omega (arith, lt, claims_length woven 0 regions))
 
     -- the region that wins the interval lies at the point
-    winner_lies : (n : ℕ) → IsWinner claimed located.k n → (rising : (i j : ℕ) → i < j → j < length regions → (get_or regions i no_region).place < (get_or regions j no_region).place) → LiesAt regions ray p q n
+    pub winner_lies : (n : ℕ) → IsWinner claimed located.k n → (rising : (i j : ℕ) → i < j → j < length regions → (get_or regions i no_region).place < (get_or regions j no_region).place) → LiesAt regions ray p q n
     winner_lies n win rising =
         let there : slice_get regions n ≡ Some (get_or regions n no_region) = number_there n win.there in
         let mine = region_of n (get_or regions n no_region) there in
@@ -498,7 +498,7 @@ module _ (regions : List Region) (ray : Ray) (below : HaveInstances regions) whe
           winner_lies n (subst (IsWinner claimed located.k) region (part_in part.0 won begun not_ended)) rising
 
       -- the region of the interval in which the point lies
-      some_winner : (n : ℕ) (o : Option ℕ) → winner_of claimed located.k ≡ o → n < length claimed → claims_at (get_or claimed n no_claims) located.k ≡ true → (w : ℕ) × (winner_of claimed located.k ≡ Some w)
+      pub some_winner : (n : ℕ) (o : Option ℕ) → winner_of claimed located.k ≡ o → n < length claimed → claims_at (get_or claimed n no_claims) located.k ≡ true → (w : ℕ) × (winner_of claimed located.k ≡ Some w)
       some_winner n None is lt claims =
           let none : (s : ℕ) (d : RegionClaims) → s < length claimed → claims_at (get_or claimed s d) located.k ≡ false =
           subst (λ o. MatchOption o ((s : ℕ) (d : RegionClaims) → s < length claimed → claims_at (get_or claimed s d) located.k ≡ false) (IsWinner claimed located.k)) is (winners_are_right claimed located.k) in

@@ -8,6 +8,8 @@ pub mod Candidates
 pub mod FirstSteps
 pub mod Laws
 pub mod Points
+pub mod OverlapPoints
+pub mod SeenPoints
 pub mod Digests
 pub mod Prepared
 pub mod Steps

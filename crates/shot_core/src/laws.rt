@@ -6,6 +6,8 @@ ghost use Rattle.shot_core.specs.Pruned.{TellsWhetherShared, TellsWhetherTileMet
 ghost use Rattle.shot_core.specs.Candidates.{CandidatesOverlapTheSame};
 ghost use Rattle.shot_core.specs.SegmentLaws.{AreRayEnds, AreSegments};
 ghost use Rattle.shot_core.specs.Points.{PartitionsTellPoints};
+ghost use Rattle.shot_core.specs.OverlapPoints.{OverlapsTellPoints};
+ghost use Rattle.shot_core.specs.SeenPoints.{SeenTellsPoints};
 
 /// Laws of the boxes of trees and of the boxes that a ray meets. The function does nothing: its contract is the laws.
 pub fn box_laws()
@@ -42,8 +44,11 @@ pub fn segment_laws()
     ensures segments { AreSegments }
 {}
 
-/// Law of the partitions of a ray: they tell what lies at its points, and no other list of stretches does. The function does
-/// nothing: its contract is the law.
-pub fn point_law()
-    ensures { PartitionsTellPoints }
+/// Laws of the points of a ray: its partitions tell what lies there, and no other list of stretches does; its overlaps tell where
+/// two regions lie together; and what it shows first begins where first a region without air lies. The function does nothing: its
+/// contract is the laws.
+pub fn point_laws()
+    ensures partitions { PartitionsTellPoints }
+    ensures overlaps { OverlapsTellPoints }
+    ensures seen { SeenTellsPoints }
 {}

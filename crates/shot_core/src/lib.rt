@@ -22,7 +22,7 @@ mod tree_value;
 
 pub use first::Seen;
 pub use kept::{MOST_COMPARED, kept_bodies, kept_regions, overlap_candidates};
-pub use laws::{box_laws, claim_box_laws, first_seen_laws, kept_laws, point_law, segment_laws};
+pub use laws::{box_laws, claim_box_laws, first_seen_laws, kept_laws, point_laws, segment_laws};
 pub use limit::{MOST_LEAVES, limit_laws};
 pub use near::near_order;
 pub use pair::Pair;

@@ -9,6 +9,7 @@ ghost use Rattle.shot_core.specs.MetBoxes.{met_count};
 ghost use Rattle.shot_core.specs.Shots.{woven_of, claims_on, level_of_hit, lit_by, lit_of, overlaps_on};
 ghost use Rattle.shot_core.specs.Laws.{parts_of, IsHitInScene, HoldsAllClaims, AreFirstOverlaps};
 ghost use Rattle.shot_core.specs.Points.{stretches_of, IsTrueOfPoints};
+ghost use Rattle.shot_core.specs.OverlapPoints.{AreTrueOverlaps};
 ghost use Rattle.shot_core.specs.Steps.{numbered_claims, HasRisen, IsHitOn, renumbered, renumbered_run};
 
 use crate::meet::weave_scene;
@@ -189,6 +190,7 @@ fn check_uncounted<L: Ledger>(
     ensures order { IfOk result (λ v. AreByPlace (length scene.now) v.items) }
     ensures first { IfOk result (λ v. AreFirstOverlaps scene.now ray.now v.items) }
     ensures places { IfOk result (λ v. All (λ r. IsPartOfRay r.start r.end) v.items) }
+    ensures points { IfOk result (λ v. AreTrueOverlaps scene.now ray.now v.items) }
     ensures most { IfOk result (λ v. length v.items ≤ MOST_PAIRS) }
     ensures fault { IfErr result (IsTooMany (length (overlaps_on scene.now ray.now))) }
 {
@@ -219,6 +221,7 @@ pub fn check_ray(alloc: Global, scene: &Scene, ray: &Ray) -> Result<Vec<OverlapR
     ensures order { IfOk result (λ v. AreByPlace (length scene.now) v.items) }
     ensures first { IfOk result (λ v. AreFirstOverlaps scene.now ray.now v.items) }
     ensures places { IfOk result (λ v. All (λ r. IsPartOfRay r.start r.end) v.items) }
+    ensures points { IfOk result (λ v. AreTrueOverlaps scene.now ray.now v.items) }
     ensures most { IfOk result (λ v. length v.items ≤ MOST_PAIRS) }
     ensures fault { IfErr result (IsTooMany (length (overlaps_on scene.now ray.now))) }
 {

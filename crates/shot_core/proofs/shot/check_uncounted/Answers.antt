@@ -7,8 +7,10 @@ use Rattle.overlap_list.specs.declared.overlap.OverlapRun.{OverlapRun}
 use Rattle.overlap_list.specs.Overlaps.{overlaps_of, IsTooMany}
 use Rattle.overlap_list.specs.Laws.{IsPartOfRay, AreByPlace}
 use Rattle.shot_core.specs.Laws.{AreFirstOverlaps}
+use Rattle.shot_core.specs.OverlapPoints.{AreTrueOverlaps}
 use Rattle.shot_core.specs.Shots.{woven_of, overlaps_on}
 use Rattle.shot_core.specs.Steps.{numbered_claims, renumbered_run}
+use Rattle.shot_core.proofs.OverlapTruth.{overlaps_tell_points}
 use Rattle.shot_core.proofs.ResultLaws.{runs_on_ray, runs_by_place, runs_are_first}
 use Rattle.shot_core.proofs.Shooting.{empty_from, runs_none, overlaps_picked, rows, few, runs_within, numbers_below}
 use Rattle.shot_core.proofs.shot.check_uncounted.Goals as goal
@@ -105,3 +107,11 @@ returns-then-is_empty-clause-segments g c = subst IsWoven c.in-Ok-weave_scene.en
 
 pub returns-clause-segments : goal.returns-clause-segments
 returns-clause-segments g c = subst IsWoven c.in-Ok-weave_scene.ensures.woven c.woven.ensures.sound
+
+pub returns-then-is_empty-clause-points : goal.returns-then-is_empty-clause-points
+returns-then-is_empty-clause-points g c =
+    subst (λ (os : List OverlapRun). AreTrueOverlaps c.args.scene.now c.args.ray.now os) (sym (returns-then-is_empty-clause-runs g c)) (overlaps_tell_points c.args.scene.now c.args.ray.now c.in-Ok-weave_scene.ensures.leaves)
+
+pub returns-clause-points : goal.returns-clause-points
+returns-clause-points g c =
+    subst (λ (os : List OverlapRun). AreTrueOverlaps c.args.scene.now c.args.ray.now os) (sym (returns-clause-runs g c)) (overlaps_tell_points c.args.scene.now c.args.ray.now c.in-Ok-weave_scene.ensures.leaves)

@@ -7,7 +7,7 @@ use Rattle.shot_core.specs.Regions.{Region, HasLeavesBelow, HaveInstances}
 use Rattle.shot_core.proofs.OverlapTruth.{overlaps_tell_points}
 use Rattle.shot_core.proofs.PointTruth.{true_of_points}
 use Rattle.shot_core.proofs.SeenTruth.{seen_tells_points}
-use Rattle.scene_prep.specs.Laws.{PartitionsTellPoints, OverlapsTellPoints, SeenTellsPoints}
+use Rattle.scene_prep.specs.Laws.{PartitionsOfNamesTellPoints, OverlapsOfNamesTellPoints, SeenOfNamesTellsPoints}
 use Rattle.scene_prep.specs.Regions.{NamedRegion, regions_of}
 use Rattle.scene_prep.specs.Scenes.{region_at, scene_of}
 use Rattle.scene_prep.specs.Solids.{solids_of, in_world}
@@ -23,11 +23,11 @@ leaves_from place (region ∷ regions) =
 scene_leaves : (directory : Entries) (names : List Name) → HaveInstances (scene_of directory names)
 scene_leaves directory names = leaves_from 1 (regions_of directory names)
 
-pub partitions_tell_points : PartitionsTellPoints
+pub partitions_tell_points : PartitionsOfNamesTellPoints
 partitions_tell_points directory names ray = true_of_points (scene_of directory names) ray (scene_rising directory names) (scene_leaves directory names)
 
-pub overlaps_tell : OverlapsTellPoints
+pub overlaps_tell : OverlapsOfNamesTellPoints
 overlaps_tell directory names ray = overlaps_tell_points (scene_of directory names) ray (scene_leaves directory names)
 
-pub seen_tells : SeenTellsPoints
+pub seen_tells : SeenOfNamesTellsPoints
 seen_tells directory names ray = seen_tells_points (scene_of directory names) ray (scene_rising directory names) (scene_leaves directory names)

@@ -65,15 +65,15 @@ abbrev pub PlacementsAreOne : Type 0
 PlacementsAreOne = (one : PlacedSolid) (by : Placement) → DoesAll by one.placements
     → ((in_world one).surface ≡ surface_of one.solid by) × ((in_world one).bounds ≡ bounds_of one.solid by)
 
--- what a ray meets of the regions of names tells what lies at its points, whatever the directory, the names and the ray: its
--- partitions, as no other list of stretches does
-abbrev pub PartitionsTellPoints : Type 0
-PartitionsTellPoints = (directory : Entries) (names : List Name) (ray : Ray) → IsTrueOfPoints (scene_of directory names) ray (stretches_of (lit_of (scene_of directory names) ray))
+-- the partitions of a ray and the regions of names tell what lies at its points, and no other list of stretches does, whatever the
+-- directory, the names and the ray
+abbrev pub PartitionsOfNamesTellPoints : Type 0
+PartitionsOfNamesTellPoints = (directory : Entries) (names : List Name) (ray : Ray) → IsTrueOfPoints (scene_of directory names) ray (stretches_of (lit_of (scene_of directory names) ray))
 
--- its overlaps
-abbrev pub OverlapsTellPoints : Type 0
-OverlapsTellPoints = (directory : Entries) (names : List Name) (ray : Ray) → AreTrueOverlaps (scene_of directory names) ray (overlaps_on (scene_of directory names) ray)
+-- the overlaps of a ray and the regions of names tell where two of these without air first both hold
+abbrev pub OverlapsOfNamesTellPoints : Type 0
+OverlapsOfNamesTellPoints = (directory : Entries) (names : List Name) (ray : Ray) → AreTrueOverlaps (scene_of directory names) ray (overlaps_on (scene_of directory names) ray)
 
--- and what it shows first
-abbrev pub SeenTellsPoints : Type 0
-SeenTellsPoints = (directory : Entries) (names : List Name) (ray : Ray) → IsSeenFirst (scene_of directory names) ray (first_seen (scene_of directory names) ray)
+-- what a ray shows first of the regions of names begins where first one without air holds
+abbrev pub SeenOfNamesTellsPoints : Type 0
+SeenOfNamesTellsPoints = (directory : Entries) (names : List Name) (ray : Ray) → IsSeenFirst (scene_of directory names) ray (first_seen (scene_of directory names) ray)

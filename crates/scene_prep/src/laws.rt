@@ -1,4 +1,4 @@
-ghost use Rattle.scene_prep.specs.Laws.{TreesAreWhole, RegionsAreWhole, SizesAreWhole, SizesCountLeaves, RegionsAreWithinSize, RegionsHoldTogether, NumbersFollow, PlacementsAreOne, PartitionsTellPoints, OverlapsTellPoints, SeenTellsPoints};
+ghost use Rattle.scene_prep.specs.Laws.{TreesAreWhole, RegionsAreWhole, SizesAreWhole, SizesCountLeaves, RegionsAreWithinSize, RegionsHoldTogether, NumbersFollow, PlacementsAreOne, PartitionsOfNamesTellPoints, OverlapsOfNamesTellPoints, SeenOfNamesTellsPoints};
 
 /// Laws of the regions of names, of their trees and their sizes. The function does nothing: its contract is the laws.
 pub fn region_laws()
@@ -13,10 +13,10 @@ pub fn region_laws()
 {}
 
 /// Laws of the points of a ray and the regions of names: the partitions tell what lies there, and no other list of stretches does;
-/// the overlaps tell where two regions lie together; what is shown first begins where first a region without air lies. The
-/// function does nothing: its contract is the laws.
+/// the overlaps tell where two regions without air first both hold; what is shown first begins where first a region without air
+/// holds. The function does nothing: its contract is the laws.
 pub fn point_laws()
-    ensures partitions { PartitionsTellPoints }
-    ensures overlaps { OverlapsTellPoints }
-    ensures seen { SeenTellsPoints }
+    ensures partitions { PartitionsOfNamesTellPoints }
+    ensures overlaps { OverlapsOfNamesTellPoints }
+    ensures seen { SeenOfNamesTellsPoints }
 {}

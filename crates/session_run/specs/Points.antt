@@ -17,13 +17,13 @@ use Rattle.report_text.specs.Shots.{shot_lines}
 use Rattle.session_run.specs.Own.{OwnState}
 use Rattle.session_run.specs.Replies.{core_rules}
 
--- the lines are those of partitions that are the one list that tells what lies at the points of the ray
+-- the lines are those of partitions whose stretches are the one list that tells what lies at the points of the ray
 pub record IsTrueShot (objects : Entries) (ray : Ray) (names : List Name) (lines : List (List ℕ)) : Type 0 where
   pub lit : List Lit
   pub lines_are : lines ≡ shot_lines (scene_of objects names) lit
   pub points : IsTrueOfPoints (scene_of objects names) ray (stretches_of lit)
 
--- the lines of a shot's body are such; of other queries nothing is said
+-- the lines of the body of the query for a ray's partitions are such; of other queries nothing is said
 abbrev pub IsTrueOfQuery : Entries → Query → List (List ℕ) → Type 0
 IsTrueOfQuery objects (queries.List names) lines = Unit {0}
 IsTrueOfQuery objects queries.Names lines = Unit {0}
@@ -31,7 +31,7 @@ IsTrueOfQuery objects (queries.Tree names) lines = Unit {0}
 IsTrueOfQuery objects (queries.Save file) lines = Unit {0}
 IsTrueOfQuery objects (queries.Shot ray names) lines = IsTrueShot objects ray names lines
 
--- where a shot is accepted, the lines of its body are such
+-- where the query for a ray's partitions is accepted, the lines of its body are those of partitions that tell what lies at its points
 abbrev pub IsTrueReply : Entries → Command → Reply File → Type 0
 IsTrueReply objects (Bad refusal) reply = Unit {0}
 IsTrueReply objects (IsEdit edit) reply = Unit {0}
@@ -39,6 +39,6 @@ IsTrueReply objects (IsShoot shoot) reply = Unit {0}
 IsTrueReply objects (IsQuery query) (Refused text) = Unit {0}
 IsTrueReply objects (IsQuery query) (Accepted lines file) = IsTrueOfQuery objects query lines
 
--- the answer of each command of a run is such with the objects of its place in the run
+-- in any state, and so at each place of a run, what is answered to the query for a ray's partitions tells what lies at its points
 abbrev pub ShotsAreTrue : Type 0
 ShotsAreTrue = (book : Book Listing) (own : OwnState) (m : Marked Command) → IsTrueReply book.directory.objects m.command (answer_of core_rules book own m).reply

@@ -1,4 +1,4 @@
--- The overlaps of a ray tell at which points two regions lie together.
+-- The overlaps of a ray tell where two regions without air first both hold.
 use Rattle.std.proofs.Common.{◌≡◌, ◌<◌, ◌≤◌, ◌+◌, ℕ, zero, suc, ℤ, List, [], ◌∷◌, length, get_or, slice_get, Bool, true, false, ◌&&◌, not, Option, Some, All, Any, ap, sym, subst, ◌∙◌, refl, inl, inr, arith}
 use Rattle.std.proofs.lemmas.Bool.{cases_lt, and_parts, and_from, true≢false}
 use Rattle.std.proofs.lemmas.List.{get_or_past}
@@ -9,7 +9,7 @@ use Rattle.surd_order.specs.declared.position.Pos.{Pos}
 use Rattle.surd_order.specs.declared.position.Pos.TheVariants.{Frac}
 use Rattle.surd_order.specs.Order.{Precedes}
 use Rattle.surd_order.proofs.OrderLaws.{same_refl, transitive}
-use Rattle.solid_set.specs.Segments.{ray_end}
+use Rattle.solid_set.specs.Segments.{ray_start, ray_end}
 use Rattle.bool_weave.specs.declared.woven.Woven.{Woven}
 use Rattle.bool_weave.specs.Claims.{intervals_of}
 use Rattle.bool_weave.proofs.Sorted.{has_from_contains}
@@ -21,13 +21,13 @@ use Rattle.overlap_list.specs.Overlaps.{RegionPair, is_solid_at, do_overlap_at}
 use Rattle.overlap_list.specs.Winners.{claims_at}
 use Rattle.overlap_list.proofs.FirstRuns.{found, overlaps_are_first}
 use Rattle.overlap_list.proofs.Overlapping.{slice_at}
-use Rattle.shot_core.specs.OverlapPoints.{LieTogether, IsTrueOverlap, OverlapsTellPoints}
+use Rattle.shot_core.specs.OverlapPoints.{BothHoldSolid, IsTrueOverlap, OverlapsTellPoints}
 use Rattle.shot_core.specs.Points.{IsRayHitPlace, HoldsPoint}
 use Rattle.shot_core.specs.Regions.{Region, HaveInstances, has_air}
 use Rattle.shot_core.specs.Shots.{woven_of, claims_on, overlaps_on}
 use Rattle.shot_core.specs.Steps.{no_region}
 use Rattle.shot_core.proofs.Claiming.{claims_length, no_claims}
-use Rattle.shot_core.proofs.Pointing.{any_from, place, not_back, rises, last_cut, located, region_of}
+use Rattle.shot_core.proofs.Pointing.{any_from, place, not_back, on_ray, rises, last_cut, located, region_of}
 use Rattle.shot_core.proofs.ResultLaws.{rows_from}
 
 not_true : (b : Bool) → b ≡ false → not b ≡ true
@@ -107,12 +107,12 @@ module _ (regions : List Region) (ray : Ray) (below : HaveInstances regions) whe
         (sym (ap (λ (o : Option RegionClaims). is_solid_at o k) (slice_at claimed n no_claims (omega (arith, lt, many)))) ∙ e) in
         record { region = get_or regions n no_region; there = there; solid = sym (r.air no_claims) ∙ true_not (get_or claimed n no_claims).air both.0; holds = (r.claims no_claims).0 both.1 }
 
-    overlap_from : (one two : ℕ) → LieTogether regions ray p q one two → do_overlap_at claimed (pair one two) k ≡ true
+    overlap_from : (one two : ℕ) → BothHoldSolid regions ray p q one two → do_overlap_at claimed (pair one two) k ≡ true
     overlap_from one two h =
         and_from (is_solid_at (slice_get claimed one) k) (is_solid_at (slice_get claimed two) k)
         (solid_from one h.first h.first_there h.first_solid h.first_holds) (solid_from two h.second h.second_there h.second_solid h.second_holds)
 
-    overlap_to : (one two : ℕ) → one < length regions → two < length regions → do_overlap_at claimed (pair one two) k ≡ true → LieTogether regions ray p q one two
+    overlap_to : (one two : ℕ) → one < length regions → two < length regions → do_overlap_at claimed (pair one two) k ≡ true → BothHoldSolid regions ray p q one two
     overlap_to one two lt lt' e =
         let both = and_parts (is_solid_at (slice_get claimed one) k) (is_solid_at (slice_get claimed two) k) e in
         let a = solid_to one lt both.0 in
@@ -140,11 +140,14 @@ module _ (regions : List Region) (ray : Ray) (below : HaveInstances regions) whe
       nothing true false c e = refl
       nothing false b c e = refl
 
-  apart_at : (p q : ℤ) (on : IsOnRay p q) (no_hit : ¬ (IsRayHitPlace regions ray (Frac p q))) (one two n : ℕ) → (located regions ray below p q on no_hit).k ≡ n → do_overlap_at claimed (pair one two) n ≡ false → ¬ (LieTogether regions ray p q one two)
+  apart_at : (p q : ℤ) (on : IsOnRay p q) (no_hit : ¬ (IsRayHitPlace regions ray (Frac p q))) (one two n : ℕ) → (located regions ray below p q on no_hit).k ≡ n → do_overlap_at claimed (pair one two) n ≡ false → ¬ (BothHoldSolid regions ray p q one two)
   apart_at p q on no_hit one two n e away = λ together. true≢false (sym (overlap_from p q on no_hit one two together) ∙ ap (λ m. do_overlap_at claimed (pair one two) m) e ∙ away)
 
   true_overlap : (o : OverlapRun) → IsFirstOverlap woven claimed o → IsTrueOverlap regions ray o
   true_overlap o f = record {
+    forward = subst (λ (z : Pos). Precedes z o.end) (sym f.start) (subst (Precedes (cut_at woven f.run.from)) (sym f.end) (rises regions ray below f.run.from f.run.to f.some f.within));
+    begun = subst (λ (z : Pos). ¬ (Precedes z ray_start)) (sym f.start) (on_ray regions ray below f.run.from (omega (arith, f.some, f.within))).begun;
+    not_ended = subst (λ (z : Pos). ¬ (Precedes ray_end z)) (sym f.end) (on_ray regions ray below f.run.to f.within).not_ended;
     between = λ p q on no_hit after before.
         let i = in_run p q on no_hit f.run.from f.run.to (omega (arith, f.some, f.within)) f.within (subst (λ (z : Pos). Precedes z (Frac p q)) f.start after) (subst (Precedes (Frac p q)) f.end before) in
         overlap_to p q on no_hit o.one o.two (omega (arith, f.order, f.there, many)) (omega (arith, f.there, many)) (f.both (located regions ray below p q on no_hit).k i.0 i.1);
@@ -173,7 +176,7 @@ module _ (regions : List Region) (ray : Ray) (below : HaveInstances regions) whe
       again (x ∷ xs) zero e lt = refl
       again (x ∷ xs) (suc n) e lt = again xs n e (omega (arith, lt))
 
-  all_told : (p q : ℤ) (one two : ℕ) (on : IsOnRay p q) → ¬ (IsRayHitPlace regions ray (Frac p q)) → one < two → LieTogether regions ray p q one two → Any (λ (o : OverlapRun). (o.one ≡ one) × (o.two ≡ two)) (overlaps_on regions ray)
+  all_told : (p q : ℤ) (one two : ℕ) (on : IsOnRay p q) → ¬ (IsRayHitPlace regions ray (Frac p q)) → one < two → BothHoldSolid regions ray p q one two → Any (λ (o : OverlapRun). (o.one ≡ one) × (o.two ≡ two)) (overlaps_on regions ray)
   all_told p q one two on no_hit order together =
       let lt : one < length regions = slice_get_within regions one together.first together.first_there in
       let lt' : two < length regions = slice_get_within regions two together.second together.second_there in

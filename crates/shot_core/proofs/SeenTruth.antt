@@ -1,4 +1,4 @@
--- What a ray shows first begins where first a region without air lies.
+-- What a ray shows first begins where first a region without air holds.
 use Rattle.std.proofs.Common.{◌≡◌, ◌<◌, ℕ, ℤ, List, [], ◌∷◌, length, slice_get, find, Bool, true, false, not, Option, Some, None, AllPairs, ap, sym, subst, ◌∙◌, refl, inl, inr, arith}
 use Rattle.std.proofs.lemmas.Bool.{cases_Bool, cond-true, cond-false, true≢false}
 use Rattle.std.proofs.lemmas.Option.{slice_get_within}
@@ -16,7 +16,7 @@ use Rattle.shot_core.specs.declared.shot.Lit.{Lit}
 use Rattle.shot_core.specs.FirstShots.{is_solid, first_of, first_seen}
 use Rattle.shot_core.specs.Points.{IsRayHitPlace, Stretch, stretch_of, stretches_of, HasPosition, HasRegionAt}
 use Rattle.shot_core.specs.Regions.{Region, HaveInstances, has_air}
-use Rattle.shot_core.specs.SeenPoints.{LiesSolid, IsSeenFirst, SeenTellsPoints}
+use Rattle.shot_core.specs.SeenPoints.{SomeSolidHolds, IsSeenFirst, SeenTellsPoints}
 use Rattle.shot_core.specs.Shots.{claims_on, lit_of}
 use Rattle.shot_core.specs.Steps.{no_region}
 use Rattle.shot_core.proofs.Claiming.{claims_length, no_claims}
@@ -29,7 +29,7 @@ solid_is : (b : Bool) → not b ≡ true → b ≡ false
 solid_is true e = absurd (true≢false (sym e))
 solid_is false e = refl
 
--- where a region without air lies, one of the partitions there is of such a region
+-- where a region without air holds, one of the partitions there is of such a region
 record IsCovered (regions : List Region) (ray : Ray) (x : Pos) : Type 0 where
   lit : Lit
   there : Has (lit_of regions ray) lit
@@ -37,7 +37,7 @@ record IsCovered (regions : List Region) (ray : Ray) (x : Pos) : Type 0 where
   has : HasPosition (stretch_of lit) x
 
 covered : (regions : List Region) (ray : Ray) (rising : AllPairs (λ (r s : Region). r.place < s.place) regions) (below : HaveInstances regions) (p q : ℤ) (on : IsOnRay p q) → ¬ (IsRayHitPlace regions ray (Frac p q))
-    → LiesSolid regions ray p q → IsCovered regions ray (Frac p q)
+    → SomeSolidHolds regions ray p q → IsCovered regions ray (Frac p q)
 covered regions ray rising below p q on no_hit h =
     let mine = region_of regions ray below p q on no_hit h.number h.region h.there in
     let lt : h.number < length (claims_on regions ray) = omega (arith, slice_get_within regions h.number h.region h.there, claims_length (woven_of regions ray) 0 regions) in
@@ -141,6 +141,8 @@ seen_by regions ray rising below (Some lit) e =
       there = r.is;
       solid = r.solid;
       forward = s.forward;
+      begun = s.begun;
+      not_ended = s.not_ended;
       before = λ p q on no_hit early solid. let c = covered regions ray rising below p q on no_hit solid in f.first (Frac p q) on.positive early c.lit c.there c.solid c.has;
       behind = λ p q on no_hit after before.
           (truth.tells p q lit.region on no_hit).0

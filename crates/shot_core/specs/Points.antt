@@ -66,7 +66,7 @@ pub record Stretch : Type 0 where
 abbrev pub stretch_of : Lit → Stretch
 stretch_of lit = record { region = lit.region; start = lit.start; end = lit.end }
 
--- those of partitions
+-- the stretches of partitions, in their order
 abbrev pub stretches_of : List Lit → List Stretch
 stretches_of lit = map stretch_of lit
 
@@ -107,6 +107,7 @@ pub record IsTrueOfPoints (regions : List Region) (ray : Ray) (stretches : List 
   pub tells : TellsPoints regions ray stretches
   pub alone : (others : List Stretch) → AreStretches (length regions) others → TellsPoints regions ray others → others ≡ stretches
 
--- the partitions of every ray do so, whatever the regions are whose places rise
+-- the partitions of every ray tell what lies at its points, and no other list does, whatever the regions are whose places rise and whose
+-- leaves stand for their instances
 abbrev pub PartitionsTellPoints : Type 0
 PartitionsTellPoints = (regions : List Region) (ray : Ray) → AllPairs (λ r s. r.place < s.place) regions → HaveInstances regions → IsTrueOfPoints regions ray (stretches_of (lit_of regions ray))

@@ -45,8 +45,8 @@ pub fn segment_laws()
 {}
 
 /// Laws of the points of a ray: its partitions tell what lies there, and no other list of stretches does; its overlaps tell where
-/// two regions lie together; and what it shows first begins where first a region without air lies. The function does nothing: its
-/// contract is the laws.
+/// two regions without air first both hold; and what it shows first begins where first a region without air holds. The function
+/// does nothing: its contract is the laws.
 pub fn point_laws()
     ensures partitions { PartitionsTellPoints }
     ensures overlaps { OverlapsTellPoints }

@@ -1,14 +1,12 @@
 """Views, the pictures of them, and the overlaps on their rays."""
 
 from collections import namedtuple
-from functools import lru_cache
 
 from .kept import tile_names
 from .refused import Refused, refuse_unless
 from .shots import first_overlaps, regions_of_names, seen_first
 from .solids import RAY_LENGTH, Ray, box_about
 
-PICTURES = 8  # that are remembered, as of reports, so that one that comes again is not worked out again
 WORLD = 524_288
 MOST_SIDE = 2_048
 TILE_SIDE = 16
@@ -64,12 +62,8 @@ def picture(directory, file, view, names, session):
     if len(line) + 1 + len(head) + 3 * view.width * view.height > session.room():
         raise Refused("quota")
     session.kept.take(tiles)
-    return [line], [(file, head + pixels(view, tuple(regions)))]
-
-
-@lru_cache(maxsize=PICTURES)
-def pixels(view, regions):
-    return b"".join(pixel(regions, ray) for _, _, ray in view.rays()) if regions else bytes(3 * view.width * view.height)
+    pixels = b"".join(pixel(regions, ray) for _, _, ray in view.rays()) if regions else bytes(3 * view.width * view.height)
+    return [line], [(file, head + pixels)]
 
 
 def pixel(regions, ray):
@@ -82,12 +76,7 @@ def pixel(regions, ray):
 
 def overlap_report(directory, view, names):
     """A line for each pair of regions that overlaps on a ray of the view."""
-    return overlap_lines(view, tuple(regions_of_names(directory, names)))
-
-
-@lru_cache(maxsize=PICTURES)
-def overlap_lines(view, regions):
-    pairs = {}
+    regions, pairs = regions_of_names(directory, names), {}
     for column, row, ray in view.rays() if len(regions) > 1 else ():
         for pair, (start, end) in first_overlaps(regions, ray).items():
             pairs.setdefault(pair, [0, f"first {column} {row} {start} {end}"])[0] += 1

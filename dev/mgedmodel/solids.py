@@ -117,17 +117,7 @@ def level_of_plane(plane, ray):
     return brightness(Fraction(dot(plane.normal, ray.along) ** 2, dot(plane.normal, plane.normal)))
 
 
-class Solid:
-    """A solid. Two are equal that are written alike."""
-
-    def __eq__(self, other):
-        return isinstance(other, Solid) and self.written() == other.written()
-
-    def __hash__(self):
-        return hash(self.written())
-
-
-class Half(Solid):
+class Half:
     def __init__(self, normal, d):
         if not any(normal):
             raise Refused("shape normal")
@@ -153,7 +143,7 @@ class Half(Solid):
         return level_of_plane(self.planes(placement)[face], ray) if face else BRIGHTEST
 
 
-class Sphere(Solid):
+class Sphere:
     def __init__(self, centre, radius):
         if radius < 1:
             raise Refused("shape radius")
@@ -183,7 +173,7 @@ class Sphere(Solid):
         return brightness(Fraction(self.crossed(placement, ray)[1], self.radius**2)) if face else BRIGHTEST
 
 
-class Arb8(Solid):
+class Arb8:
     def __init__(self, vertices):
         self.vertices = vertices
         if all_in_one_plane(vertices):

@@ -3,6 +3,8 @@ use Rattle.std.proofs.Common.{◌+◌, ℕ, List, [], ◌∷◌, length, map, ar
 use Rattle.std.specs.List.{enumerate_from}
 use Rattle.std.proofs.lemmas.List.{length-map}
 use Rattle.std.proofs.lemmas.List.Elements.{All-cons, All-nil}
+use Rattle.name_core.specs.declared.name.Name.{Name}
+use Rattle.directory.specs.Walks.{Entries}
 use Rattle.shot_core.specs.Regions.{Region, HasLeavesBelow, HaveInstances}
 use Rattle.shot_core.proofs.OverlapTruth.{overlaps_tell_points}
 use Rattle.shot_core.proofs.PointTruth.{true_of_points}

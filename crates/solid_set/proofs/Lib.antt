@@ -15,3 +15,4 @@ pub mod Enclosed
 pub mod HitPlaceLaws
 pub mod Between
 pub mod Separated
+mod SeparationExamples

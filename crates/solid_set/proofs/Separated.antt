@@ -10,11 +10,11 @@ use Rattle.solid_set.specs.Separation.{IsFractionBetween, PlacesAreSeparated}
 use Rattle.solid_set.proofs.Between.{between_places}
 use Rattle.solid_set.proofs.Foremost.{Has}
 
-all_more : {X : Type 0} (P : X → Type 0) (x : X) (xs : List X) → P x → All P xs → All P (x ∷ xs)
+pub all_more : {X : Type 0} (P : X → Type 0) (x : X) (xs : List X) → P x → All P xs → All P (x ∷ xs)
 all_more P x xs head tail zero d lt = head
 all_more P x xs head tail (suc k) d lt = tail k d (omega (arith, lt))
 
-pairs_more : {X : Type 0} (R : X → X → Type 0) (x : X) (xs : List X) → All (R x) xs → AllPairs R xs → AllPairs R (x ∷ xs)
+pub pairs_more : {X : Type 0} (R : X → X → Type 0) (x : X) (xs : List X) → All (R x) xs → AllPairs R xs → AllPairs R (x ∷ xs)
 pairs_more R x xs head tail zero zero d lt within = absurd (omega (arith, lt))
 pairs_more R x xs head tail zero (suc j) d lt within = head j d (omega (arith, within))
 pairs_more R x xs head tail (suc i) zero d lt within = absurd (omega (arith, lt))

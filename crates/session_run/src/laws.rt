@@ -11,8 +11,8 @@ pub fn run_laws()
     ensures places { AnswersAtPlaces }
 {}
 
-/// The lines of an accepted shot are those of partitions that tell what lies at the points of its ray, and no other list of
-/// stretches does. The function does nothing: its contract is the law.
+/// The lines of an accepted `nirt` are those of partitions that tell what lies at the points of its ray, hit places aside, and no
+/// other list of stretches does. The function does nothing: its contract is the law.
 pub fn shot_law()
     ensures { ShotsAreTrue }
 {}

@@ -37,3 +37,4 @@ pub mod LowestHits
 pub mod Seeing
 pub mod TilePicking
 pub mod Reaching
+mod PointExamples

@@ -18,8 +18,8 @@ pub record SomeSolidHolds (regions : List Region) (ray : Ray) (p q : ℤ) : Type
   pub solid : has_air region.body ≡ false
   pub holds : HoldsPoint region.body ray p q
 
--- what is seen lies on the ray and starts before it ends; its region has no air, and lies at every fraction of it, of which the first
--- partition may have more behind its end; and no region without air holds at any fraction before its start
+-- what is seen lies on the ray and starts before it ends; its region has no air, and lies at every fraction between its ends, and maybe
+-- also behind them; and no region without air holds at any fraction before its start
 pub record IsSeen (regions : List Region) (ray : Ray) (lit : Lit) : Type 0 where
   pub region : Region
   pub there : slice_get regions lit.region ≡ Some region

@@ -7,9 +7,9 @@ use solid_set::Placed;
 use std::alloc::Global;
 use std::marker::Model;
 
-/// The regions of a list of names, in the order of their places, with the number of each region's first instance, an index of
-/// their boxes, and one of the boxes of their instances where these are more than `FEW_INSTANCES`; the scene of a tile has none
-/// of these. Contracts see it as the list of regions.
+/// The regions of a list of names, in the order of their places, with the number of each region's first instance and an index of
+/// their boxes. Where their instances are more than `FEW_INSTANCES` and it is not the scene of a tile, it has an index of the boxes of
+/// these too. Contracts see it as the list of regions.
 #[derive(Debug, Drop)]
 pub struct Scene {
     regions: Vec<SceneRegion>,

@@ -14,3 +14,4 @@ pub mod SessionLaws
 mod FlightLaws
 mod FlyLaws
 pub mod PointLaws
+mod ShotExamples

@@ -23,7 +23,7 @@ use Rattle.session_run.specs.Sessions.{book_at}
 use Rattle.session_run.specs.Points.{IsTrueShot, IsTrueOfQuery, IsTrueReply, ShotsAreTrue}
 use Rattle.session_run.specs.Replies.{core_rules, most_used, size_of, within_quota, found_unless, lines_alone, lines_of_scene, found, outcome_of, shown}
 
-true_shot : (objects : Entries) (ray : Ray) (names : List Name) → IsTrueShot objects ray names (lines_of_scene (scene_of objects names) ray)
+pub true_shot : (objects : Entries) (ray : Ray) (names : List Name) → IsTrueShot objects ray names (lines_of_scene (scene_of objects names) ray)
 true_shot objects ray names = record { lit = lit_of (scene_of objects names) ray; lines_are = refl; points = partitions_tell_points objects names ray }
 
 -- what is left of a body where there is room for it is the body

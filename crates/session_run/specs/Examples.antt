@@ -25,7 +25,7 @@ use Rattle.session_run.specs.Replies.{no_objects, lines_alone, picture_line, out
 abbrev half : Parts
 half = record { body = Solid (solids.Half (record { normal = record { x = pos 1; y = pos 0; z = pos 0 }; distance = pos 5 })); kept = [] }
 
-abbrev along_x : Ray
+abbrev pub along_x : Ray
 along_x = record { origin = record { x = pos 0; y = pos 0; z = pos 0 }; dir = PlusX }
 
 -- a session that keeps no tile
@@ -33,7 +33,7 @@ abbrev used_so_far : ℕ → OwnState
 used_so_far used = record { tiles = []; used = used }
 
 -- a half-space, a region and another combination without members
-abbrev three : Listing
+abbrev pub three : Listing
 three = record { title = []; objects = (codes "h", half) ∷ (codes "r", record { body = Comb region_attr None; kept = [] }) ∷ (codes "g", record { body = Comb group_attr None; kept = [] }) ∷ [] }
 
 names_of_three : outcome_of three (used_so_far 0) (IsQuery queries.Names) ≡ Ok (lines_alone (codes "h" ∷ codes "r/R" ∷ codes "g/" ∷ []))

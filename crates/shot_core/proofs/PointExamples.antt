@@ -103,7 +103,11 @@ behind_itself : {P : Type 0} → ((false ≡ false) × (false ≡ true)) ⊎ ((f
 behind_itself (inl w) = let no : false ≡ true = w.1 in absurd cc
 behind_itself (inr w) = absurd (omega (arith, w.1))
 
--- with air in it the first one loses to the second, and lies where it holds alone
+behind_air : {P : Type 0} → ((true ≡ false) × (true ≡ true)) ⊎ ((true ≡ true) × (1 < 1)) → P
+behind_air (inl w) = let no : true ≡ false = w.0 in absurd cc
+behind_air (inr w) = absurd (omega (arith, w.1))
+
+-- with air in it the first one loses to the second
 second_lies : (p q : ℤ) → (pos 50 *ℤ q) <ℤ (pos 5 *ℤ p) → (pos 5 *ℤ p) ≤ℤ (pos 100 *ℤ q) → LiesAt (scene 1) start p q 1
 second_lies p q lt le = record {
   region = second;
@@ -114,6 +118,15 @@ second_lies p q lt le = record {
 
 second_lies_at_twelve : LiesAt (scene 1) start (pos 12) (pos 1) 1
 second_lies_at_twelve = second_lies (pos 12) (pos 1) (omega (arith, ints)) (omega (arith, ints))
+
+-- and lies where it holds alone
+air_lies_at_seven : LiesAt (scene 1) start (pos 7) (pos 1) 0
+air_lies_at_seven = record {
+  region = first 1;
+  there = refl;
+  holds = of_slab 1 1 (pos 25) (pos 75) (pos 7) (pos 1) (omega (arith, ints)) (omega (arith, ints));
+  wins = for_both 1 (λ s. WinsAgainst s (first 1) → ¬ (HoldsPoint s.body start (pos 7) (pos 1))) behind_air (λ w holds. let it = in_slab 2 0 (pos 50) (pos 100) (pos 7) (pos 1) holds in omega (arith, ints, it.0));
+}
 
 abbrev whole : ℤ → Pos
 whole n = Frac n (pos 1)
@@ -129,12 +142,6 @@ after_whole n p q positive h = by_lt_z (n *ℤ q) p (λ lt. lt) (λ le. absurd (
 
 before_whole : (n p q : ℤ) → pos 0 <ℤ q → Precedes (Frac p q) (Frac n (pos 1)) → p <ℤ (n *ℤ q)
 before_whole n p q positive h = by_lt_z p (n *ℤ q) (λ lt. lt) (λ le. absurd (not_before_fraction (Frac p q) n (pos 1) positive (omega (arith, ints)) (omega (arith, ints, le)) h))
-
-from_whole : (n p q : ℤ) → pos 0 <ℤ q → (n *ℤ q) <ℤ p → Precedes (Frac n (pos 1)) (Frac p q)
-from_whole n p q positive lt = fraction_before n (pos 1) p q positive (omega (arith, ints, lt))
-
-to_whole : (n p q : ℤ) → pos 0 <ℤ q → p <ℤ (n *ℤ q) → Precedes (Frac p q) (Frac n (pos 1))
-to_whole n p q positive lt = fraction_before p q n (pos 1) (omega (arith, ints)) (omega (arith, ints, lt))
 
 wholes : (m n : ℤ) → m <ℤ n → Precedes (Frac m (pos 1)) (Frac n (pos 1))
 wholes m n lt = fraction_before m (pos 1) n (pos 1) (omega (arith, ints)) (omega (arith, ints, lt))

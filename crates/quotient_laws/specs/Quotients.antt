@@ -1,0 +1,36 @@
+-- Quotient positions: fractions, and (a + √k) / n and (a - √k) / n. They are told by which fractions are at most them, as positions are.
+use Rattle.std.specs.Prelude.{◌↔◌, ℤ, pos, ◌*ℤ◌, ◌≤ℤ◌, ◌<ℤ◌}
+use Rattle.surd_order.specs.declared.position.Pos.{Pos}
+use Rattle.surd_order.specs.AtMost.{AtMost}
+use Rattle.surd_order.specs.Order.{Precedes, IsPlace}
+
+-- a position divided by a whole number
+pub record Quotient : Type 0 where
+  pub dividend : Pos
+  pub divisor : ℤ
+
+-- the divisor is at least 1
+pub record IsQuotient (u : Quotient) : Type 0 where
+  pub place : IsPlace u.dividend
+  pub positive : pos 1 ≤ℤ u.divisor
+
+-- the fraction p / q, with q > 0, is at most x / n: n p / q is at most x
+abbrev pub IsAtMostQuotient : ℤ → ℤ → Quotient → Type 0
+IsAtMostQuotient p q u = AtMost (u.divisor *ℤ p) q u.dividend
+
+-- one precedes another where some fraction p / q is at most the later one and not at most the earlier one
+pub record QuotientPrecedes (u v : Quotient) : Type 0 where
+  pub p : ℤ
+  pub q : ℤ
+  pub positive : pos 0 <ℤ q
+  pub within : IsAtMostQuotient p q v
+  pub beyond : ¬ (IsAtMostQuotient p q u)
+
+-- a position as a quotient
+abbrev pub whole_of : Pos → Quotient
+whole_of x = record { dividend = x; divisor = pos 1 }
+
+-- the same fractions are at most a position and at most it as a quotient, and the order is the same
+pub record PositionsAreQuotients : Type 0 where
+  pub at_most : (p q : ℤ) (x : Pos) → IsAtMostQuotient p q (whole_of x) ↔ AtMost p q x
+  pub order : (x y : Pos) → QuotientPrecedes (whole_of x) (whole_of y) ↔ Precedes x y

@@ -14,17 +14,17 @@ use Rattle.quotient_laws.specs.Quotients.{Quotient, IsQuotient, IsAtMostQuotient
 use Rattle.quotient_laws.specs.Separation.{LiesBetweenQuotients, QuotientsAreSeparated}
 use Rattle.quotient_laws.proofs.Quotients.{at_most_once, at_most_again, plain_order}
 
-product_positive : (m n : ℤ) → pos 0 <ℤ m → pos 0 <ℤ n → pos 0 <ℤ (m *ℤ n)
+pub product_positive : (m n : ℤ) → pos 0 <ℤ m → pos 0 <ℤ n → pos 0 <ℤ (m *ℤ n)
 product_positive m n some some' = let it : (pos 0 *ℤ n) <ℤ (m *ℤ n) = mul_below (pos 0) m n some' some in omega (arith, ints, it)
 
-mul_turn : (a b : ℤ) → a *ℤ b ≡ b *ℤ a
+pub mul_turn : (a b : ℤ) → a *ℤ b ≡ b *ℤ a
 mul_turn a b = omega (arith, ints)
 
 -- products of three in another order
-turned : (n p q : ℤ) → (n *ℤ p) *ℤ q ≡ (p *ℤ q) *ℤ n
+pub turned : (n p q : ℤ) → (n *ℤ p) *ℤ q ≡ (p *ℤ q) *ℤ n
 turned n p q = ap (λ x. x *ℤ q) (mul_turn n p) ∙ mul_swap p n q
 
-outside : (n p q : ℤ) → (n *ℤ p) *ℤ q ≡ p *ℤ (n *ℤ q)
+pub outside : (n p q : ℤ) → (n *ℤ p) *ℤ q ≡ p *ℤ (n *ℤ q)
 outside n p q = ap (λ x. x *ℤ q) (mul_turn n p) ∙ mul_assoc p n q
 
 -- what precedes a fraction is less than it

@@ -1,5 +1,5 @@
 -- Quotient positions: fractions, and (a + √k) / n and (a - √k) / n. They are told by which fractions are at most them, as positions are.
-use Rattle.std.specs.Prelude.{◌↔◌, ℤ, pos, ◌*ℤ◌, ◌≤ℤ◌, ◌<ℤ◌}
+use Rattle.std.specs.Prelude.{◌↔◌, ◌⊎◌, ℤ, pos, ◌*ℤ◌, ◌≤ℤ◌, ◌<ℤ◌}
 use Rattle.surd_order.specs.declared.position.Pos.{Pos}
 use Rattle.surd_order.specs.AtMost.{AtMost}
 use Rattle.surd_order.specs.Order.{Precedes, IsPlace}
@@ -25,6 +25,15 @@ pub record QuotientPrecedes (u v : Quotient) : Type 0 where
   pub positive : pos 0 <ℤ q
   pub within : IsAtMostQuotient p q v
   pub beyond : ¬ (IsAtMostQuotient p q u)
+
+-- two quotients are at one place where neither precedes the other
+pub record SameQuotientPlace (u v : Quotient) : Type 0 where
+  pub not_before : ¬ (QuotientPrecedes u v)
+  pub not_after : ¬ (QuotientPrecedes v u)
+
+-- of two quotients one precedes the other, or both are at one place
+abbrev pub QuotientsAreCompared : Type 0
+QuotientsAreCompared = (u v : Quotient) → IsQuotient u → IsQuotient v → QuotientPrecedes u v ⊎ (SameQuotientPlace u v ⊎ QuotientPrecedes v u)
 
 -- a position as a quotient
 abbrev pub whole_of : Pos → Quotient

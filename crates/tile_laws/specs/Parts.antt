@@ -36,7 +36,7 @@ abbrev pub PartsWithoutTheRest : Type 0
 PartsWithoutTheRest = (regions : List Region) (ray : Ray) (keep : Region → Bool) → AllPairs (λ r s. r.place < s.place) regions → HaveInstances regions
     → ((r : Region) → Contains regions r → keep r ≡ false → HoldsNowhere regions ray r) → parts_by_place (filter keep regions) ray ≡ parts_by_place regions ray
 
--- on each ray of a tile the regions that are kept for the tile have the parts that all regions have
+-- on each ray of a tile the regions that are kept for the tile have the parts that all regions have, whose places rise
 abbrev pub KeptHaveTheSameParts : Type 0
 KeptHaveTheSameParts = (regions : List Region) (view : View) (tile column row : ℕ) → AllPairs (λ r s. r.place < s.place) regions → IsPixelOf regions view tile column row
     → parts_by_place (kept_for regions view tile) (pixel_ray view column row) ≡ parts_by_place regions (pixel_ray view column row)

@@ -27,17 +27,7 @@ turned n p q = ap (λ x. x *ℤ q) (mul_turn n p) ∙ mul_swap p n q
 pub outside : (n p q : ℤ) → (n *ℤ p) *ℤ q ≡ p *ℤ (n *ℤ q)
 outside n p q = ap (λ x. x *ℤ q) (mul_turn n p) ∙ mul_assoc p n q
 
--- what precedes a fraction is less than it
-beyond_fraction : (u : Quotient) (p q : ℤ) → IsQuotient u → pos 0 <ℤ q → QuotientPrecedes u (whole_of (Frac p q)) → ¬ (IsAtMostQuotient p q u)
-beyond_fraction u p q is some h = λ at_most.
-    let n = u.divisor in
-    let within : (h.p *ℤ q) ≤ℤ (p *ℤ h.q) = at_most_once h.p h.q (Frac p q) h.within in
-    let scaled : ((h.p *ℤ q) *ℤ n) ≤ℤ ((p *ℤ h.q) *ℤ n) = mul_at_most (h.p *ℤ q) (p *ℤ h.q) n (omega (arith, ints, is.positive)) within in
-    let left : (n *ℤ h.p) *ℤ q ≡ (h.p *ℤ q) *ℤ n = turned n h.p q in
-    let right : (n *ℤ p) *ℤ h.q ≡ (p *ℤ h.q) *ℤ n = turned n p h.q in
-    h.beyond (at_most_down u.dividend (n *ℤ h.p) h.q (n *ℤ p) q is.place h.positive some (omega (arith, ints, left, right, scaled)) at_most)
-
--- and a fraction that is not at most it comes after it
+-- a fraction that is not at most a quotient comes after it
 comes_after : (u : Quotient) (p q : ℤ) → pos 0 <ℤ q → ¬ (IsAtMostQuotient p q u) → QuotientPrecedes u (whole_of (Frac p q))
 comes_after u p q some beyond = record { p = p; q = q; positive = some; within = at_most_again p q (Frac p q) (omega (arith, ints)); beyond = beyond }
 

@@ -9,7 +9,7 @@ pub record Quotient : Type 0 where
   pub dividend : Pos
   pub divisor : ℤ
 
--- the divisor is at least 1
+-- the divisor is at least 1, and the denominator of a fraction over 0
 pub record IsQuotient (u : Quotient) : Type 0 where
   pub place : IsPlace u.dividend
   pub positive : pos 1 ≤ℤ u.divisor

@@ -1,3 +1,5 @@
 pub mod Quotients
 pub mod Separated
 pub mod Compared
+pub mod Ordered
+mod QuotientExamples

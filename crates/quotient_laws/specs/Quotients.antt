@@ -35,6 +35,11 @@ pub record SameQuotientPlace (u v : Quotient) : Type 0 where
 abbrev pub QuotientsAreCompared : Type 0
 QuotientsAreCompared = (u v : Quotient) → IsQuotient u → IsQuotient v → QuotientPrecedes u v ⊎ (SameQuotientPlace u v ⊎ QuotientPrecedes v u)
 
+-- no two quotients precede each other, and one that precedes another precedes all that the other precedes
+pub record QuotientsAreOrdered : Type 0 where
+  pub asymmetric : (u v : Quotient) → IsQuotient u → IsQuotient v → QuotientPrecedes u v → ¬ (QuotientPrecedes v u)
+  pub transitive : (u v w : Quotient) → IsQuotient u → IsQuotient v → IsQuotient w → QuotientPrecedes u v → QuotientPrecedes v w → QuotientPrecedes u w
+
 -- a position as a quotient
 abbrev pub whole_of : Pos → Quotient
 whole_of x = record { dividend = x; divisor = pos 1 }

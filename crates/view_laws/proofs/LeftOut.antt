@@ -1,6 +1,6 @@
 -- Regions that hold nowhere on a ray are left out, and the stretches of the others, by their numbers in the whole list, tell the points.
-use Rattle.std.proofs.Common.{◌≡◌, ◌⊎◌, ◌<◌, ◌+◌, zero, suc, ℕ, ℤ, List, [], ◌∷◌, ◌++◌, length, get_or, slice_get, map, flat_map, filter, Bool, true, false, cond, Some, All, AllPairs, Contains, ap, sym, subst, ◌∙◌, refl, inl, inr, arith}
-use Rattle.std.proofs.lemmas.Bool.{cases_Bool, cases_lt}
+use Rattle.std.proofs.Common.{◌≡◌, ◌<◌, zero, suc, ℕ, ℤ, List, [], ◌∷◌, ◌++◌, length, get_or, slice_get, map, flat_map, filter, Bool, true, false, cond, Option, Some, None, All, AllPairs, Contains, ap, sym, subst, ◌∙◌, refl, inl, inr, arith}
+use Rattle.std.proofs.lemmas.Bool.{cases_Bool, cases_lt, cond-true, cond-false}
 use Rattle.std.proofs.lemmas.List.Elements.{All-nil, All-cons, All-head, All-tail, All-filter}
 use Rattle.std.proofs.lemmas.List.Kept.{AllPairs-cons, AllPairs-filter}
 use Rattle.std.proofs.lemmas.Option.{slice_get_within, get_or_from_slice_get}
@@ -8,18 +8,22 @@ use Rattle.lattice_core.specs.declared.ray.Ray.{Ray}
 use Rattle.lattice_core.specs.Rays.{IsOnRay}
 use Rattle.surd_order.specs.declared.position.Pos.{Pos}
 use Rattle.surd_order.specs.declared.position.Pos.TheVariants.{Frac}
-use Rattle.solid_set.specs.HitPlaces.{surface_places, IsAtOneOf}
 use Rattle.bool_weave.proofs.Sorted.{Has, has_from_contains, contains_from_has, has_append_left, has_append_right, has_append_cases}
 use Rattle.shot_core.specs.declared.shot.Lit.{Lit}
 use Rattle.shot_core.specs.Regions.{Instance, Region, HaveInstances, HasLeavesBelow, instances_of}
-use Rattle.shot_core.specs.Shots.{lit_of}
+use Rattle.shot_core.specs.Shots.{level_on, lit_of}
 use Rattle.shot_core.specs.Points.{IsRayHitPlace, HoldsPoint, LiesAt, Stretch, stretch_of, stretches_of, HasPosition, HasRegionAt, TellsPoints, IsStretch, EndsBefore, AreStretches, IsTrueOfPoints}
 use Rattle.shot_core.specs.Pruned.{place_of}
+use Rattle.overlap_list.proofs.Overlapping.{first_of}
+use Rattle.shot_core.proofs.FirstHits.{Ending, ends_among, hits_of, hits_among, face_of}
+use Rattle.shot_core.proofs.OwnClaims.{changes_on, IsSilent, silent_changes}
 use Rattle.shot_core.proofs.Picking.{map_same_on, map_twice}
 use Rattle.shot_core.proofs.PointTruth.{true_of_points}
-use Rattle.shot_core.proofs.Pointing.{at_left, at_right, any_from, any_to, has_mapped}
-use Rattle.tile_laws.specs.Parts.{PlacedPart, placed_part, parts_by_place, HoldsNowhere, PartsWithoutTheRest}
-use Rattle.tile_laws.proofs.Numbers.{numbers, kept_as, among_kept, numbers_rise, numbers_length}
+use Rattle.shot_core.proofs.Pointing.{any_from, any_to, has_mapped}
+use Rattle.view_laws.specs.Parts.{PlacedPart, placed_part, parts_by_place, HoldsNowhere, PartsWithoutTheRest}
+use Rattle.view_laws.proofs.Hits.{IsFirstHit, first_hit}
+use Rattle.view_laws.proofs.Silent.{at_some, some_at, silent}
+use Rattle.view_laws.proofs.Numbers.{numbers, kept_as, among_kept, numbers_rise, numbers_length}
 
 all_mapped : {X Y : Type 0} (P : Y → Type 0) (f : X → Y) (xs : List X) → All (λ x. P (f x)) xs → All P (map f xs)
 all_mapped P f [] h = All-nil P
@@ -31,7 +35,7 @@ pairs_mapped R f (x ∷ xs) h =
     AllPairs-cons R (f x) (map f xs) (all_mapped (R (f x)) f xs (λ k d lt. h zero (suc k) d (omega arith) (omega (arith, lt))))
     (pairs_mapped R f xs (λ i j d lt within. h (suc i) (suc j) d (omega (arith, lt)) (omega (arith, within))))
 
-mapped_has : {X Y : Type 0} (f : X → Y) (xs : List X) (x : X) → Has xs x → Has (map f xs) (f x)
+pub mapped_has : {X Y : Type 0} (f : X → Y) (xs : List X) (x : X) → Has xs x → Has (map f xs) (f x)
 mapped_has f [] x h = elim h [ ]
 mapped_has f (y ∷ ys) x (inl e) = inl (ap f e)
 mapped_has f (y ∷ ys) x (inr h) = inr (mapped_has f ys x h)
@@ -72,28 +76,15 @@ instances_among : (keep : Region → Bool) (rs : List Region) (i : Instance) →
 instances_among keep [] i h = h
 instances_among keep (r ∷ rs) i h = one (keep r) r rs (filter keep rs) i (λ more. instances_among keep rs i more) h
 
-at_cases : (xs ys : List Pos) (x : Pos) → IsAtOneOf (xs ++ ys) x → IsAtOneOf xs x ⊎ IsAtOneOf ys x
-at_cases [] ys x h = inr h
-at_cases (z ∷ xs) ys x (inl h) = inl (inl h)
-at_cases (z ∷ xs) ys x (inr h) = elim (at_cases xs ys x h) [ inl a ↦ inl (inr a) | inr b ↦ inr b ]
-
-record IsAtSome (ray : Ray) (is : List Instance) (x : Pos) : Type 0 where
-  one : Instance
-  there : Has is one
-  at : IsAtOneOf (surface_places one.surface ray) x
-
-at_some : (ray : Ray) (is : List Instance) (x : Pos) → IsAtOneOf (flat_map (λ (i : Instance). surface_places i.surface ray) is) x → IsAtSome ray is x
-at_some ray [] x h = elim h [ ]
-at_some ray (i ∷ is) x h = elim (at_cases (surface_places i.surface ray) (flat_map (λ (i : Instance). surface_places i.surface ray) is) x h) [
-  | inl own ↦ record { one = i; there = inl refl; at = own }
-  | inr other ↦ let s = at_some ray is x other in record { one = s.one; there = inr s.there; at = s.at }
-]
-
-some_at : (ray : Ray) (is : List Instance) (x : Pos) (i : Instance) → Has is i → IsAtOneOf (surface_places i.surface ray) x → IsAtOneOf (flat_map (λ (i : Instance). surface_places i.surface ray) is) x
-some_at ray [] x i there h = elim there [ ]
-some_at ray (j ∷ is) x i (inl e) h =
-    at_left (surface_places j.surface ray) (flat_map (λ (i : Instance). surface_places i.surface ray) is) x (subst (λ (k : Instance). IsAtOneOf (surface_places k.surface ray) x) (sym e) h)
-some_at ray (j ∷ is) x i (inr there) h = at_right (surface_places j.surface ray) (flat_map (λ (i : Instance). surface_places i.surface ray) is) x (some_at ray is x i there h)
+-- what those that are left out tell nothing of
+flat_left : {X Y : Type 0} (keep : X → Bool) (f : X → List Y) (xs : List X) → ((x : X) → Has xs x → keep x ≡ false → f x ≡ []) → flat_map f (filter keep xs) ≡ flat_map f xs
+flat_left keep f [] h = refl
+flat_left keep f (x ∷ xs) h =
+    let rest = flat_left keep f xs (λ y more. h y (inr more)) in
+    elim (cases_Bool (keep x)) [
+      | inl is ↦ ap (flat_map f) (cond-true (keep x) (x ∷ filter keep xs) (filter keep xs) is) ∙ ap (λ l. f x ++ l) rest
+      | inr off ↦ ap (flat_map f) (cond-false (keep x) (x ∷ filter keep xs) (filter keep xs) off) ∙ rest ∙ sym (ap (λ l. l ++ flat_map f xs) (h x (inl refl) off))
+    ]
 
 -- a hit place of those that are kept is one of all
 hit_among : (keep : Region → Bool) (rs : List Region) (ray : Ray) (x : Pos) → IsRayHitPlace (filter keep rs) ray x → IsRayHitPlace rs ray x
@@ -106,6 +97,21 @@ record IsPart (keep : Region → Bool) (regions : List Region) (s : Stretch) : T
   number : get_or (numbers keep 0 regions) s.region 0 ≡ offset
   within : offset < length regions
   there : slice_get regions offset ≡ slice_get (filter keep regions) s.region
+
+-- the face and the level of what is hit, if anything is
+abbrev face_at : Option Ending → Pos → ℕ
+face_at None x = 0
+face_at (Some e) x = face_of x e
+
+abbrev level_at : Option Ending → Ray → Pos → ℕ
+level_at None ray x = 0
+level_at (Some e) ray x = level_on e.0 (face_of x e) ray
+
+face_is : (regions : List Region) (ray : Ray) (l : Lit) → IsFirstHit regions ray l → l.hit.face ≡ face_at (first_of (hits_among ray l.start regions)) l.start
+face_is regions ray l h = h.face ∙ sym (ap (λ o. face_at o l.start) h.there)
+
+level_is : (regions : List Region) (ray : Ray) (l : Lit) → IsFirstHit regions ray l → l.level ≡ level_at (first_of (hits_among ray l.start regions)) ray l.start
+level_is regions ray l h = h.level ∙ sym (ap (λ o. level_at o ray l.start) h.there)
 
 module _ (regions : List Region) (ray : Ray) (keep : Region → Bool)
     (rising : AllPairs (λ (r s : Region). r.place < s.place) regions) (below : HaveInstances regions)
@@ -201,13 +207,42 @@ module _ (regions : List Region) (ray : Ray) (keep : Region → Bool)
   same : map renamed own ≡ stretches_of (lit_of regions ray)
   same = (true_of_points regions ray rising below).alone (map renamed own) ordered tells
 
+  kept_below : HaveInstances kept
+  kept_below = All-filter keep (λ (r : Region). HasLeavesBelow (length r.body.instances) r.body.tree) regions below
+
+  silent_left : (r : Region) → Has regions r → keep r ≡ false → IsSilent ray r
+  silent_left r has off =
+      let c = contains_from_has regions r has in
+      silent regions ray r (subst (λ (s : Region). HasLeavesBelow (length s.body.instances) s.body.tree) c.2 (below c.0 r c.1)) (nowhere r c off)
+
+  hits_same : (x : Pos) → hits_among ray x kept ≡ hits_among ray x regions
+  hits_same x = flat_left keep (hits_of ray x) regions (λ r has off. cond-false (changes_on ray x r) (ends_among ray x r.body.instances) [] (silent_changes ray x r (silent_left r has off)))
+
   abbrev placed : Stretch → PlacedPart
-  placed s = record { place = place_of (slice_get regions s.region); start = s.start; end = s.end }
+  placed s = record {
+    place = place_of (slice_get regions s.region);
+    start = s.start;
+    end = s.end;
+    face = face_at (first_of (hits_among ray s.start regions)) s.start;
+    level = level_at (first_of (hits_among ray s.start regions)) ray s.start;
+  }
+
+  whole_part : (l : Lit) → Has (lit_of regions ray) l → placed_part regions l ≡ placed (stretch_of l)
+  whole_part l has =
+      let h = first_hit regions ray below l has in
+      ap (λ f. let p : PlacedPart = record { place = place_of (slice_get regions l.region); start = l.start; end = l.end; face = f; level = l.level } in p) (face_is regions ray l h)
+      ∙ ap (λ v. let p : PlacedPart = record { place = place_of (slice_get regions l.region); start = l.start; end = l.end; face = face_at (first_of (hits_among ray l.start regions)) l.start; level = v } in p) (level_is regions ray l h)
 
   one_part : (l : Lit) → Has (lit_of kept ray) l → placed_part kept l ≡ placed (renamed (stretch_of l))
-  one_part l h =
-      let is = part (stretch_of l) (in_range (stretch_of l) (mapped_has stretch_of (lit_of kept ray) l h)) in
-      ap (λ o. record { place = place_of o; start = l.start; end = l.end }) (sym (subst (λ m. slice_get regions m ≡ slice_get kept l.region) (sym is.number) is.there))
+  one_part l has =
+      let is = part (stretch_of l) (in_range (stretch_of l) (mapped_has stretch_of (lit_of kept ray) l has)) in
+      let there : slice_get kept l.region ≡ slice_get regions (get_or ns l.region 0) = sym (subst (λ m. slice_get regions m ≡ slice_get kept l.region) (sym is.number) is.there) in
+      let h = first_hit kept ray kept_below l has in
+      ap (λ o. let p : PlacedPart = record { place = place_of o; start = l.start; end = l.end; face = l.hit.face; level = l.level } in p) there
+      ∙ ap (λ f. let p : PlacedPart = record { place = place_of (slice_get regions (get_or ns l.region 0)); start = l.start; end = l.end; face = f; level = l.level } in p)
+      (face_is kept ray l h ∙ ap (λ hits. face_at (first_of hits) l.start) (hits_same l.start))
+      ∙ ap (λ v. let p : PlacedPart = record { place = place_of (slice_get regions (get_or ns l.region 0)); start = l.start; end = l.end; face = face_at (first_of (hits_among ray l.start regions)) l.start; level = v } in p)
+      (level_is kept ray l h ∙ ap (λ hits. level_at (first_of hits) ray l.start) (hits_same l.start))
 
   parts_same : parts_by_place kept ray ≡ parts_by_place regions ray
   parts_same =
@@ -215,6 +250,7 @@ module _ (regions : List Region) (ray : Ray) (keep : Region → Bool)
       ∙ sym (map_twice placed renamed own ∙ map_twice (λ s. placed (renamed s)) stretch_of (lit_of kept ray))
       ∙ ap (map placed) same
       ∙ map_twice placed stretch_of (lit_of regions ray)
+      ∙ sym (map_same_on (placed_part regions) (λ l. placed (stretch_of l)) (lit_of regions ray) whole_part)
 
 pub parts_without_the_rest : PartsWithoutTheRest
 parts_without_the_rest regions ray keep rising below nowhere = parts_same regions ray keep rising below nowhere

@@ -1,5 +1,5 @@
 -- A region that holds at a point of a ray of a tile is kept for the tile: its box has the point.
-use Rattle.std.proofs.Common.{◌≡◌, ◌<◌, zero, suc, ℕ, ℤ, pos, ◌<ℤ◌, List, [], ◌∷◌, length, get_or, slice_get, true, false, IfSome, Option, Some, None, All, sym, subst, ◌∙◌, refl, inl, inr, arith}
+use Rattle.std.proofs.Common.{◌≡◌, ◌<◌, zero, suc, ℕ, ℤ, pos, ◌<ℤ◌, List, [], ◌∷◌, length, get_or, slice_get, true, IfSome, Option, Some, None, All, sym, subst, ◌∙◌, refl, inl, inr, arith}
 use Rattle.std.proofs.lemmas.Bool.{true≢false}
 use Rattle.std.proofs.lemmas.Option.{get_or_from_slice_get}
 use Rattle.lattice_core.specs.declared.boxes.Box3.{Box3}
@@ -23,8 +23,8 @@ use Rattle.shot_core.specs.Points.{TreeHolds, IsInInstance, HoldsPoint}
 use Rattle.shot_core.specs.Pruned.{meets_tile}
 use Rattle.shot_core.proofs.Boxing.{are_hull_and_meet}
 use Rattle.shot_core.proofs.TileMeeting.{ray_met}
-use Rattle.tile_laws.specs.Parts.{KeptHaveTheSameParts}
-use Rattle.tile_laws.proofs.LeftOut.{parts_without_the_rest}
+use Rattle.view_laws.specs.Parts.{KeptHaveTheSameParts}
+use Rattle.view_laws.proofs.LeftOut.{parts_without_the_rest}
 
 module _ (boxes : List Box3) (says : ℕ → Type 0) (v : V3) (w : ℤ) (some : pos 0 <ℤ w) where
   abbrev HaveAt : Mask → Type 0

@@ -12,15 +12,17 @@ use Rattle.shot_core.specs.Shots.{lit_of}
 use Rattle.shot_core.specs.Points.{IsRayHitPlace, HoldsPoint}
 use Rattle.shot_core.specs.Pruned.{place_of, kept_for, IsPixelOf}
 
--- a part of a ray, and the place of the region that has it
+-- a part of a ray, the place of the region that has it, and the face and the level of its hit
 pub record PlacedPart : Type 0 where
   pub place : ℕ
   pub start : Pos
   pub end : Pos
+  pub face : ℕ
+  pub level : ℕ
 
--- a partition, with the place of its region in place of the number, and without its hit and its level
+-- a partition, with the place of its region in place of the number, and without the number of the instance that is hit
 abbrev pub placed_part : List Region → Lit → PlacedPart
-placed_part regions lit = record { place = place_of (slice_get regions lit.region); start = lit.start; end = lit.end }
+placed_part regions lit = record { place = place_of (slice_get regions lit.region); start = lit.start; end = lit.end; face = lit.hit.face; level = lit.level }
 
 -- the parts of a ray, in order
 abbrev pub parts_by_place : List Region → Ray → List PlacedPart

@@ -1,0 +1,8 @@
+pub mod Numbers
+pub mod Silent
+pub mod Hits
+pub mod LeftOut
+pub mod Kept
+pub mod Pixels
+pub mod Reports
+mod PointExamples

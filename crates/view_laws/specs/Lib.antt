@@ -1,0 +1,4 @@
+pub mod Parts
+pub mod ReportPoints
+pub mod PixelPoints
+pub mod Examples

@@ -1,0 +1,56 @@
+-- What a report tells of the points of the rays of a view, hit places aside: which regions overlap there, on how many rays, and on
+-- which first.
+use Rattle.std.specs.Prelude.{◌≡◌, ◌↔◌, ◌<◌, ℕ, ℤ, List, Bool, IsTrue, Some, All, AllPairs, Any, Contains, length, filter, find}
+use Rattle.lattice_core.specs.declared.ray.Ray.{Ray}
+use Rattle.lattice_core.specs.declared.view.View.{View}
+use Rattle.lattice_core.specs.Rays.{IsOnRay}
+use Rattle.lattice_core.specs.Views.{pixel_ray}
+use Rattle.surd_order.specs.declared.position.Pos.TheVariants.{Frac}
+use Rattle.overlap_list.specs.declared.overlap.OverlapRun.{OverlapRun}
+use Rattle.shot_core.specs.declared.pair.Pair.{Pair}
+use Rattle.shot_core.specs.OverlapPoints.{BothHoldSolid, IsTrueOverlap}
+use Rattle.shot_core.specs.Points.{IsRayHitPlace}
+use Rattle.shot_core.specs.Pruned.{by_place}
+use Rattle.shot_core.specs.Regions.{Region, HaveInstances}
+use Rattle.tile_shot.specs.Merges.{HasLowerPair}
+use Rattle.tile_shot.specs.Reports.{Spot, report_of, HaveRisingPlaces}
+
+-- the regions of two places, neither with air, both hold at some fraction of a ray
+pub record OverlapSomewhere (regions : List Region) (ray : Ray) (one two : ℕ) : Type 0 where
+  pub p : ℤ
+  pub q : ℤ
+  pub on_ray : IsOnRay p q
+  pub free : ¬ (IsRayHitPlace regions ray (Frac p q))
+  pub first_number : ℕ
+  pub second_number : ℕ
+  pub both : BothHoldSolid regions ray p q first_number second_number
+  pub first_place : both.first.place ≡ one
+  pub second_place : both.second.place ≡ two
+
+-- on a ray the two regions of a pair first both hold between the ends that it has
+pub record IsWhereFirst (regions : List Region) (ray : Ray) (pair : Pair) : Type 0 where
+  pub run : OverlapRun
+  pub first : IsTrueOverlap regions ray run
+  pub is : by_place regions run ≡ record { one = pair.one; two = pair.two; start = pair.start; end = pair.end }
+
+-- the two regions of a pair both hold somewhere on as many rays of some pixels as it has, the first of these is that of its pixel, and
+-- there they first do between its ends
+pub record IsTruePair (regions : List Region) (view : View) (spots : List Spot) (pair : Pair) : Type 0 where
+  pub order : pair.one < pair.two
+  pub overlap : Spot → Bool
+  pub tells : (s : Spot) → IsTrue (overlap s) ↔ OverlapSomewhere regions (pixel_ray view s.column s.row) pair.one pair.two
+  pub rays : pair.rays ≡ length (filter overlap spots)
+  pub first : find overlap spots ≡ Some (record { column = pair.column; row = pair.row })
+  pub there : IsWhereFirst regions (pixel_ray view pair.column pair.row) pair
+
+-- each pair is such, by the lower place and then the higher one, and there is one for any two regions that both hold somewhere on one of
+-- the rays
+pub record IsTrueReport (regions : List Region) (view : View) (spots : List Spot) (pairs : List Pair) : Type 0 where
+  pub each : All (IsTruePair regions view spots) pairs
+  pub rising : AllPairs HasLowerPair pairs
+  pub all : (one two : ℕ) (s : Spot) → one < two → Contains spots s → OverlapSomewhere regions (pixel_ray view s.column s.row) one two → Any (λ pair. (pair.one ≡ one) × (pair.two ≡ two)) pairs
+
+-- the report of any pixels of a view is true of the points of their rays (`IsTrueReport`), whatever the regions are whose places rise and
+-- whose leaves stand for their instances
+abbrev pub ReportsTellPoints : Type 0
+ReportsTellPoints = (regions : List Region) (view : View) (spots : List Spot) → HaveRisingPlaces regions → HaveInstances regions → IsTrueReport regions view spots (report_of regions view spots)

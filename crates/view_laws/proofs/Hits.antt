@@ -20,6 +20,7 @@ use Rattle.bool_weave.proofs.Claimed.{intervals_length}
 use Rattle.bool_weave.proofs.Cutting.{turned}
 use Rattle.bool_weave.proofs.Sorted.{Has, has_at, contains_from_has}
 use Rattle.overlap_list.specs.declared.hit.Hit.{Hit}
+use Rattle.overlap_list.specs.declared.partition.Partition.{Partition}
 use Rattle.overlap_list.specs.declared.region.RegionClaims.{RegionClaims}
 use Rattle.overlap_list.specs.Firsts.{TreeRegion, claims_by, changes_over, is_hit_at, hit_by}
 use Rattle.overlap_list.specs.Hits.{is_at, has_end_at, differ, changes_at, is_of, is_candidate, hit_on, lowest, cut_at, hit_of}
@@ -198,16 +199,16 @@ module _ (regions : List Region) (ray : Ray) (below : HaveInstances regions) whe
   abbrev tree_no : ℕ → TreeRegion
   tree_no n = tree_region (get_or (firsts_from 0 regions) n 0) (get_or regions n no_region).body
 
+  -- a region's claim changes at a cut just where it does by its number
+  pub change_no : (n k : ℕ) (d : RegionClaims) → n < length regions → k < count → changes_at k (get_or all n d) ≡ changes_on ray (cut_at woven k) (get_or regions n no_region)
+  change_no n k d within lt = ap (changes_at k) (claims_number woven 0 regions n d within) ∙ change_there (tree_no n) k lt ∙ change_is regions ray below (cut_at woven k) n within
+
   -- something is hit where a run begins that one region wins
   some_hit : (run : IntervalRun) → IsWonRun all run → run.from < count → HasFirst (hits_among ray (cut_at woven run.from) regions)
   some_hit run won lt =
       let a = some_change all run.from won.region won.begun in
       let within : a.0 < length regions = omega (arith, a.2, claims_length woven 0 regions) in
-      let change : changes_on ray (cut_at woven run.from) (get_or regions a.0 no_region) ≡ true =
-      sym (change_is regions ray below (cut_at woven run.from) a.0 within)
-      ∙ sym (change_there (tree_no a.0) run.from lt)
-      ∙ sym (ap (changes_at run.from) (claims_number woven 0 regions a.0 a.1 within))
-      ∙ ap (changes_at run.from) a.3 ∙ a.4 in
+      let change : changes_on ray (cut_at woven run.from) (get_or regions a.0 no_region) ≡ true = sym (change_no a.0 run.from a.1 within lt) ∙ ap (changes_at run.from) a.3 ∙ a.4 in
       let r = get_or regions a.0 no_region in
       first_flat (hits_of ray (cut_at woven run.from)) regions (get_or regions a.0 no_region) (has_at regions (get_or regions a.0 no_region) no_region a.0 within refl)
       (first_end ray (cut_at woven run.from) (get_or regions a.0 no_region) (ends_among ray (cut_at woven run.from) r.body.instances) refl change)
@@ -230,3 +231,11 @@ module _ (regions : List Region) (ray : Ray) (below : HaveInstances regions) whe
       let run = has_mapped (partition_of woven all) (won_runs all count) p.0 p.1 in
       let w = won_run all count run.0 run.1 in
       subst (IsFirstHit regions ray) (ap (lit_by regions ray) run.2 ∙ p.2) (of_run run.0 w.0 (omega (arith, w.0.some, w.1)))
+
+  -- a partition starts at a cut
+  pub start_cut : (l : Lit) → Has (lit_of regions ray) l → (k : ℕ) × (k < count) × (cut_at woven k ≡ l.start)
+  start_cut l has =
+      let p = has_mapped (lit_by regions ray) (map (partition_of woven all) (won_runs all count)) l has in
+      let run = has_mapped (partition_of woven all) (won_runs all count) p.0 p.1 in
+      let w = won_run all count run.0 run.1 in
+      (run.0.from, omega (arith, w.0.some, w.1), ap (λ (r : Partition). r.start) run.2 ∙ ap (λ (m : Lit). m.start) p.2)

@@ -1,9 +1,10 @@
 -- A pixel has the colour of the region that lies first on its ray, at the level of a face where it begins.
-use Rattle.std.proofs.Common.{◌≡◌, ◌⊎◌, ◌+◌, ◌||◌, ℕ, List, [], ◌∷◌, slice_get, filter, flat_map, find, Bool, true, false, cond, Option, Some, None, ap, sym, ◌∙◌, subst, refl, inl, inr, arith}
+use Rattle.std.proofs.Common.{◌≡◌, ◌⊎◌, ◌+◌, ◌||◌, ℕ, List, [], ◌∷◌, get_or, slice_get, filter, flat_map, find, Bool, true, false, cond, Option, Some, None, ap, sym, ◌∙◌, subst, refl, inl, inr, arith}
 use Rattle.std.specs.Ordering.{is_eq}
 use Rattle.std.specs.declared.cmp.Ordering.{Ordering}
 use Rattle.std.specs.declared.cmp.Ordering.TheVariants.{Less, Equal, Greater}
 use Rattle.std.proofs.lemmas.Bool.{cond-true, cond-false, true≢false}
+use Rattle.std.proofs.lemmas.List.{get_or_default}
 use Rattle.std.proofs.lemmas.Option.{slice_get_within, get_or_from_slice_get}
 use Rattle.lattice_core.specs.declared.ray.Ray.{Ray}
 use Rattle.surd_order.specs.declared.position.Pos.{Pos}
@@ -16,15 +17,17 @@ use Rattle.bool_weave.proofs.Cutting.{tied_same}
 use Rattle.bool_weave.proofs.Flanks.{from_filter}
 use Rattle.bool_weave.proofs.Middles.{has_filtered}
 use Rattle.bool_weave.proofs.Sorted.{Has, has_append_left, has_append_right, has_append_cases, contains_from_has, has_from_contains}
-use Rattle.overlap_list.specs.Hits.{is_at, has_end_at}
-use Rattle.overlap_list.proofs.Overlapping.{first_of}
+use Rattle.overlap_list.specs.Hits.{is_at, has_end_at, changes_at}
+use Rattle.overlap_list.proofs.Overlapping.{first_of, slice_at}
 use Rattle.shot_core.specs.declared.shot.Lit.{Lit}
 use Rattle.shot_core.specs.FirstShots.{is_solid, first_seen}
 use Rattle.shot_core.specs.Laws.{HasEndWith}
 use Rattle.shot_core.specs.Points.{stretch_of, stretches_of, IsStretch}
 use Rattle.shot_core.specs.Regions.{Instance, Region, HaveInstances, instances_of}
 use Rattle.shot_core.specs.SeenPoints.{IsSeenFirst}
-use Rattle.shot_core.specs.Shots.{woven_from, level_on, lit_of}
+use Rattle.shot_core.specs.Shots.{woven_from, claims_on, level_on, lit_of}
+use Rattle.shot_core.specs.Steps.{no_region}
+use Rattle.shot_core.proofs.Claiming.{no_claims}
 use Rattle.shot_core.proofs.FirstHits.{Ending, ends_among, hits_of, hits_among, face_of, ending_of, ends_are}
 use Rattle.shot_core.proofs.OwnClaims.{changes_on}
 use Rattle.shot_core.proofs.PointTruth.{ordered_lit}
@@ -33,8 +36,9 @@ use Rattle.shot_core.proofs.SeenTruth.{seen_tells_points}
 use Rattle.shot_core.proofs.Weaving.{has_woven}
 use Rattle.tile_shot.specs.Pixels.{colour_of, pixel_by, shaded}
 use Rattle.tile_shot.specs.Reports.{HaveRisingPlaces}
-use Rattle.view_laws.specs.PixelPoints.{HasLevel, IsTruePixel, PixelsTellPoints}
-use Rattle.view_laws.proofs.Hits.{first_hit}
+use Rattle.view_laws.specs.PixelPoints.{TurnsAt, HasLevel, IsTruePixel, PixelsTellPoints}
+use Rattle.view_laws.proofs.Hits.{first_hit, change_no, start_cut}
+use Rattle.view_laws.proofs.Turning.{turns_at}
 use Rattle.view_laws.proofs.LeftOut.{mapped_has}
 
 -- members of lists
@@ -54,22 +58,20 @@ flat_has : {X Y : Type 0} (f : X → List Y) (xs : List X) (y : Y) → Has (flat
 flat_has f [] y h = absurd h
 flat_has f (x ∷ xs) y h = elim (has_append_cases (f x) (flat_map f xs) y h) [ inl own ↦ (x, inl refl, own) | inr more ↦ let s = flat_has f xs y more in (s.0, inr s.1, s.2) ]
 
-has_flat : {X Y : Type 0} (f : X → List Y) (xs : List X) (x : X) (y : Y) → Has xs x → Has (f x) y → Has (flat_map f xs) y
-has_flat f [] x y there h = absurd there
-has_flat f (z ∷ zs) x y (inl e) h = has_append_left (f z) (flat_map f zs) y (subst (λ w. Has (f w) y) (sym e) h)
-has_flat f (z ∷ zs) x y (inr there) h = has_append_right (f z) (flat_map f zs) y (has_flat f zs x y there h)
-
 slice_has : {X : Type 0} (xs : List X) (n : ℕ) (x : X) → slice_get xs n ≡ Some x → Has xs x
 slice_has xs n x e = has_from_contains xs x (n, slice_get_within xs n x e, get_or_from_slice_get xs n x x e)
 
-taken : {X : Type 0} (b : Bool) (xs : List X) (x : X) → Has (cond b xs []) x → Has xs x
-taken true xs x h = h
+taken : {X : Type 0} (b : Bool) (xs : List X) (x : X) → Has (cond b xs []) x → (b ≡ true) × Has xs x
+taken true xs x h = (refl, h)
 taken false xs x h = absurd h
 
--- an end of an instance of some region
+-- an end of an instance of some region whose claim changes there
 record IsEnding (regions : List Region) (ray : Ray) (x : Pos) (e : Ending) : Type 0 where
+  region : Region
+  listed : Has regions region
+  changes : changes_on ray x region ≡ true
   one : Instance
-  there : Has (instances_of regions) one
+  there : Has region.body.instances one
   is : e.0 ≡ Some one
   segment : segment_of one.surface ray ≡ Some e.1
   end : (is_at e.1.start x ≡ true) ⊎ (is_at e.1.end x ≡ true)
@@ -78,17 +80,19 @@ either_end : (a b : Bool) → a || b ≡ true → (a ≡ true) ⊎ (b ≡ true)
 either_end true b h = inl refl
 either_end false b h = inr h
 
-ending_among : (regions : List Region) (ray : Ray) (x : Pos) (r : Region) (e : Ending) → Has regions r → Has (ends_among ray x r.body.instances) e → IsEnding regions ray x e
-ending_among regions ray x r e there h =
+ending_among : (regions : List Region) (ray : Ray) (x : Pos) (r : Region) (e : Ending) → Has regions r → changes_on ray x r ≡ true → Has (ends_among ray x r.body.instances) e → IsEnding regions ray x e
+ending_among regions ray x r e there changes h =
     let all = r.body.instances in
     let mapped = subst (λ (l : List Ending). Has l e) (sym (ends_are all x ray 0 all (λ k lt. let same : 0 + k ≡ k = omega arith in ap (slice_get all) same))) h in
     let w = has_mapped (ending_of all) (filter (has_end_at x) (woven_from ray 0 all)) e mapped in
     let own = has_woven ray 0 all w.0 (has_filtered (has_end_at x) (woven_from ray 0 all) w.0 w.1) in
     let place : w.0.instance ≡ own.place = omega (arith, own.number) in
     record {
+      region = r;
+      listed = there;
+      changes = changes;
       one = own.one;
-      there = has_flat (λ (s : Region). s.body.instances) regions r own.one there
-          (slice_has all own.place own.one own.there);
+      there = slice_has all own.place own.one own.there;
       is = sym (ap (λ (d : Ending). d.0) w.2) ∙ ap (slice_get all) place ∙ own.there;
       segment = own.segment ∙ ap (λ s. Some s) (ap (λ (d : Ending). d.1) w.2);
       end = either_end (is_at e.1.start x) (is_at e.1.end x) (subst (λ (d : Ending). is_at d.1.start x || is_at d.1.end x ≡ true) w.2 (from_filter (has_end_at x) (woven_from ray 0 all) w.0 w.1));
@@ -97,7 +101,8 @@ ending_among regions ray x r e there h =
 ending : (regions : List Region) (ray : Ray) (x : Pos) (e : Ending) → Has (hits_among ray x regions) e → IsEnding regions ray x e
 ending regions ray x e h =
     let r = flat_has (hits_of ray x) regions e h in
-    ending_among regions ray x r.0 e r.1 (taken (changes_on ray x r.0) (ends_among ray x r.0.body.instances) e r.2)
+    let t = taken (changes_on ray x r.0) (ends_among ray x r.0.body.instances) e r.2 in
+    ending_among regions ray x r.0 e r.1 t.0 t.1
 
 -- its face there
 tied : (r : Ordering) → is_eq r ≡ true → r ≡ Equal
@@ -124,9 +129,18 @@ module _ (regions : List Region) (ray : Ray) (rising : HaveRisingPlaces regions)
       let h = first_hit regions ray below l has in
       let e = ending regions ray l.start h.first (first_has (hits_among ray l.start regions) h.first h.there) in
       let ends = segment_spelled e.one.surface ray h.first.1 e.segment in
+      let r = contains_from_has regions e.region e.listed in
+      let at : slice_get regions r.0 ≡ Some e.region = slice_at regions r.0 no_region r.1 ∙ ap (λ r. Some r) (get_or_default regions r.0 no_region e.region r.1 ∙ r.2) in
+      let c = start_cut regions ray below l has in
+      let change : changes_at c.0 (get_or (claims_on regions ray) r.0 no_claims) ≡ true =
+      change_no regions ray below r.0 c.0 no_claims r.1 c.1
+      ∙ ap (λ x. changes_on ray x (get_or regions r.0 no_region)) c.2 ∙ ap (changes_on ray l.start) (get_or_default regions r.0 no_region e.region r.1 ∙ r.2) ∙ e.changes in
       record {
+        region = e.region;
+        listed = r;
+        turns = subst (TurnsAt regions ray e.region.body) c.2 (turns_at regions ray below r.0 e.region at c.0 c.1 change);
         one = e.one;
-        there = contains_from_has (instances_of regions) e.one e.there;
+        there = contains_from_has e.region.body.instances e.one e.there;
         seg = h.first.1;
         segment = e.segment;
         end = end_there (is_at h.first.1.start l.start) (is_at h.first.1.end l.start) h.first.1 l.start l.hit.face (spelled l has) ends.0 ends.1 refl refl e.end h.face;

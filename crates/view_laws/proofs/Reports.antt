@@ -1,5 +1,5 @@
 -- A report tells which regions overlap at points of the rays, on how many, and on which first.
-use Rattle.std.proofs.Common.{◌≡◌, ◌<◌, ◌↔◌, ℕ, suc, ℤ, pos, negsuc, List, [], ◌∷◌, ◌++◌, length, get_or, slice_get, map, filter, flat_map, find, Bool, true, false, cond, ◌==◌, Option, Some, None, is_some, ap, sym, ◌∙◌, subst, refl, inl, inr, arith}
+use Rattle.std.proofs.Common.{◌≡◌, ◌<◌, ◌<ℤ◌, ◌↔◌, ℕ, suc, ℤ, pos, negsuc, List, [], ◌∷◌, ◌++◌, length, get_or, slice_get, map, filter, flat_map, find, Bool, true, false, cond, ◌==◌, Option, Some, None, is_some, ap, sym, ◌∙◌, subst, refl, inl, inr, arith}
 use Rattle.std.proofs.lemmas.Bool.{cases_Bool, cases_lt, cond-true, cond-false, true≢false, and_from, eq-eqb}
 use Rattle.std.proofs.lemmas.Int.{ints}
 use Rattle.std.proofs.lemmas.Option.{slice_get_within, get_or_from_slice_get}
@@ -17,13 +17,16 @@ use Rattle.prim_sphere.specs.Spheres.{nearest_on, half_chord_squared}
 use Rattle.surd_order.specs.declared.position.Pos.{Pos}
 use Rattle.surd_order.specs.declared.position.Pos.TheVariants.{Frac}
 use Rattle.surd_order.specs.Order.{IsPlace, Precedes}
-use Rattle.surd_order.proofs.OrderLaws.{transitive}
+use Rattle.surd_order.specs.Spelling.{IsSpelled}
+use Rattle.surd_order.proofs.LawProofs.{outcome, is_kept_by_same_place}
+use Rattle.surd_order.proofs.OrderLaws.{transitive, same_symm}
 use Rattle.solid_set.specs.declared.surface.Surface.{Surface}
 use Rattle.solid_set.specs.declared.surface.Surface.TheVariants.{Planes, HalfSpace, Ball}
 use Rattle.solid_set.specs.HitPlaces.{crossing_places, side_places, root_places, surface_places}
 use Rattle.solid_set.specs.Segments.{ray_start, ray_end}
 use Rattle.solid_set.proofs.InsideLaws.{on_ray_within}
 use Rattle.solid_set.proofs.Separated.{between_but}
+use Rattle.bool_weave.proofs.Cutting.{place_from}
 use Rattle.bool_weave.proofs.Sorted.{Has, has_from_contains, contains_from_has, has_append_left, has_append_right, has_append_cases}
 use Rattle.overlap_list.specs.declared.overlap.OverlapRun.{OverlapRun}
 use Rattle.overlap_list.proofs.FirstRuns.{overlaps_are_first}
@@ -37,13 +40,13 @@ use Rattle.shot_core.specs.Shots.{woven_of, claims_on, overlaps_on}
 use Rattle.shot_core.specs.Steps.{no_region}
 use Rattle.shot_core.proofs.ResultLaws.{rows_from}
 use Rattle.shot_core.proofs.OverlapTruth.{overlaps_tell_points}
-use Rattle.shot_core.proofs.Pointing.{any_from, any_to, has_mapped, place}
+use Rattle.shot_core.proofs.Pointing.{any_from, any_to, has_mapped, on_ray as on_cut}
 use Rattle.tile_shot.specs.Merges.{HasLowerPair}
 use Rattle.tile_shot.specs.Reports.{Spot, CheckedRay, checked_ray, PlacePair, place_pairs, is_of_pair, run_of, pair_of, report_of, HaveRisingPlaces}
 use Rattle.tile_shot.proofs.Listing.{told_of, pairs_lower}
 use Rattle.tile_shot.proofs.Merging.{IsLower}
 use Rattle.tile_shot.proofs.Reporting.{run_keys, at_spot, rays_at, pair_on, made, skipped, taken, taken_pair, pairs_rise, places_rise}
-use Rattle.view_laws.specs.ReportPoints.{OverlapSomewhere, IsWhereFirst, IsTruePair, IsTrueReport, ReportsTellPoints}
+use Rattle.view_laws.specs.ReportPoints.{OverlapSomewhere, IsWhereFirst, IsTruePair, IsTrueReport}
 use Rattle.view_laws.proofs.LeftOut.{mapped_has}
 use Rattle.view_laws.proofs.Pixels.{found_has}
 
@@ -84,10 +87,10 @@ instances_placed ray [] x none = absurd none
 instances_placed ray (i ∷ is) x has =
     both_places (surface_places i.surface ray) (flat_map (λ (i : Instance). surface_places i.surface ray) is) (surface_placed i.surface ray) (instances_placed ray is) x has
 
-zero_place : IsPlace ray_start
+pub zero_place : IsPlace ray_start
 zero_place = omega (arith, ints)
 
-far_place : IsPlace ray_end
+pub far_place : IsPlace ray_end
 far_place = omega (arith, ints)
 
 ray_placed : (regions : List Region) (ray : Ray) → ArePlaces (ray_places regions ray)
@@ -96,28 +99,46 @@ ray_placed regions ray x (inr (inl e)) = subst IsPlace e far_place
 ray_placed regions ray x (inr (inr has)) = instances_placed ray (instances_of regions) x has
 
 -- a fraction of the ray between two places of it that is at no hit place
-record IsFreeBetween (regions : List Region) (ray : Ray) (x y : Pos) : Type 0 where
-  p : ℤ
-  q : ℤ
-  on : IsOnRay p q
-  free : ¬ (IsRayHitPlace regions ray (Frac p q))
-  after : Precedes x (Frac p q)
-  before : Precedes (Frac p q) y
+pub record IsFreeBetween (regions : List Region) (ray : Ray) (x y : Pos) : Type 0 where
+  pub p : ℤ
+  pub q : ℤ
+  pub on : IsOnRay p q
+  pub free : ¬ (IsRayHitPlace regions ray (Frac p q))
+  pub after : Precedes x (Frac p q)
+  pub before : Precedes (Frac p q) y
 
-free_between : (regions : List Region) (ray : Ray) (x y : Pos) → IsPlace x → IsPlace y → ¬ (Precedes x ray_start) → ¬ (Precedes ray_end y) → Precedes x y → IsFreeBetween regions ray x y
+on_ray : (x y : Pos) (p q : ℤ) → pos 0 <ℤ q → IsPlace y → ¬ (Precedes x ray_start) → ¬ (Precedes ray_end y) → Precedes x (Frac p q) → Precedes (Frac p q) y → IsOnRay p q
+on_ray x y p q some place begun not_ended after before = (on_ray_within p q some).1 (
+  λ early. begun (transitive x (Frac p q) ray_start some zero_place after early),
+  λ late. not_ended (transitive ray_end (Frac p q) y some place late before),
+)
+
+pub free_between : (regions : List Region) (ray : Ray) (x y : Pos) → IsPlace x → IsPlace y → ¬ (Precedes x ray_start) → ¬ (Precedes ray_end y) → Precedes x y → IsFreeBetween regions ray x y
 free_between regions ray x y place place' begun not_ended order =
     let f = between_but (ray_places regions ray) x y (ray_placed regions ray) place place' order in
-    record {
-      p = f.p;
-      q = f.q;
-      on = (on_ray_within f.p f.q f.positive).1 (
-        λ early. begun (transitive x (Frac f.p f.q) ray_start f.positive zero_place f.after early),
-        λ late. not_ended (transitive ray_end (Frac f.p f.q) y f.positive place' late f.before),
-      );
-      free = f.apart;
-      after = f.after;
-      before = f.before;
-    }
+    record { p = f.p; q = f.q; on = on_ray x y f.p f.q f.positive place' begun not_ended f.after f.before; free = f.apart; after = f.after; before = f.before }
+
+-- and one that is also before another place
+pub record IsFreeBeforeBoth (regions : List Region) (ray : Ray) (x y z : Pos) : Type 0 where
+  pub point : IsFreeBetween regions ray x y
+  pub before_other : Precedes (Frac point.p point.q) z
+
+pub free_before_both : (regions : List Region) (ray : Ray) (x y z : Pos) → IsPlace x → IsPlace y → IsPlace z → ¬ (Precedes x ray_start) → ¬ (Precedes ray_end y) → Precedes x y → Precedes x z → IsFreeBeforeBoth regions ray x y z
+free_before_both regions ray x y z place_x place_y place_z begun not_ended to_y to_z = elim (outcome y z place_y place_z) [
+  | inl first ↦
+      let f = free_between regions ray x y place_x place_y begun not_ended to_y in
+      record { point = f; before_other = transitive (Frac f.p f.q) y z place_y place_z f.before first }
+  | inr last ↦
+      let f = between_but (ray_places regions ray) x z (ray_placed regions ray) place_x place_z to_z in
+      let before : Precedes (Frac f.p f.q) y = elim last [
+        | inl same ↦ is_kept_by_same_place.after (Frac f.p f.q) z y f.before (same_symm y z same)
+        | inr back ↦ transitive (Frac f.p f.q) z y place_z place_y f.before back
+      ] in
+      record {
+        point = record { p = f.p; q = f.q; on = on_ray x y f.p f.q f.positive place_y begun not_ended f.after before; free = f.apart; after = f.after; before = before };
+        before_other = f.before;
+      }
+]
 
 -- lists and what is found in them
 some_found : {X : Type 0} (test : X → Bool) (xs : List X) (x : X) → Has xs x → test x ≡ true → is_some (find test xs) ≡ true
@@ -161,24 +182,39 @@ pair_has (p ∷ ps) one two rises (inl e) (inr k) lt =
 pair_has (p ∷ ps) one two rises (inr h) (inl d) lt = let above = rises.0 one h in absurd (omega (arith, above, d, lt))
 pair_has (p ∷ ps) one two rises (inr h) (inr k) lt = has_append_right (map (λ q. record { one = p; two = q }) ps) (place_pairs ps) (record { one = one; two = two }) (pair_has ps one two rises.1 h k lt)
 
--- a region of a higher place has a higher number
+-- a region of a higher number has a higher place, and the other way round
+place_rises : (regions : List Region) (i j : ℕ) (r s : Region) → HaveRisingPlaces regions → slice_get regions i ≡ Some r → slice_get regions j ≡ Some s → i < j → r.place < s.place
+place_rises regions i j r s rising at at' lt =
+    let back = rising i j no_region lt (slice_get_within regions j s at') in
+    let one : get_or regions i no_region ≡ r = get_or_from_slice_get regions i r no_region at in
+    let two : get_or regions j no_region ≡ s = get_or_from_slice_get regions j s no_region at' in
+    subst (λ (q : Region). r.place < q.place) two (subst (λ (q : Region). q.place < (get_or regions j no_region).place) one back)
+
 number_rises : (regions : List Region) (i j : ℕ) (r s : Region) → HaveRisingPlaces regions → slice_get regions i ≡ Some r → slice_get regions j ≡ Some s → r.place < s.place → i < j
 number_rises regions i j r s rising at at' lt =
     elim (cases_lt i j) [
       | inl less ↦ less
       | inr ge ↦ elim (cases_lt j i) [
-        | inl more ↦
-            let within : i < length regions = slice_get_within regions i r at in
-            let back = rising j i no_region more within in
-            let one : get_or regions i no_region ≡ r = get_or_from_slice_get regions i r no_region at in
-            let two : get_or regions j no_region ≡ s = get_or_from_slice_get regions j s no_region at' in
-            absurd (omega (arith, lt, subst (λ (q : Region). q.place < r.place) two (subst (λ (q : Region). (get_or regions j no_region).place < q.place) one back)))
+        | inl more ↦ let back = place_rises regions j i s r rising at' at more in absurd (omega (arith, lt, back))
         | inr le ↦
             let e : i ≡ j = omega (arith, ge, le) in
             let same : r ≡ s = same_some r s (sym at ∙ ap (slice_get regions) e ∙ at') in
             absurd (omega (arith, subst (λ (q : Region). r.place < q.place) (sym same) lt))
       ]
     ]
+
+pub number_same : (regions : List Region) (i j : ℕ) (r s : Region) → HaveRisingPlaces regions → slice_get regions i ≡ Some r → slice_get regions j ≡ Some s → r.place ≡ s.place → i ≡ j
+number_same regions i j r s rising at at' same =
+    elim (cases_lt i j) [
+      | inl less ↦ let up = place_rises regions i j r s rising at at' less in absurd (omega (arith, same, up))
+      | inr ge ↦ elim (cases_lt j i) [
+        | inl more ↦ let up = place_rises regions j i s r rising at' at more in absurd (omega (arith, same, up))
+        | inr le ↦ omega (arith, ge, le)
+      ]
+    ]
+
+told_place : (regions : List Region) (n : ℕ) (r : Region) (place : ℕ) → slice_get regions n ≡ Some r → place_of (slice_get regions n) ≡ place → r.place ≡ place
+told_place regions n r place at is = sym (ap place_of at) ∙ is
 
 module _ (regions : List Region) (view : View) (rising : HaveRisingPlaces regions) (below : HaveInstances regions) where
   abbrev ray_at : Spot → Ray
@@ -192,8 +228,8 @@ module _ (regions : List Region) (view : View) (rising : HaveRisingPlaces region
     record IsFoundOn (run : OverlapRun) : Type 0 where
       own : OverlapRun
       first : IsTrueOverlap regions (ray_at s) own
-      start : IsPlace own.start
-      end : IsPlace own.end
+      start : IsSpelled own.start
+      end : IsSpelled own.end
       is : by_place regions own ≡ run
 
     found_on : (run : OverlapRun) → at_spot regions view pair s ≡ Some run → IsFoundOn run
@@ -206,8 +242,8 @@ module _ (regions : List Region) (view : View) (rising : HaveRisingPlaces region
         record {
           own = own.0;
           first = subst (IsTrueOverlap regions ray) c.2 ((overlaps_tell_points regions ray below).each c.0 own.0 c.1);
-          start = subst IsPlace (sym part.start) (place regions ray below part.run.from (omega (arith, part.some, part.within)));
-          end = subst IsPlace (sym part.end) (place regions ray below part.run.to part.within);
+          start = subst IsSpelled (sym part.start) (on_cut regions ray below part.run.from (omega (arith, part.some, part.within))).spelled;
+          end = subst IsSpelled (sym part.end) (on_cut regions ray below part.run.to part.within).spelled;
           is = own.2;
         }
 
@@ -215,7 +251,7 @@ module _ (regions : List Region) (view : View) (rising : HaveRisingPlaces region
     tells_from run e =
         let f = found_on run e in
         let keys = run_keys pair (checked_ray regions view s) run e in
-        let x = free_between regions ray f.own.start f.own.end f.start f.end f.first.begun f.first.not_ended f.first.forward in
+        let x = free_between regions ray f.own.start f.own.end (place_from f.own.start f.start) (place_from f.own.end f.end) f.first.begun f.first.not_ended f.first.forward in
         let both = f.first.between x.p x.q x.on x.free x.after x.before in
         record {
           p = x.p;
@@ -225,8 +261,8 @@ module _ (regions : List Region) (view : View) (rising : HaveRisingPlaces region
           first_number = f.own.one;
           second_number = f.own.two;
           both = both;
-          first_place = ap place_of (sym both.first_there) ∙ ap (λ (r : OverlapRun). r.one) f.is ∙ keys.0;
-          second_place = ap place_of (sym both.second_there) ∙ ap (λ (r : OverlapRun). r.two) f.is ∙ keys.1;
+          first_place = told_place regions f.own.one both.first pair.one both.first_there (ap (λ (r : OverlapRun). r.one) f.is ∙ keys.0);
+          second_place = told_place regions f.own.two both.second pair.two both.second_there (ap (λ (r : OverlapRun). r.two) f.is ∙ keys.1);
         }
 
     tells_to : pair.one < pair.two → OverlapSomewhere regions ray pair.one pair.two → is_some (at_spot regions view pair s) ≡ true
@@ -303,7 +339,13 @@ module _ (regions : List Region) (view : View) (rising : HaveRisingPlaces region
               (subst (λ n. (overlap s ≡ true) ↔ OverlapSomewhere regions (ray_at s) pair.one n) (sym two) (tells pair s lt));
           rays = ap (λ (y : Pair). y.rays) m.is ∙ counted (λ (r : CheckedRay). is_some (run_of pair r)) (checked_ray regions view) spots;
           first = m.found ∙ ap (λ (y : Pair). Some (record { column = y.column; row = y.row })) (sym m.is);
-          there = subst (λ (y : Pair). IsWhereFirst regions (pixel_ray view y.column y.row) y) (sym m.is) (record { run = f.own; first = f.first; is = f.is });
+          there = subst (λ (y : Pair). IsWhereFirst regions (pixel_ray view y.column y.row) y) (sym m.is) (record {
+            run = f.own;
+            first = f.first;
+            is = f.is;
+            start_spelled = subst IsSpelled (ap (λ (r : OverlapRun). r.start) f.is) f.start;
+            end_spelled = subst IsSpelled (ap (λ (r : OverlapRun). r.end) f.is) f.end;
+          });
         }
 
   abbrev places : List ℕ
@@ -321,7 +363,7 @@ module _ (regions : List Region) (view : View) (rising : HaveRisingPlaces region
       let u = told_of regions view q spots y d in
       elim lower [ inl lt ↦ inl (omega (arith, lt, t.one, u.one)) | inr h ↦ inr (omega (arith, h.0, t.one, u.one), omega (arith, h.1, t.two, u.two)) ]
 
-  report_told : (spots : List Spot) → IsTrueReport regions view spots (report_of regions view spots)
+  pub report_told : (spots : List Spot) → IsTrueReport regions view spots (report_of regions view spots)
   report_told spots = record {
     each = all_from_has (IsTruePair regions view spots) (report_of regions view spots) (λ x h.
         let c = has_chosen (chosen spots) (place_pairs places) x h in
@@ -337,6 +379,3 @@ module _ (regions : List Region) (view : View) (rising : HaveRisingPlaces region
         (subst (Has places) h.second_place (place_there h.second_number h.both.second h.both.second_there)) lt))
         (told.one, told.two);
   }
-
-pub reports_tell_points : ReportsTellPoints
-reports_tell_points regions view spots rising below = report_told regions view rising below spots

@@ -1,21 +1,48 @@
 -- What a pixel tells of the points of its ray, hit places aside.
-use Rattle.std.specs.Prelude.{◌≡◌, ◌⊎◌, List, Some, None, Contains}
+use Rattle.std.specs.Prelude.{◌≡◌, ◌⊎◌, ℤ, List, Some, None, Contains}
 use Rattle.lattice_core.specs.declared.ray.Ray.{Ray}
+use Rattle.lattice_core.specs.Rays.{IsOnRay}
 use Rattle.region_attr.specs.declared.attr.Rgb.{Rgb}
+use Rattle.surd_order.specs.declared.position.Pos.{Pos}
+use Rattle.surd_order.specs.declared.position.Pos.TheVariants.{Frac}
 use Rattle.surd_order.specs.declared.position.Seg.{Seg}
+use Rattle.surd_order.specs.Order.{Precedes}
 use Rattle.solid_set.specs.Levels.{level_at}
-use Rattle.solid_set.specs.Segments.{segment_of}
+use Rattle.solid_set.specs.Segments.{ray_start, ray_end, segment_of}
 use Rattle.shot_core.specs.declared.shot.Lit.{Lit}
 use Rattle.shot_core.specs.Laws.{HasEndWith}
-use Rattle.shot_core.specs.Regions.{Instance, Region, HaveInstances, instances_of}
+use Rattle.shot_core.specs.Points.{IsRayHitPlace, HoldsPoint}
+use Rattle.shot_core.specs.Regions.{Instance, RegionBody, Region, HaveInstances}
 use Rattle.shot_core.specs.SeenPoints.{IsSeen, IsSeenFirst}
 use Rattle.tile_shot.specs.Pixels.{black, pixel_of, shaded}
 use Rattle.tile_shot.specs.Reports.{HaveRisingPlaces}
 
--- an instance that the ray enters or leaves where something begins, and the level of the face that it has there
+-- the tree of a region holds at each fraction of a ray between two positions
+abbrev pub HoldsBetween : List Region → Ray → RegionBody → Pos → Pos → Type 0
+HoldsBetween regions ray body x y = (p q : ℤ) → IsOnRay p q → ¬ (IsRayHitPlace regions ray (Frac p q)) → Precedes x (Frac p q) → Precedes (Frac p q) y → HoldsPoint body ray p q
+
+-- or at none
+abbrev pub HoldsNowhereBetween : List Region → Ray → RegionBody → Pos → Pos → Type 0
+HoldsNowhereBetween regions ray body x y = (p q : ℤ) → IsOnRay p q → ¬ (IsRayHitPlace regions ray (Frac p q)) → Precedes x (Frac p q) → Precedes (Frac p q) y → ¬ (HoldsPoint body ray p q)
+
+-- it begins to hold at a position of the ray, where nothing holds before the ray begins, or it ends to hold there
+pub record TurnsAt (regions : List Region) (ray : Ray) (body : RegionBody) (x : Pos) : Type 0 where
+  pub from : Pos
+  pub to : Pos
+  pub before : Precedes from x
+  pub behind : Precedes x to
+  pub not_ended : ¬ (Precedes ray_end to)
+  pub turns : (HoldsNowhereBetween regions ray body from x × HoldsBetween regions ray body x to)
+      ⊎ ((¬ (Precedes from ray_start)) × HoldsBetween regions ray body from x × HoldsNowhereBetween regions ray body x to)
+
+-- an instance of a region that begins or ends to hold where something begins on the ray; its segment has an end there, with the face that
+-- is hit, and the level is that of this face
 pub record HasLevel (regions : List Region) (ray : Ray) (lit : Lit) : Type 0 where
+  pub region : Region
+  pub listed : Contains regions region
+  pub turns : TurnsAt regions ray region.body lit.start
   pub one : Instance
-  pub there : Contains (instances_of regions) one
+  pub there : Contains region.body.instances one
   pub seg : Seg
   pub segment : segment_of one.surface ray ≡ Some seg
   pub end : HasEndWith seg lit.start lit.hit.face

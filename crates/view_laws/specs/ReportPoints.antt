@@ -6,6 +6,7 @@ use Rattle.lattice_core.specs.declared.view.View.{View}
 use Rattle.lattice_core.specs.Rays.{IsOnRay}
 use Rattle.lattice_core.specs.Views.{pixel_ray}
 use Rattle.surd_order.specs.declared.position.Pos.TheVariants.{Frac}
+use Rattle.surd_order.specs.Spelling.{IsSpelled}
 use Rattle.overlap_list.specs.declared.overlap.OverlapRun.{OverlapRun}
 use Rattle.shot_core.specs.declared.pair.Pair.{Pair}
 use Rattle.shot_core.specs.OverlapPoints.{BothHoldSolid, IsTrueOverlap}
@@ -27,11 +28,13 @@ pub record OverlapSomewhere (regions : List Region) (ray : Ray) (one two : ℕ) 
   pub first_place : both.first.place ≡ one
   pub second_place : both.second.place ≡ two
 
--- on a ray the two regions of a pair first both hold between the ends that it has
+-- on a ray the two regions of a pair first both hold between the ends that it has, which are in their one spelling
 pub record IsWhereFirst (regions : List Region) (ray : Ray) (pair : Pair) : Type 0 where
   pub run : OverlapRun
   pub first : IsTrueOverlap regions ray run
   pub is : by_place regions run ≡ record { one = pair.one; two = pair.two; start = pair.start; end = pair.end }
+  pub start_spelled : IsSpelled pair.start
+  pub end_spelled : IsSpelled pair.end
 
 -- the two regions of a pair both hold somewhere on as many rays of some pixels as it has, the first of these is that of its pixel, and
 -- there they first do between its ends
@@ -50,7 +53,12 @@ pub record IsTrueReport (regions : List Region) (view : View) (spots : List Spot
   pub rising : AllPairs HasLowerPair pairs
   pub all : (one two : ℕ) (s : Spot) → one < two → Contains spots s → OverlapSomewhere regions (pixel_ray view s.column s.row) one two → Any (λ pair. (pair.one ≡ one) × (pair.two ≡ two)) pairs
 
--- the report of any pixels of a view is true of the points of their rays (`IsTrueReport`), whatever the regions are whose places rise and
--- whose leaves stand for their instances
+-- such a list of pairs, and the only one
+pub record IsOnlyTrueReport (regions : List Region) (view : View) (spots : List Spot) (pairs : List Pair) : Type 0 where
+  pub told : IsTrueReport regions view spots pairs
+  pub alone : (others : List Pair) → IsTrueReport regions view spots others → others ≡ pairs
+
+-- the report of any pixels of a view is true of the points of their rays (`IsTrueReport`), and no other list is, whatever the regions
+-- are whose places rise and whose leaves stand for their instances
 abbrev pub ReportsTellPoints : Type 0
-ReportsTellPoints = (regions : List Region) (view : View) (spots : List Spot) → HaveRisingPlaces regions → HaveInstances regions → IsTrueReport regions view spots (report_of regions view spots)
+ReportsTellPoints = (regions : List Region) (view : View) (spots : List Spot) → HaveRisingPlaces regions → HaveInstances regions → IsOnlyTrueReport regions view spots (report_of regions view spots)

@@ -1,5 +1,5 @@
 use Rattle.view_laws.proofs.Pixels.{pixels_tell_points}
-use Rattle.view_laws.proofs.Reports.{reports_tell_points}
+use Rattle.view_laws.proofs.OneReport.{reports_tell_points}
 use Rattle.view_laws.proofs.view_point_laws.Goals as goal
 
 pub returns-clause-pixels : goal.returns-clause-pixels

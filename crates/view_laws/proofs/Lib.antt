@@ -3,8 +3,10 @@ pub mod Silent
 pub mod Hits
 pub mod LeftOut
 pub mod Kept
+pub mod Free
 pub mod Turning
 pub mod Pixels
 pub mod Reports
+pub mod OnePixel
 pub mod OneReport
 mod PointExamples

@@ -28,7 +28,8 @@ use Rattle.tile_shot.proofs.OneRay.{all_member}
 use Rattle.tile_shot.proofs.Reporting.{found}
 use Rattle.view_laws.specs.ReportPoints.{OverlapSomewhere, IsWhereFirst, IsTruePair, IsTrueReport, ReportsTellPoints}
 use Rattle.view_laws.proofs.Pixels.{found_has}
-use Rattle.view_laws.proofs.Reports.{zero_place, far_place, free_between, free_before_both, number_same, report_told}
+use Rattle.view_laws.proofs.Free.{zero_place, far_place, free_between, free_before_both}
+use Rattle.view_laws.proofs.Reports.{number_same, report_told}
 
 -- two overlaps of the same regions on a ray
 module _ (regions : List Region) (ray : Ray) (rising : HaveRisingPlaces regions) where

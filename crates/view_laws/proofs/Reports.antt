@@ -47,98 +47,9 @@ use Rattle.tile_shot.proofs.Listing.{told_of, pairs_lower}
 use Rattle.tile_shot.proofs.Merging.{IsLower}
 use Rattle.tile_shot.proofs.Reporting.{run_keys, at_spot, rays_at, pair_on, made, skipped, taken, taken_pair, pairs_rise, places_rise}
 use Rattle.view_laws.specs.ReportPoints.{OverlapSomewhere, IsWhereFirst, IsTruePair, IsTrueReport}
+use Rattle.view_laws.proofs.Free.{free_between}
 use Rattle.view_laws.proofs.LeftOut.{mapped_has}
 use Rattle.view_laws.proofs.Pixels.{found_has}
-
--- hit places are places
-abbrev ArePlaces : List Pos → Type 0
-ArePlaces xs = (x : Pos) → Has xs x → IsPlace x
-
-both_places : (xs ys : List Pos) → ArePlaces xs → ArePlaces ys → ArePlaces (xs ++ ys)
-both_places xs ys h g x has = elim (has_append_cases xs ys x has) [ inl a ↦ h x a | inr b ↦ g x b ]
-
-crossing_placed : (plane : Plane) (ray : Ray) (c : Crossing) → IsCrossing plane ray c → ArePlaces (crossing_places c)
-crossing_placed plane ray (Enters p q) h x (inl e) = subst IsPlace e h.2
-crossing_placed plane ray (Enters p q) h x (inr none) = absurd none
-crossing_placed plane ray (Leaves p q) h x (inl e) = subst IsPlace e h.2
-crossing_placed plane ray (Leaves p q) h x (inr none) = absurd none
-crossing_placed plane ray Holds h x none = absurd none
-crossing_placed plane ray Misses h x none = absurd none
-
-sides_placed : (ray : Ray) (sides : List (Option Plane)) → ArePlaces (side_places ray sides)
-sides_placed ray [] x none = absurd none
-sides_placed ray (None ∷ sides) x has = sides_placed ray sides x has
-sides_placed ray (Some plane ∷ sides) x has =
-    both_places (crossing_places (crossing_of plane ray)) (side_places ray sides) (crossing_placed plane ray (crossing_of plane ray) (crossing_is plane ray)) (sides_placed ray sides) x has
-
-roots_placed : (a k : ℤ) → ArePlaces (root_places a k)
-roots_placed a (pos k) x (inl e) = subst IsPlace e tt
-roots_placed a (pos k) x (inr (inl e)) = subst IsPlace e tt
-roots_placed a (pos k) x (inr (inr none)) = absurd none
-roots_placed a (negsuc k) x none = absurd none
-
-surface_placed : (surface : Surface) (ray : Ray) → ArePlaces (surface_places surface ray)
-surface_placed (Planes sides) ray = sides_placed ray sides
-surface_placed (HalfSpace plane) ray = sides_placed ray (Some plane ∷ [])
-surface_placed (Ball centre radius) ray = roots_placed (nearest_on centre ray) (half_chord_squared centre radius ray)
-
-instances_placed : (ray : Ray) (is : List Instance) → ArePlaces (flat_map (λ (i : Instance). surface_places i.surface ray) is)
-instances_placed ray [] x none = absurd none
-instances_placed ray (i ∷ is) x has =
-    both_places (surface_places i.surface ray) (flat_map (λ (i : Instance). surface_places i.surface ray) is) (surface_placed i.surface ray) (instances_placed ray is) x has
-
-pub zero_place : IsPlace ray_start
-zero_place = omega (arith, ints)
-
-pub far_place : IsPlace ray_end
-far_place = omega (arith, ints)
-
-ray_placed : (regions : List Region) (ray : Ray) → ArePlaces (ray_places regions ray)
-ray_placed regions ray x (inl e) = subst IsPlace e zero_place
-ray_placed regions ray x (inr (inl e)) = subst IsPlace e far_place
-ray_placed regions ray x (inr (inr has)) = instances_placed ray (instances_of regions) x has
-
--- a fraction of the ray between two places of it that is at no hit place
-pub record IsFreeBetween (regions : List Region) (ray : Ray) (x y : Pos) : Type 0 where
-  pub p : ℤ
-  pub q : ℤ
-  pub on : IsOnRay p q
-  pub free : ¬ (IsRayHitPlace regions ray (Frac p q))
-  pub after : Precedes x (Frac p q)
-  pub before : Precedes (Frac p q) y
-
-on_ray : (x y : Pos) (p q : ℤ) → pos 0 <ℤ q → IsPlace y → ¬ (Precedes x ray_start) → ¬ (Precedes ray_end y) → Precedes x (Frac p q) → Precedes (Frac p q) y → IsOnRay p q
-on_ray x y p q some place begun not_ended after before = (on_ray_within p q some).1 (
-  λ early. begun (transitive x (Frac p q) ray_start some zero_place after early),
-  λ late. not_ended (transitive ray_end (Frac p q) y some place late before),
-)
-
-pub free_between : (regions : List Region) (ray : Ray) (x y : Pos) → IsPlace x → IsPlace y → ¬ (Precedes x ray_start) → ¬ (Precedes ray_end y) → Precedes x y → IsFreeBetween regions ray x y
-free_between regions ray x y place place' begun not_ended order =
-    let f = between_but (ray_places regions ray) x y (ray_placed regions ray) place place' order in
-    record { p = f.p; q = f.q; on = on_ray x y f.p f.q f.positive place' begun not_ended f.after f.before; free = f.apart; after = f.after; before = f.before }
-
--- and one that is also before another place
-pub record IsFreeBeforeBoth (regions : List Region) (ray : Ray) (x y z : Pos) : Type 0 where
-  pub point : IsFreeBetween regions ray x y
-  pub before_other : Precedes (Frac point.p point.q) z
-
-pub free_before_both : (regions : List Region) (ray : Ray) (x y z : Pos) → IsPlace x → IsPlace y → IsPlace z → ¬ (Precedes x ray_start) → ¬ (Precedes ray_end y) → Precedes x y → Precedes x z → IsFreeBeforeBoth regions ray x y z
-free_before_both regions ray x y z place_x place_y place_z begun not_ended to_y to_z = elim (outcome y z place_y place_z) [
-  | inl first ↦
-      let f = free_between regions ray x y place_x place_y begun not_ended to_y in
-      record { point = f; before_other = transitive (Frac f.p f.q) y z place_y place_z f.before first }
-  | inr last ↦
-      let f = between_but (ray_places regions ray) x z (ray_placed regions ray) place_x place_z to_z in
-      let before : Precedes (Frac f.p f.q) y = elim last [
-        | inl same ↦ is_kept_by_same_place.after (Frac f.p f.q) z y f.before (same_symm y z same)
-        | inr back ↦ transitive (Frac f.p f.q) z y place_z place_y f.before back
-      ] in
-      record {
-        point = record { p = f.p; q = f.q; on = on_ray x y f.p f.q f.positive place_y begun not_ended f.after before; free = f.apart; after = f.after; before = before };
-        before_other = f.before;
-      }
-]
 
 -- lists and what is found in them
 some_found : {X : Type 0} (test : X → Bool) (xs : List X) (x : X) → Has xs x → test x ≡ true → is_some (find test xs) ≡ true
@@ -183,7 +94,7 @@ pair_has (p ∷ ps) one two rises (inr h) (inl d) lt = let above = rises.0 one h
 pair_has (p ∷ ps) one two rises (inr h) (inr k) lt = has_append_right (map (λ q. record { one = p; two = q }) ps) (place_pairs ps) (record { one = one; two = two }) (pair_has ps one two rises.1 h k lt)
 
 -- a region of a higher number has a higher place, and the other way round
-place_rises : (regions : List Region) (i j : ℕ) (r s : Region) → HaveRisingPlaces regions → slice_get regions i ≡ Some r → slice_get regions j ≡ Some s → i < j → r.place < s.place
+pub place_rises : (regions : List Region) (i j : ℕ) (r s : Region) → HaveRisingPlaces regions → slice_get regions i ≡ Some r → slice_get regions j ≡ Some s → i < j → r.place < s.place
 place_rises regions i j r s rising at at' lt =
     let back = rising i j no_region lt (slice_get_within regions j s at') in
     let one : get_or regions i no_region ≡ r = get_or_from_slice_get regions i r no_region at in

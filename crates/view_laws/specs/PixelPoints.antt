@@ -1,12 +1,13 @@
 -- What a pixel tells of the points of its ray, hit places aside.
-use Rattle.std.specs.Prelude.{◌≡◌, ◌⊎◌, ℤ, List, Some, None, Contains}
+use Rattle.std.specs.Prelude.{◌≡◌, ◌⊎◌, ◌<◌, ◌≤◌, ℕ, ℤ, List, Some, None, slice_get}
 use Rattle.lattice_core.specs.declared.ray.Ray.{Ray}
 use Rattle.lattice_core.specs.Rays.{IsOnRay}
 use Rattle.region_attr.specs.declared.attr.Rgb.{Rgb}
 use Rattle.surd_order.specs.declared.position.Pos.{Pos}
 use Rattle.surd_order.specs.declared.position.Pos.TheVariants.{Frac}
 use Rattle.surd_order.specs.declared.position.Seg.{Seg}
-use Rattle.surd_order.specs.Order.{Precedes}
+use Rattle.surd_order.specs.Order.{IsPlace, Precedes}
+use Rattle.surd_order.specs.Spelling.{IsSpelled}
 use Rattle.solid_set.specs.Levels.{level_at}
 use Rattle.solid_set.specs.Segments.{ray_start, ray_end, segment_of}
 use Rattle.shot_core.specs.declared.shot.Lit.{Lit}
@@ -29,28 +30,40 @@ HoldsNowhereBetween regions ray body x y = (p q : ℤ) → IsOnRay p q → ¬ (I
 pub record TurnsAt (regions : List Region) (ray : Ray) (body : RegionBody) (x : Pos) : Type 0 where
   pub from : Pos
   pub to : Pos
+  pub from_place : IsPlace from
+  pub to_place : IsPlace to
   pub before : Precedes from x
   pub behind : Precedes x to
   pub not_ended : ¬ (Precedes ray_end to)
   pub turns : (HoldsNowhereBetween regions ray body from x × HoldsBetween regions ray body x to)
       ⊎ ((¬ (Precedes from ray_start)) × HoldsBetween regions ray body from x × HoldsNowhereBetween regions ray body x to)
 
--- an instance of a region that begins or ends to hold where something begins on the ray; its segment has an end there, with the face that
--- is hit, and the level is that of this face
-pub record HasLevel (regions : List Region) (ray : Ray) (lit : Lit) : Type 0 where
+-- the instance of a number, of the region of a number, whose segment has an end at a position at which that region begins or ends to hold
+pub record TurnsWith (regions : List Region) (ray : Ray) (x : Pos) (number instance : ℕ) : Type 0 where
   pub region : Region
-  pub listed : Contains regions region
-  pub turns : TurnsAt regions ray region.body lit.start
+  pub listed : slice_get regions number ≡ Some region
+  pub turns : TurnsAt regions ray region.body x
   pub one : Instance
-  pub there : Contains region.body.instances one
+  pub there : slice_get region.body.instances instance ≡ Some one
   pub seg : Seg
   pub segment : segment_of one.surface ray ≡ Some seg
-  pub end : HasEndWith seg lit.start lit.hit.face
-  pub level : lit.level ≡ level_at one.surface lit.hit.face ray
+  pub end : (x ≡ seg.start) ⊎ (x ≡ seg.end)
 
--- the colour of the region that lies first on the ray, of all without air, at the level of a face where it begins
+-- the level of what begins on the ray is that of the face which the first such instance has there, by the number of its region and then
+-- its own
+pub record HasLevel (regions : List Region) (ray : Ray) (lit : Lit) : Type 0 where
+  pub number : ℕ
+  pub instance : ℕ
+  pub at : TurnsWith regions ray lit.start number instance
+  pub first : (n i : ℕ) → TurnsWith regions ray lit.start n i → (number < n) ⊎ ((number ≡ n) × (instance ≤ i))
+  pub face : HasEndWith at.seg lit.start lit.hit.face
+  pub level : lit.level ≡ level_at at.one.surface lit.hit.face ray
+
+-- the colour of the region without air that lies first on the ray, at the level that it has where it begins
 pub record ShowsFirst (regions : List Region) (ray : Ray) (colour : Rgb) : Type 0 where
   pub lit : Lit
+  pub start_spelled : IsSpelled lit.start
+  pub end_spelled : IsSpelled lit.end
   pub seen : IsSeen regions ray lit
   pub level : HasLevel regions ray lit
   pub is : colour ≡ shaded lit.level seen.region.body.rgb
@@ -59,7 +72,12 @@ pub record ShowsFirst (regions : List Region) (ray : Ray) (colour : Rgb) : Type 
 abbrev pub IsTruePixel : List Region → Ray → Rgb → Type 0
 IsTruePixel regions ray colour = ShowsFirst regions ray colour ⊎ ((colour ≡ black) × IsSeenFirst regions ray None)
 
--- the pixel of any ray is true of its points (`IsTruePixel`), whatever the regions are whose places rise and whose leaves stand for their
--- instances
+-- such a colour, and the only one
+pub record IsOnlyTruePixel (regions : List Region) (ray : Ray) (colour : Rgb) : Type 0 where
+  pub told : IsTruePixel regions ray colour
+  pub alone : (other : Rgb) → IsTruePixel regions ray other → other ≡ colour
+
+-- the pixel of any ray is true of its points (`IsTruePixel`), and no other colour is, whatever the regions are whose places rise and whose
+-- leaves stand for their instances
 abbrev pub PixelsTellPoints : Type 0
-PixelsTellPoints = (regions : List Region) (ray : Ray) → HaveRisingPlaces regions → HaveInstances regions → IsTruePixel regions ray (pixel_of regions ray)
+PixelsTellPoints = (regions : List Region) (ray : Ray) → HaveRisingPlaces regions → HaveInstances regions → IsOnlyTruePixel regions ray (pixel_of regions ray)

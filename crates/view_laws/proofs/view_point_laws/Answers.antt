@@ -1,4 +1,4 @@
-use Rattle.view_laws.proofs.Pixels.{pixels_tell_points}
+use Rattle.view_laws.proofs.OnePixel.{pixels_tell_points}
 use Rattle.view_laws.proofs.OneReport.{reports_tell_points}
 use Rattle.view_laws.proofs.view_point_laws.Goals as goal
 

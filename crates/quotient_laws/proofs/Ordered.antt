@@ -1,8 +1,8 @@
 -- The order of quotients, by the fractions that tell it.
-use Rattle.std.proofs.Common.{ℤ, pos, ◌*ℤ◌, ◌<ℤ◌, ◌≤ℤ◌, arith}
+use Rattle.std.proofs.Common.{◌⊎◌, ℤ, pos, ◌*ℤ◌, ◌<ℤ◌, ◌≤ℤ◌, inl, inr, arith}
 use Rattle.std.proofs.lemmas.Int.{ints, by_lt_z}
 use Rattle.lattice_core.proofs.Products.{mul_at_most}
-use Rattle.surd_order.proofs.AtMostLaws.{at_most_down}
+use Rattle.surd_order.proofs.AtMostLaws.{at_most_down, at_most_or_not}
 use Rattle.quotient_laws.specs.Quotients.{Quotient, IsQuotient, IsAtMostQuotient, QuotientPrecedes, QuotientsAreOrdered}
 use Rattle.quotient_laws.proofs.Separated.{turned}
 
@@ -29,8 +29,16 @@ through u v w is is' h g = record {
 pub never_itself : (u : Quotient) → ¬ (QuotientPrecedes u u)
 never_itself u = λ h. h.beyond h.within
 
+-- the fraction that tells the one from the other is at most a third one, or not
+third : (u v w : Quotient) → QuotientPrecedes u w → QuotientPrecedes u v ⊎ QuotientPrecedes v w
+third u v w h = elim (at_most_or_not (v.divisor *ℤ h.p) h.q v.dividend) [
+  | inl within ↦ inl (record { p = h.p; q = h.q; positive = h.positive; within = within; beyond = h.beyond })
+  | inr beyond ↦ inr (record { p = h.p; q = h.q; positive = h.positive; within = h.within; beyond = beyond })
+]
+
 pub quotients_are_ordered : QuotientsAreOrdered
 quotients_are_ordered = record {
   asymmetric = λ u v is is' h. λ g. never_itself u (through u v u is is' h g);
   transitive = λ u v w is is' is'' h g. through u v w is is' h g;
+  between = third;
 }

@@ -1,17 +1,17 @@
 -- Quotients in order, fractions between them, and none between one and itself.
-use Rattle.std.proofs.Common.{◌≡◌, List, [], ◌∷◌, length, ℤ, pos, negsuc, ◌*ℤ◌, ◌<ℤ◌, true, false, All, refl, inl, inr, arith}
+use Rattle.std.proofs.Common.{◌≡◌, List, [], ◌∷◌, length, ℤ, pos, ◌*ℤ◌, ◌<ℤ◌, true, false, All, refl, inl, inr, arith}
 use Rattle.std.proofs.lemmas.Int.{ints}
 use Rattle.surd_order.specs.declared.position.Pos.{Pos}
 use Rattle.surd_order.specs.declared.position.Pos.TheVariants.{Frac, Surd}
 use Rattle.surd_order.specs.Order.{Precedes}
 use Rattle.solid_set.proofs.Separated.{all_more, pairs_more}
-use Rattle.quotient_laws.specs.Quotients.{Quotient, IsQuotient, IsAtMostQuotient, QuotientPrecedes, whole_of}
+use Rattle.quotient_laws.specs.Quotients.{Quotient, IsQuotient, IsAtMostQuotient, QuotientPrecedes, as_quotient}
 use Rattle.quotient_laws.specs.Separation.{LiesBetweenQuotients, HasFractionsBetweenQuotients}
 use Rattle.quotient_laws.proofs.Quotients.{at_most_once, at_most_again}
 use Rattle.quotient_laws.proofs.Ordered.{quotients_are_ordered}
 
 abbrev fraction : ℤ → ℤ → Quotient
-fraction p q = whole_of (Frac p q)
+fraction p q = as_quotient (Frac p q)
 
 -- (1 + √5) / 2, about 1.618
 abbrev golden : Quotient
@@ -21,7 +21,7 @@ golden = record { dividend = Surd (pos 1) true 5; divisor = pos 2 }
 abbrev golden_rest : Quotient
 golden_rest = record { dividend = Surd (pos 3) false 5; divisor = pos 2 }
 
--- it comes after 8/5 and before 13/8
+-- (1 + √5) / 2 comes after 8/5 and before 13/8
 after_eight_fifths : QuotientPrecedes (fraction (pos 8) (pos 5)) golden
 after_eight_fifths = record { p = pos 29; q = pos 18; positive = omega (arith, ints); within = inr (omega (arith, ints)); beyond = λ h. omega (arith, ints, h) }
 
@@ -34,12 +34,19 @@ not_before_eight_fifths =
     quotients_are_ordered.asymmetric (fraction (pos 8) (pos 5)) golden
     (record { place = omega (arith, ints); positive = omega (arith, ints) }) (record { place = tt; positive = omega (arith, ints) }) after_eight_fifths
 
--- the other root comes after 3/8 and before 2/5
+-- (3 - √5) / 2 comes after 3/8 and before 2/5
 after_three_eighths : QuotientPrecedes (fraction (pos 3) (pos 8)) golden_rest
 after_three_eighths = record { p = pos 8; q = pos 21; positive = omega (arith, ints); within = (omega (arith, ints), omega (arith, ints)); beyond = λ h. omega (arith, ints, h) }
 
 before_two_fifths : QuotientPrecedes golden_rest (fraction (pos 2) (pos 5))
 before_two_fifths = record { p = pos 2; q = pos 5; positive = omega (arith, ints); within = omega (arith, ints); beyond = λ h. omega (arith, ints, h.1) }
+
+-- and so before (1 + √5) / 2
+before_golden : QuotientPrecedes golden_rest golden
+before_golden =
+    quotients_are_ordered.transitive golden_rest (fraction (pos 2) (pos 5)) golden
+    (record { place = tt; positive = omega (arith, ints) }) (record { place = omega (arith, ints); positive = omega (arith, ints) }) (record { place = tt; positive = omega (arith, ints) }) before_two_fifths
+    (record { p = pos 1; q = pos 1; positive = omega (arith, ints); within = inr (omega (arith, ints)); beyond = λ h. omega (arith, ints, h) })
 
 -- √2 / 2, and 3/2 divided by 2
 abbrev half_root : Quotient
@@ -89,7 +96,7 @@ none : (u : Quotient) → IsQuotient u → (fractions : List Pos) → length fra
 none u is [] count between = omega (arith, count)
 none u is (z ∷ zs) count between =
     let found = between 0 z (omega arith) in
-    quotients_are_ordered.asymmetric u (whole_of z) is (record { place = found.place; positive = omega (arith, ints) }) found.after found.before
+    quotients_are_ordered.asymmetric u (as_quotient z) is (record { place = found.place; positive = omega (arith, ints) }) found.after found.before
 
 -- no fraction lies between a quotient and itself
 none_between_a_quotient_and_itself : (u : Quotient) → IsQuotient u → ¬ (HasFractionsBetweenQuotients 1 u u)

@@ -10,7 +10,7 @@ use Rattle.surd_order.proofs.AtMostLaws.{at_most_down}
 use Rattle.surd_order.proofs.OrderLaws.{before_fraction, not_before_fraction}
 use Rattle.solid_set.proofs.Between.{between_places}
 use Rattle.solid_set.proofs.Separated.{all_more, pairs_more}
-use Rattle.quotient_laws.specs.Quotients.{Quotient, IsQuotient, IsAtMostQuotient, QuotientPrecedes, whole_of}
+use Rattle.quotient_laws.specs.Quotients.{Quotient, IsQuotient, IsAtMostQuotient, QuotientPrecedes, as_quotient}
 use Rattle.quotient_laws.specs.Separation.{LiesBetweenQuotients, QuotientsAreSeparated}
 use Rattle.quotient_laws.proofs.Quotients.{at_most_once, at_most_again, plain_order}
 
@@ -28,7 +28,7 @@ pub outside : (n p q : ℤ) → (n *ℤ p) *ℤ q ≡ p *ℤ (n *ℤ q)
 outside n p q = ap (λ x. x *ℤ q) (mul_turn n p) ∙ mul_assoc p n q
 
 -- a fraction that is not at most a quotient comes after it
-comes_after : (u : Quotient) (p q : ℤ) → pos 0 <ℤ q → ¬ (IsAtMostQuotient p q u) → QuotientPrecedes u (whole_of (Frac p q))
+comes_after : (u : Quotient) (p q : ℤ) → pos 0 <ℤ q → ¬ (IsAtMostQuotient p q u) → QuotientPrecedes u (as_quotient (Frac p q))
 comes_after u p q some beyond = record { p = p; q = q; positive = some; within = at_most_again p q (Frac p q) (omega (arith, ints)); beyond = beyond }
 
 record IsBetweenQuotients (u v : Quotient) : Type 0 where
@@ -36,7 +36,7 @@ record IsBetweenQuotients (u v : Quotient) : Type 0 where
   q : ℤ
   positive : pos 0 <ℤ q
   beyond : ¬ (IsAtMostQuotient p q u)
-  before : QuotientPrecedes (whole_of (Frac p q)) v
+  before : QuotientPrecedes (as_quotient (Frac p q)) v
 
 between_quotients : (u v : Quotient) → IsQuotient u → QuotientPrecedes u v → IsBetweenQuotients u v
 between_quotients u v is h =
@@ -56,7 +56,7 @@ between_quotients u v is h =
     }
 
 -- what comes after a fraction comes after what precedes it
-later_still : (u : Quotient) (p q r s : ℤ) → IsQuotient u → pos 0 <ℤ q → pos 0 <ℤ s → ¬ (IsAtMostQuotient p q u) → QuotientPrecedes (whole_of (Frac p q)) (whole_of (Frac r s)) → QuotientPrecedes u (whole_of (Frac r s))
+later_still : (u : Quotient) (p q r s : ℤ) → IsQuotient u → pos 0 <ℤ q → pos 0 <ℤ s → ¬ (IsAtMostQuotient p q u) → QuotientPrecedes (as_quotient (Frac p q)) (as_quotient (Frac r s)) → QuotientPrecedes u (as_quotient (Frac r s))
 later_still u p q r s is some some' beyond h =
     let n = u.divisor in
     comes_after u r s some' (λ at_most.
@@ -66,7 +66,7 @@ later_still u p q r s is some some' beyond h =
     let right : (n *ℤ r) *ℤ q ≡ (r *ℤ q) *ℤ n = turned n r q in
     beyond (at_most_down u.dividend (n *ℤ p) q (n *ℤ r) s is.place some some' (omega (arith, ints, left, right, scaled)) at_most))
 
-later_than : (u : Quotient) (p q : ℤ) (z : Pos) → IsFraction z → IsPlace z → IsQuotient u → pos 0 <ℤ q → ¬ (IsAtMostQuotient p q u) → QuotientPrecedes (whole_of (Frac p q)) (whole_of z) → QuotientPrecedes u (whole_of z)
+later_than : (u : Quotient) (p q : ℤ) (z : Pos) → IsFraction z → IsPlace z → IsQuotient u → pos 0 <ℤ q → ¬ (IsAtMostQuotient p q u) → QuotientPrecedes (as_quotient (Frac p q)) (as_quotient z) → QuotientPrecedes u (as_quotient z)
 later_than u p q (Frac r s) fraction place is some beyond h = later_still u p q r s is some place beyond h
 later_than u p q (Surd a plus k) fraction place is some beyond h = absurd fraction
 
@@ -75,7 +75,7 @@ quotients_are_separated u v zero is is' h = record { fractions = []; count = ref
 quotients_are_separated u v (suc n) is is' h =
     let f = between_quotients u v is h in
     let z = Frac f.p f.q in
-    let more = quotients_are_separated (whole_of z) v n (record { place = f.positive; positive = omega (arith, ints) }) is' f.before in
+    let more = quotients_are_separated (as_quotient z) v n (record { place = f.positive; positive = omega (arith, ints) }) is' f.before in
     record {
       fractions = z ∷ more.fractions;
       count = ap (λ k. suc k) more.count;

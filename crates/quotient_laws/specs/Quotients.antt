@@ -35,16 +35,18 @@ pub record SameQuotientPlace (u v : Quotient) : Type 0 where
 abbrev pub QuotientsAreCompared : Type 0
 QuotientsAreCompared = (u v : Quotient) → IsQuotient u → IsQuotient v → QuotientPrecedes u v ⊎ (SameQuotientPlace u v ⊎ QuotientPrecedes v u)
 
--- no two quotients precede each other, and one that precedes another precedes all that the other precedes
+-- no two quotients precede each other, one that precedes another precedes all that the other precedes, and where one precedes another
+-- each third one comes after the one or before the other
 pub record QuotientsAreOrdered : Type 0 where
   pub asymmetric : (u v : Quotient) → IsQuotient u → IsQuotient v → QuotientPrecedes u v → ¬ (QuotientPrecedes v u)
   pub transitive : (u v w : Quotient) → IsQuotient u → IsQuotient v → IsQuotient w → QuotientPrecedes u v → QuotientPrecedes v w → QuotientPrecedes u w
+  pub between : (u v w : Quotient) → QuotientPrecedes u w → QuotientPrecedes u v ⊎ QuotientPrecedes v w
 
 -- a position as a quotient
-abbrev pub whole_of : Pos → Quotient
-whole_of x = record { dividend = x; divisor = pos 1 }
+abbrev pub as_quotient : Pos → Quotient
+as_quotient x = record { dividend = x; divisor = pos 1 }
 
 -- the same fractions are at most a position and at most it as a quotient, and the order is the same
 pub record PositionsAreQuotients : Type 0 where
-  pub at_most : (p q : ℤ) (x : Pos) → IsAtMostQuotient p q (whole_of x) ↔ AtMost p q x
-  pub order : (x y : Pos) → QuotientPrecedes (whole_of x) (whole_of y) ↔ Precedes x y
+  pub at_most : (p q : ℤ) (x : Pos) → IsAtMostQuotient p q (as_quotient x) ↔ AtMost p q x
+  pub order : (x y : Pos) → QuotientPrecedes (as_quotient x) (as_quotient y) ↔ Precedes x y

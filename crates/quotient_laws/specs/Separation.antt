@@ -3,14 +3,14 @@ use Rattle.std.specs.Prelude.{◌≡◌, ℕ, List, length, All, AllPairs}
 use Rattle.surd_order.specs.declared.position.Pos.{Pos}
 use Rattle.surd_order.specs.Order.{Precedes, IsPlace}
 use Rattle.surd_order.specs.Spelling.{IsFraction}
-use Rattle.quotient_laws.specs.Quotients.{Quotient, IsQuotient, QuotientPrecedes, whole_of}
+use Rattle.quotient_laws.specs.Quotients.{Quotient, IsQuotient, QuotientPrecedes, as_quotient}
 
 -- z is a fraction strictly between the two quotients
 pub record LiesBetweenQuotients (u v : Quotient) (z : Pos) : Type 0 where
   pub fraction : IsFraction z
   pub place : IsPlace z
-  pub after : QuotientPrecedes u (whole_of z)
-  pub before : QuotientPrecedes (whole_of z) v
+  pub after : QuotientPrecedes u (as_quotient z)
+  pub before : QuotientPrecedes (as_quotient z) v
 
 -- so many of them, each before the next, so at different places
 pub record HasFractionsBetweenQuotients (n : ℕ) (u v : Quotient) : Type 0 where

@@ -9,8 +9,9 @@ pub fn position_law()
     ensures { PositionsAreQuotients }
 {}
 
-/// Of two quotient positions one precedes the other, or both are at one place; no two precede each other, and one that
-/// precedes another precedes all that the other precedes. The function does nothing: its contract is the law.
+/// Of two quotient positions one precedes the other, or both are at one place; no two precede each other, one that precedes
+/// another precedes all that the other precedes, and a third one comes after the one or before the other. The function does
+/// nothing: its contract is the law.
 pub fn comparison_law()
     ensures compared { QuotientsAreCompared }
     ensures ordered { QuotientsAreOrdered }

@@ -23,8 +23,8 @@ use Rattle.shot_core.specs.Points.{TreeHolds, IsInInstance, HoldsPoint}
 use Rattle.shot_core.specs.Pruned.{meets_tile}
 use Rattle.shot_core.proofs.Boxing.{are_hull_and_meet}
 use Rattle.shot_core.proofs.TileMeeting.{ray_met}
-use Rattle.view_laws.specs.Parts.{KeptHaveTheSameParts}
-use Rattle.view_laws.proofs.LeftOut.{parts_without_the_rest}
+use Rattle.view_laws.specs.Pruning.{KeptHaveTheSamePartitions}
+use Rattle.view_laws.proofs.LeftOut.{partitions_without_the_rest}
 
 module _ (boxes : List Box3) (says : ℕ → Type 0) (v : V3) (w : ℤ) (some : pos 0 <ℤ w) where
   abbrev HaveAt : Mask → Type 0
@@ -67,9 +67,9 @@ region_has body ray p q some below placed holds =
     subst (λ (b : Box3). HasPoint b (scaled_point ray p q) q) (sym a.box) (enclosed a.one.surface a.one.bounds solid ray p q some inside))
     holds
 
-pub kept_have_the_same_parts : KeptHaveTheSameParts
-kept_have_the_same_parts regions view tile column row rising pixel =
-    parts_without_the_rest regions (pixel_ray view column row) (λ r. meets_tile (region_box r.body) view tile) rising pixel.instances
+pub kept_have_the_same_partitions : KeptHaveTheSamePartitions
+kept_have_the_same_partitions regions view tile column row rising pixel =
+    partitions_without_the_rest regions (pixel_ray view column row) (λ r. meets_tile (region_box r.body) view tile) rising pixel.instances
     (λ r there failed p q on free holds.
     let body = r.body in
     let below : HasLeavesBelow (length r.body.instances) r.body.tree = subst (λ (s : Region). HasLeavesBelow (length s.body.instances) s.body.tree) there.2 (pixel.instances there.0 r there.1) in

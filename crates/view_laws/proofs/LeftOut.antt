@@ -20,7 +20,7 @@ use Rattle.shot_core.proofs.OwnClaims.{changes_on, IsSilent, silent_changes}
 use Rattle.shot_core.proofs.Picking.{map_same_on, map_twice}
 use Rattle.shot_core.proofs.PointTruth.{true_of_points}
 use Rattle.shot_core.proofs.Pointing.{any_from, any_to, has_mapped}
-use Rattle.view_laws.specs.Parts.{PlacedPart, placed_part, parts_by_place, HoldsNowhere, PartsWithoutTheRest}
+use Rattle.view_laws.specs.Pruning.{PlacedPartition, placed_partition, partitions_by_place, HoldsNowhere, PartitionsWithoutTheRest}
 use Rattle.view_laws.proofs.Hits.{IsFirstHit, first_hit}
 use Rattle.view_laws.proofs.Silent.{at_some, some_at, silent}
 use Rattle.view_laws.proofs.Numbers.{numbers, kept_as, among_kept, numbers_rise, numbers_length}
@@ -218,7 +218,7 @@ module _ (regions : List Region) (ray : Ray) (keep : Region → Bool)
   hits_same : (x : Pos) → hits_among ray x kept ≡ hits_among ray x regions
   hits_same x = flat_left keep (hits_of ray x) regions (λ r has off. cond-false (changes_on ray x r) (ends_among ray x r.body.instances) [] (silent_changes ray x r (silent_left r has off)))
 
-  abbrev placed : Stretch → PlacedPart
+  abbrev placed : Stretch → PlacedPartition
   placed s = record {
     place = place_of (slice_get regions s.region);
     start = s.start;
@@ -227,30 +227,30 @@ module _ (regions : List Region) (ray : Ray) (keep : Region → Bool)
     level = level_at (first_of (hits_among ray s.start regions)) ray s.start;
   }
 
-  whole_part : (l : Lit) → Has (lit_of regions ray) l → placed_part regions l ≡ placed (stretch_of l)
+  whole_part : (l : Lit) → Has (lit_of regions ray) l → placed_partition regions l ≡ placed (stretch_of l)
   whole_part l has =
       let h = first_hit regions ray below l has in
-      ap (λ f. let p : PlacedPart = record { place = place_of (slice_get regions l.region); start = l.start; end = l.end; face = f; level = l.level } in p) (face_is regions ray l h)
-      ∙ ap (λ v. let p : PlacedPart = record { place = place_of (slice_get regions l.region); start = l.start; end = l.end; face = face_at (first_of (hits_among ray l.start regions)) l.start; level = v } in p) (level_is regions ray l h)
+      ap (λ f. let p : PlacedPartition = record { place = place_of (slice_get regions l.region); start = l.start; end = l.end; face = f; level = l.level } in p) (face_is regions ray l h)
+      ∙ ap (λ v. let p : PlacedPartition = record { place = place_of (slice_get regions l.region); start = l.start; end = l.end; face = face_at (first_of (hits_among ray l.start regions)) l.start; level = v } in p) (level_is regions ray l h)
 
-  one_part : (l : Lit) → Has (lit_of kept ray) l → placed_part kept l ≡ placed (renamed (stretch_of l))
+  one_part : (l : Lit) → Has (lit_of kept ray) l → placed_partition kept l ≡ placed (renamed (stretch_of l))
   one_part l has =
       let is = part (stretch_of l) (in_range (stretch_of l) (mapped_has stretch_of (lit_of kept ray) l has)) in
       let there : slice_get kept l.region ≡ slice_get regions (get_or ns l.region 0) = sym (subst (λ m. slice_get regions m ≡ slice_get kept l.region) (sym is.number) is.there) in
       let h = first_hit kept ray kept_below l has in
-      ap (λ o. let p : PlacedPart = record { place = place_of o; start = l.start; end = l.end; face = l.hit.face; level = l.level } in p) there
-      ∙ ap (λ f. let p : PlacedPart = record { place = place_of (slice_get regions (get_or ns l.region 0)); start = l.start; end = l.end; face = f; level = l.level } in p)
+      ap (λ o. let p : PlacedPartition = record { place = place_of o; start = l.start; end = l.end; face = l.hit.face; level = l.level } in p) there
+      ∙ ap (λ f. let p : PlacedPartition = record { place = place_of (slice_get regions (get_or ns l.region 0)); start = l.start; end = l.end; face = f; level = l.level } in p)
       (face_is kept ray l h ∙ ap (λ hits. face_at (first_of hits) l.start) (hits_same l.start))
-      ∙ ap (λ v. let p : PlacedPart = record { place = place_of (slice_get regions (get_or ns l.region 0)); start = l.start; end = l.end; face = face_at (first_of (hits_among ray l.start regions)) l.start; level = v } in p)
+      ∙ ap (λ v. let p : PlacedPartition = record { place = place_of (slice_get regions (get_or ns l.region 0)); start = l.start; end = l.end; face = face_at (first_of (hits_among ray l.start regions)) l.start; level = v } in p)
       (level_is kept ray l h ∙ ap (λ hits. level_at (first_of hits) ray l.start) (hits_same l.start))
 
-  parts_same : parts_by_place kept ray ≡ parts_by_place regions ray
+  parts_same : partitions_by_place kept ray ≡ partitions_by_place regions ray
   parts_same =
-      map_same_on (placed_part kept) (λ l. placed (renamed (stretch_of l))) (lit_of kept ray) one_part
+      map_same_on (placed_partition kept) (λ l. placed (renamed (stretch_of l))) (lit_of kept ray) one_part
       ∙ sym (map_twice placed renamed own ∙ map_twice (λ s. placed (renamed s)) stretch_of (lit_of kept ray))
       ∙ ap (map placed) same
       ∙ map_twice placed stretch_of (lit_of regions ray)
-      ∙ sym (map_same_on (placed_part regions) (λ l. placed (stretch_of l)) (lit_of regions ray) whole_part)
+      ∙ sym (map_same_on (placed_partition regions) (λ l. placed (stretch_of l)) (lit_of regions ray) whole_part)
 
-pub parts_without_the_rest : PartsWithoutTheRest
-parts_without_the_rest regions ray keep rising below nowhere = parts_same regions ray keep rising below nowhere
+pub partitions_without_the_rest : PartitionsWithoutTheRest
+partitions_without_the_rest regions ray keep rising below nowhere = parts_same regions ray keep rising below nowhere

@@ -1,9 +1,8 @@
 -- No other colour is true of the points of a ray.
-use Rattle.std.proofs.Common.{◌≡◌, ◌⊎◌, ◌<◌, ◌≤◌, ℕ, ℤ, List, slice_get, false, Some, None, Contains, ap, sym, ◌∙◌, subst, refl, inl, inr, arith}
+use Rattle.std.proofs.Common.{◌≡◌, ◌⊎◌, ◌<◌, ◌≤◌, ℕ, ℤ, List, slice_get, false, Some, None, Contains, ap, sym, ◌∙◌, subst, inl, inr, arith}
 use Rattle.std.proofs.lemmas.Bool.{cases_lt}
 use Rattle.std.proofs.lemmas.Option.{slice_get_within, get_or_from_slice_get}
 use Rattle.lattice_core.specs.declared.ray.Ray.{Ray}
-use Rattle.lattice_core.specs.Rays.{IsOnRay}
 use Rattle.region_attr.specs.declared.attr.Rgb.{Rgb}
 use Rattle.surd_order.specs.declared.position.Pos.{Pos}
 use Rattle.surd_order.specs.declared.position.Pos.TheVariants.{Frac}
@@ -15,8 +14,8 @@ use Rattle.solid_set.specs.Levels.{level_at}
 use Rattle.solid_set.specs.Segments.{segment_of}
 use Rattle.bool_weave.proofs.Cutting.{place_from}
 use Rattle.shot_core.specs.Laws.{HasEndWith}
-use Rattle.shot_core.specs.Points.{IsRayHitPlace, LiesAt}
-use Rattle.shot_core.specs.Regions.{Instance, Region, HaveInstances, has_air}
+use Rattle.shot_core.specs.Points.{LiesAt}
+use Rattle.shot_core.specs.Regions.{Instance, Region, has_air}
 use Rattle.shot_core.specs.SeenPoints.{SomeSolidHolds, IsSeenFirst}
 use Rattle.shot_core.proofs.OnRay.{segment_on_ray}
 use Rattle.tile_shot.specs.Pixels.{pixel_of, shaded}

@@ -1,24 +1,23 @@
 -- No other list of pairs tells what a report tells.
-use Rattle.std.proofs.Common.{◌≡◌, ◌⊎◌, ◌<◌, ◌↔◌, ℕ, ℤ, List, [], ◌∷◌, length, slice_get, filter, find, Bool, true, false, cond, Option, Some, None, IsTrue, ap, sym, ◌∙◌, subst, refl, inl, inr, arith}
-use Rattle.std.proofs.lemmas.Bool.{true≢false}
+use Rattle.std.proofs.Common.{◌≡◌, ◌↔◌, ℕ, ℤ, List, [], ◌∷◌, length, slice_get, find, Bool, true, false, cond, Option, Some, IsTrue, ap, sym, ◌∙◌, subst, refl, inl, inr, arith}
 use Rattle.std.proofs.lemmas.List.Elements.{filter_agree}
 use Rattle.lattice_core.specs.declared.ray.Ray.{Ray}
 use Rattle.lattice_core.specs.declared.view.View.{View}
 use Rattle.lattice_core.specs.Views.{pixel_ray}
 use Rattle.surd_order.specs.declared.position.Pos.{Pos}
 use Rattle.surd_order.specs.declared.position.Pos.TheVariants.{Frac}
-use Rattle.surd_order.specs.Order.{IsPlace, Precedes, SamePlace}
+use Rattle.surd_order.specs.Order.{IsPlace, Precedes}
 use Rattle.surd_order.specs.Spelling.{IsSpelled}
 use Rattle.surd_order.proofs.LawProofs.{outcome, is_kept_by_same_place, places_have_one_spelling}
 use Rattle.surd_order.proofs.OrderLaws.{transitive, before_fraction, not_before_fraction}
 use Rattle.solid_set.specs.Segments.{ray_start, ray_end}
 use Rattle.bool_weave.proofs.Cutting.{place_from}
-use Rattle.bool_weave.proofs.Sorted.{Has, has_from_contains, contains_from_has}
+use Rattle.bool_weave.proofs.Sorted.{Has, contains_from_has}
 use Rattle.overlap_list.specs.declared.overlap.OverlapRun.{OverlapRun}
 use Rattle.overlap_list.proofs.Ordered.{Rises}
 use Rattle.shot_core.specs.declared.pair.Pair.{Pair}
 use Rattle.shot_core.specs.OverlapPoints.{BothHoldSolid, IsTrueOverlap}
-use Rattle.shot_core.specs.Pruned.{place_of, by_place}
+use Rattle.shot_core.specs.Pruned.{place_of}
 use Rattle.shot_core.specs.Regions.{Region, HaveInstances}
 use Rattle.shot_core.proofs.Pointing.{any_to}
 use Rattle.tile_shot.specs.Merges.{HasLowerPair}

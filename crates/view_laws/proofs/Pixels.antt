@@ -4,10 +4,8 @@ use Rattle.std.specs.Ordering.{is_eq}
 use Rattle.std.specs.declared.cmp.Ordering.{Ordering}
 use Rattle.std.specs.declared.cmp.Ordering.TheVariants.{Less, Equal, Greater}
 use Rattle.std.proofs.lemmas.Bool.{cases_lt, cond-true, cond-false, true≢false}
-use Rattle.std.proofs.lemmas.List.{get_or_default}
 use Rattle.std.proofs.lemmas.Option.{slice_get_within, get_or_from_slice_get}
 use Rattle.lattice_core.specs.declared.ray.Ray.{Ray}
-use Rattle.region_attr.specs.declared.attr.Rgb.{Rgb}
 use Rattle.surd_order.specs.declared.position.Pos.{Pos}
 use Rattle.surd_order.specs.declared.position.Seg.{Seg}
 use Rattle.surd_order.specs.PlaceOrder.{place_cmp}
@@ -28,13 +26,13 @@ use Rattle.overlap_list.proofs.Overlapping.{first_of}
 use Rattle.shot_core.specs.declared.shot.Lit.{Lit}
 use Rattle.shot_core.specs.FirstShots.{is_solid, first_seen}
 use Rattle.shot_core.specs.Laws.{HasEndWith}
-use Rattle.shot_core.specs.Points.{Stretch, stretch_of, stretches_of, IsStretch}
+use Rattle.shot_core.specs.Points.{stretch_of, stretches_of, IsStretch}
 use Rattle.shot_core.specs.Regions.{Instance, Region, HaveInstances}
 use Rattle.shot_core.specs.SeenPoints.{IsSeenFirst}
 use Rattle.shot_core.specs.Shots.{woven_if, woven_from, claims_on, level_on, lit_of}
 use Rattle.shot_core.specs.Steps.{no_region}
 use Rattle.shot_core.proofs.Claiming.{no_claims}
-use Rattle.shot_core.proofs.FirstHits.{IsBelow, Ending, ends_among, hits_of, hits_among, face_of, ending_of, ends_are}
+use Rattle.shot_core.proofs.FirstHits.{IsBelow, Ending, ends_among, hits_of, face_of, ending_of, ends_are}
 use Rattle.shot_core.proofs.OwnClaims.{changes_on}
 use Rattle.shot_core.proofs.PointTruth.{ordered_lit}
 use Rattle.shot_core.proofs.SeenTruth.{seen_tells_points}

@@ -1,41 +1,20 @@
 -- A report tells which regions overlap at points of the rays, on how many, and on which first.
-use Rattle.std.proofs.Common.{◌≡◌, ◌<◌, ◌<ℤ◌, ◌↔◌, ℕ, suc, ℤ, pos, negsuc, List, [], ◌∷◌, ◌++◌, length, get_or, slice_get, map, filter, flat_map, find, Bool, true, false, cond, ◌==◌, Option, Some, None, is_some, ap, sym, ◌∙◌, subst, refl, inl, inr, arith}
+use Rattle.std.proofs.Common.{◌≡◌, ◌<◌, ◌↔◌, ℕ, suc, List, [], ◌∷◌, length, get_or, slice_get, map, filter, find, Bool, true, false, cond, ◌==◌, Option, Some, None, is_some, ap, sym, ◌∙◌, subst, refl, inl, inr, arith}
 use Rattle.std.proofs.lemmas.Bool.{cases_Bool, cases_lt, cond-true, cond-false, true≢false, and_from, eq-eqb}
-use Rattle.std.proofs.lemmas.Int.{ints}
 use Rattle.std.proofs.lemmas.Option.{slice_get_within, get_or_from_slice_get}
 use Rattle.lattice_core.specs.declared.ray.Ray.{Ray}
 use Rattle.lattice_core.specs.declared.view.View.{View}
-use Rattle.lattice_core.specs.Rays.{IsOnRay}
 use Rattle.lattice_core.specs.Views.{pixel_ray}
-use Rattle.plane_geom.specs.declared.plane.Plane.{Plane}
-use Rattle.plane_geom.specs.declared.plane.Crossing.{Crossing}
-use Rattle.plane_geom.specs.declared.plane.Crossing.TheVariants.{Enters, Leaves, Holds, Misses}
-use Rattle.plane_geom.specs.Crossings.{crossing_of}
-use Rattle.plane_geom.specs.Planes.{IsCrossing}
-use Rattle.plane_geom.proofs.Unique.{crossing_is}
-use Rattle.prim_sphere.specs.Spheres.{nearest_on, half_chord_squared}
-use Rattle.surd_order.specs.declared.position.Pos.{Pos}
-use Rattle.surd_order.specs.declared.position.Pos.TheVariants.{Frac}
-use Rattle.surd_order.specs.Order.{IsPlace, Precedes}
 use Rattle.surd_order.specs.Spelling.{IsSpelled}
-use Rattle.surd_order.proofs.LawProofs.{outcome, is_kept_by_same_place}
-use Rattle.surd_order.proofs.OrderLaws.{transitive, same_symm}
-use Rattle.solid_set.specs.declared.surface.Surface.{Surface}
-use Rattle.solid_set.specs.declared.surface.Surface.TheVariants.{Planes, HalfSpace, Ball}
-use Rattle.solid_set.specs.HitPlaces.{crossing_places, side_places, root_places, surface_places}
-use Rattle.solid_set.specs.Segments.{ray_start, ray_end}
-use Rattle.solid_set.proofs.InsideLaws.{on_ray_within}
-use Rattle.solid_set.proofs.Separated.{between_but}
 use Rattle.bool_weave.proofs.Cutting.{place_from}
-use Rattle.bool_weave.proofs.Sorted.{Has, has_from_contains, contains_from_has, has_append_left, has_append_right, has_append_cases}
+use Rattle.bool_weave.proofs.Sorted.{Has, has_from_contains, contains_from_has, has_append_left, has_append_right}
 use Rattle.overlap_list.specs.declared.overlap.OverlapRun.{OverlapRun}
 use Rattle.overlap_list.proofs.FirstRuns.{overlaps_are_first}
 use Rattle.overlap_list.proofs.Ordered.{Rises, all_from_has, pairs_from_rises, has_chosen, chosen_has, rises_chosen}
 use Rattle.shot_core.specs.declared.pair.Pair.{Pair}
 use Rattle.shot_core.specs.OverlapPoints.{IsTrueOverlap}
-use Rattle.shot_core.specs.Points.{ray_places, IsRayHitPlace}
 use Rattle.shot_core.specs.Pruned.{place_of, by_place, overlaps_by_place}
-use Rattle.shot_core.specs.Regions.{Instance, Region, HaveInstances, instances_of}
+use Rattle.shot_core.specs.Regions.{Region, HaveInstances}
 use Rattle.shot_core.specs.Shots.{woven_of, claims_on, overlaps_on}
 use Rattle.shot_core.specs.Steps.{no_region}
 use Rattle.shot_core.proofs.ResultLaws.{rows_from}

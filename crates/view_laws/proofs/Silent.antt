@@ -28,7 +28,7 @@ use Rattle.shot_core.proofs.Numbering.{get_left}
 use Rattle.shot_core.proofs.OwnClaims.{leaf_on, behind_on, solid_on, IsSilent}
 use Rattle.shot_core.proofs.Pointing.{at_left, at_right, any_to}
 use Rattle.shot_core.proofs.PointTruth.{true_of_points}
-use Rattle.view_laws.specs.Parts.{HoldsNowhere}
+use Rattle.view_laws.specs.Pruning.{HoldsNowhere}
 
 -- the places of instances
 at_cases : (xs ys : List Pos) (x : Pos) → IsAtOneOf (xs ++ ys) x → IsAtOneOf xs x ⊎ IsAtOneOf ys x

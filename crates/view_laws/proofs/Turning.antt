@@ -1,5 +1,5 @@
 -- A region whose claim changes at a cut begins or ends to hold there.
-use Rattle.std.proofs.Common.{◌≡◌, ◌<◌, ◌≤◌, ◌+◌, ℕ, zero, suc, ℤ, pos, negsuc, List, length, get_or, slice_get, Bool, true, false, Some, ap, sym, ◌∙◌, subst, refl, inl, inr, arith}
+use Rattle.std.proofs.Common.{◌≡◌, ◌<◌, ◌+◌, ℕ, zero, suc, ℤ, pos, negsuc, List, length, get_or, slice_get, Bool, true, false, Some, ap, sym, ◌∙◌, subst, refl, inl, inr, arith}
 use Rattle.std.proofs.lemmas.Bool.{cases_lt, true≢false}
 use Rattle.std.proofs.lemmas.Int.{ints}
 use Rattle.lattice_core.specs.declared.ray.Ray.{Ray}
@@ -12,16 +12,15 @@ use Rattle.surd_order.proofs.OrderLaws.{same_symm, transitive}
 use Rattle.solid_set.specs.Segments.{ray_start, ray_end}
 use Rattle.bool_weave.specs.declared.woven.Woven.{Woven}
 use Rattle.bool_weave.specs.Claims.{intervals_of}
-use Rattle.overlap_list.specs.declared.region.RegionClaims.{RegionClaims}
 use Rattle.overlap_list.specs.Hits.{cut_at, differ, changes_at}
 use Rattle.overlap_list.specs.Runs.{has_before}
 use Rattle.overlap_list.specs.Winners.{claims_at}
-use Rattle.shot_core.specs.Points.{IsRayHitPlace, HoldsPoint}
-use Rattle.shot_core.specs.Regions.{RegionBody, Region, HaveInstances}
+use Rattle.shot_core.specs.Points.{IsRayHitPlace}
+use Rattle.shot_core.specs.Regions.{Region, HaveInstances}
 use Rattle.shot_core.specs.Shots.{woven_of, claims_on}
 use Rattle.shot_core.proofs.Claiming.{no_claims}
 use Rattle.shot_core.proofs.Pointing.{located, region_of, on_ray as on_cut, place, rises, not_back}
-use Rattle.view_laws.proofs.Free.{IsFreeBetween, IsFreeBeforeBoth, IsFreeBehindBoth, free_between, free_before_both, free_behind_both}
+use Rattle.view_laws.proofs.Free.{IsFreeBeforeBoth, IsFreeBehindBoth, free_between, free_before_both, free_behind_both}
 use Rattle.view_laws.specs.PixelPoints.{HoldsBetween, HoldsNowhereBetween, TurnsAt}
 
 -- -1 comes before what does not come before 0

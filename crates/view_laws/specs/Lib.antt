@@ -1,4 +1,4 @@
-pub mod Parts
+pub mod Pruning
 pub mod ReportPoints
 pub mod PixelPoints
 pub mod Examples

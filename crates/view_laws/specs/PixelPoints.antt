@@ -68,7 +68,7 @@ pub record ShowsFirst (regions : List Region) (ray : Ray) (colour : Rgb) : Type 
   pub level : HasLevel regions ray lit
   pub is : colour ≡ shaded lit.level seen.region.body.rgb
 
--- or black, where no region without air holds at any fraction
+-- a pixel shows that, or is black where no region without air holds at any fraction
 abbrev pub IsTruePixel : List Region → Ray → Rgb → Type 0
 IsTruePixel regions ray colour = ShowsFirst regions ray colour ⊎ ((colour ≡ black) × IsSeenFirst regions ray None)
 

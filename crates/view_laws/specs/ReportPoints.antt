@@ -16,7 +16,7 @@ use Rattle.shot_core.specs.Regions.{Region, HaveInstances}
 use Rattle.tile_shot.specs.Merges.{HasLowerPair}
 use Rattle.tile_shot.specs.Reports.{Spot, report_of, HaveRisingPlaces}
 
--- the regions of two places, neither with air, both hold at some fraction of a ray
+-- the regions of two places, neither with air, both hold at one fraction of a ray
 pub record OverlapSomewhere (regions : List Region) (ray : Ray) (one two : ℕ) : Type 0 where
   pub p : ℤ
   pub q : ℤ
@@ -36,8 +36,8 @@ pub record IsWhereFirst (regions : List Region) (ray : Ray) (pair : Pair) : Type
   pub start_spelled : IsSpelled pair.start
   pub end_spelled : IsSpelled pair.end
 
--- the two regions of a pair both hold somewhere on as many rays of some pixels as it has, the first of these is that of its pixel, and
--- there they first do between its ends
+-- the regions of the two places of a pair, the lower one first, neither with air, both hold at one fraction of as many rays of a list of
+-- pixels as the pair has, the first of these in the list is that of its pixel, and on it they first do between its ends
 pub record IsTruePair (regions : List Region) (view : View) (spots : List Spot) (pair : Pair) : Type 0 where
   pub order : pair.one < pair.two
   pub overlap : Spot → Bool
@@ -46,8 +46,8 @@ pub record IsTruePair (regions : List Region) (view : View) (spots : List Spot) 
   pub first : find overlap spots ≡ Some (record { column = pair.column; row = pair.row })
   pub there : IsWhereFirst regions (pixel_ray view pair.column pair.row) pair
 
--- each pair is such, by the lower place and then the higher one, and there is one for any two regions that both hold somewhere on one of
--- the rays
+-- each pair is such, they are in the order of the lower place and then the higher one, and there is one for any two regions without air
+-- that both hold at one fraction of some ray
 pub record IsTrueReport (regions : List Region) (view : View) (spots : List Spot) (pairs : List Pair) : Type 0 where
   pub each : All (IsTruePair regions view spots) pairs
   pub rising : AllPairs HasLowerPair pairs
@@ -58,7 +58,7 @@ pub record IsOnlyTrueReport (regions : List Region) (view : View) (spots : List 
   pub told : IsTrueReport regions view spots pairs
   pub alone : (others : List Pair) → IsTrueReport regions view spots others → others ≡ pairs
 
--- the report of any pixels of a view is true of the points of their rays (`IsTrueReport`), and no other list is, whatever the regions
--- are whose places rise and whose leaves stand for their instances
+-- the report of any list of pixels of a view is true of the points of their rays (`IsTrueReport`), and no other list of pairs is,
+-- whatever the regions are whose places rise and whose leaves stand for their instances
 abbrev pub ReportsTellPoints : Type 0
 ReportsTellPoints = (regions : List Region) (view : View) (spots : List Spot) → HaveRisingPlaces regions → HaveInstances regions → IsOnlyTrueReport regions view spots (report_of regions view spots)

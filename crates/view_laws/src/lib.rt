@@ -1,23 +1,25 @@
-//! Laws of views: on a ray of a tile, the regions that are kept for it have the parts that all regions have, and pixels and
+//! Laws of views: on a ray of a tile, the regions that are kept for it have the partitions that all regions have, and pixels and
 //! reports tell what lies at the points of their rays.
 #![tactic(auto)]
 
-ghost use Rattle.view_laws.specs.Parts.{KeptHaveTheSameParts, PartsWithoutTheRest};
+ghost use Rattle.view_laws.specs.Pruning.{KeptHaveTheSamePartitions, PartitionsWithoutTheRest};
 ghost use Rattle.view_laws.specs.PixelPoints.{PixelsTellPoints};
 ghost use Rattle.view_laws.specs.ReportPoints.{ReportsTellPoints};
 
-/// Regions that hold at no point of a ray, hit places aside, may be left out, and the parts of the ray are the same, by the
-/// places of their regions, with the face and the level of what each part hits. So the regions that are kept for a tile have on
-/// each ray of the tile the parts that all regions have. The function does nothing: its contract is the law.
-pub fn part_laws()
-    ensures left_out { PartsWithoutTheRest }
-    ensures kept { KeptHaveTheSameParts }
+/// Regions that hold at no point of a ray, hit places aside, may be left out, and the partitions of the ray are the same, by
+/// the places of their regions, with the face and the level of what each hits. So the regions that are kept for a tile have on
+/// each ray of the tile the partitions that all regions have, where these are placed solids with their boxes and the view has no
+/// fault. The function does nothing: its contract is the law.
+pub fn pruning_laws()
+    ensures left_out { PartitionsWithoutTheRest }
+    ensures kept { KeptHaveTheSamePartitions }
 {}
 
-/// A pixel has the colour of the region that lies first on its ray, of all without air, at the level of a face at which the ray
-/// enters or leaves a solid there; it is black where no region without air holds. A report has each pair of regions without air
-/// that both hold somewhere on a ray, with the number of these rays, the first of them, and where the two first do on it. Hit
-/// places are set aside. The function does nothing: its contract is the law.
+/// A pixel has the colour of the region without air that lies first on its ray, at the level of the first face that the ray comes
+/// to there, by the order of regions and of their solids, of all solids of regions that begin or end to hold there; it is black
+/// where no region without air holds. No other colour is so. A report has exactly the pairs of regions without air that both hold
+/// at one fraction of some ray, each once and in order, with the number of these rays, the first of them, and between which ends
+/// they first do on it. No other list is so. Hit places are set aside. The function does nothing: its contract is the law.
 pub fn view_point_laws()
     ensures pixels { PixelsTellPoints }
     ensures reports { ReportsTellPoints }

@@ -1,9 +1,0 @@
-use Rattle.view_laws.proofs.LeftOut.{parts_without_the_rest}
-use Rattle.view_laws.proofs.Kept.{kept_have_the_same_parts}
-use Rattle.view_laws.proofs.part_laws.Goals as goal
-
-pub returns-clause-left_out : goal.returns-clause-left_out
-returns-clause-left_out c = parts_without_the_rest
-
-pub returns-clause-kept : goal.returns-clause-kept
-returns-clause-kept c = kept_have_the_same_parts

@@ -11,7 +11,8 @@ use Rattle.region_attr.specs.declared.attr.Rgb.{Rgb}
 use Rattle.surd_order.specs.declared.position.Pos.TheVariants.{Frac}
 use Rattle.surd_order.specs.PlaceOrder.{place_cmp}
 use Rattle.tree_forms.specs.Trees.{Leaf}
-use Rattle.solid_set.specs.declared.surface.Surface.TheVariants.{Planes}
+use Rattle.solid_set.specs.declared.surface.Surface.TheVariants.{Planes, HalfSpace}
+use Rattle.solid_set.specs.Bounds.{all_of_space}
 use Rattle.solid_set.specs.Rpps.{rpp_vertices}
 use Rattle.shot_core.specs.declared.pair.Pair.{Pair}
 use Rattle.shot_core.specs.Regions.{Region}
@@ -96,3 +97,31 @@ their_report = refl
 pub no_report_with_air : view_report (two_boxes 1) two_pixels ≡ []
 unfolding place_cmp
 no_report_with_air = refl
+
+-- from the next pixel they overlap too where it is at y = 3
+their_pair_on_two_rays : view_report (two_boxes 0) (record two_pixels { cell = pos 2 }) ≡ record their_pair { rays = 2 } ∷ []
+unfolding place_cmp
+their_pair_on_two_rays = refl
+
+-- the points with x + y at least 15, of which a ray along x shows a face at the level 155
+abbrev slope : ℕ → Region
+slope place = record {
+  place = place;
+  path = [];
+  body = record {
+    id = 0;
+    air = 0;
+    rgb = green;
+    tree = Leaf (Some 0);
+    instances = record { surface = HalfSpace (record { n = vector (negsuc 0) (negsuc 0) (pos 0); d = negsuc 14 }); bounds = all_of_space } ∷ [];
+  };
+}
+
+-- where it begins and air ends, the one that is listed first is hit
+slope_behind_air : pixel_of (first 1 ∷ slope 2 ∷ []) (pixel_ray two_pixels 0 0) ≡ green
+unfolding place_cmp
+slope_behind_air = refl
+
+slope_before_air : pixel_of (slope 1 ∷ box_at 2 1 red (pos 0) (pos 10) (pos 0) (pos 10) ∷ []) (pixel_ray two_pixels 0 0) ≡ record { r = 0; g = 155; b = 0 }
+unfolding place_cmp
+slope_before_air = refl

@@ -1,4 +1,4 @@
--- What a pixel tells of the points of its ray, hit places aside.
+-- What a pixel tells of the points of its ray, hit places aside. Its level alone is told at a hit place, by the ends of segments.
 use Rattle.std.specs.Prelude.{◌≡◌, ◌⊎◌, ◌<◌, ◌≤◌, ℕ, ℤ, List, Some, None, slice_get}
 use Rattle.lattice_core.specs.declared.ray.Ray.{Ray}
 use Rattle.lattice_core.specs.Rays.{IsOnRay}
@@ -26,7 +26,7 @@ HoldsBetween regions ray body x y = (p q : ℤ) → IsOnRay p q → ¬ (IsRayHit
 abbrev pub HoldsNowhereBetween : List Region → Ray → RegionBody → Pos → Pos → Type 0
 HoldsNowhereBetween regions ray body x y = (p q : ℤ) → IsOnRay p q → ¬ (IsRayHitPlace regions ray (Frac p q)) → Precedes x (Frac p q) → Precedes (Frac p q) y → ¬ (HoldsPoint body ray p q)
 
--- it begins to hold at a position of the ray, where nothing holds before the ray begins, or it ends to hold there
+-- it begins to hold at a position, where nothing holds before the ray begins, or it ceases to hold there, on the ray
 pub record TurnsAt (regions : List Region) (ray : Ray) (body : RegionBody) (x : Pos) : Type 0 where
   pub from : Pos
   pub to : Pos
@@ -38,7 +38,8 @@ pub record TurnsAt (regions : List Region) (ray : Ray) (body : RegionBody) (x : 
   pub turns : (HoldsNowhereBetween regions ray body from x × HoldsBetween regions ray body x to)
       ⊎ ((¬ (Precedes from ray_start)) × HoldsBetween regions ray body from x × HoldsNowhereBetween regions ray body x to)
 
--- the instance of a number, of the region of a number, whose segment has an end at a position at which that region begins or ends to hold
+-- the instance of a number, of the region of a number, whose segment has an end at a position at which that region begins or ceases to
+-- hold, be it one of air
 pub record TurnsWith (regions : List Region) (ray : Ray) (x : Pos) (number instance : ℕ) : Type 0 where
   pub region : Region
   pub listed : slice_get regions number ≡ Some region
@@ -49,8 +50,8 @@ pub record TurnsWith (regions : List Region) (ray : Ray) (x : Pos) (number insta
   pub segment : segment_of one.surface ray ≡ Some seg
   pub end : (x ≡ seg.start) ⊎ (x ≡ seg.end)
 
--- the level of what begins on the ray is that of the face which the first such instance has there, by the number of its region and then
--- its own
+-- what begins on the ray has the level of the face which the first such instance has there, by the number of its region and then its own;
+-- an instance in which the ray begins has face 0 there, and the highest level
 pub record HasLevel (regions : List Region) (ray : Ray) (lit : Lit) : Type 0 where
   pub number : ℕ
   pub instance : ℕ
@@ -59,7 +60,7 @@ pub record HasLevel (regions : List Region) (ray : Ray) (lit : Lit) : Type 0 whe
   pub face : HasEndWith at.seg lit.start lit.hit.face
   pub level : lit.level ≡ level_at at.one.surface lit.hit.face ray
 
--- the colour of the region without air that lies first on the ray, at the level that it has where it begins
+-- the colour of the region without air that lies first on the ray, at the level there
 pub record ShowsFirst (regions : List Region) (ray : Ray) (colour : Rgb) : Type 0 where
   pub lit : Lit
   pub start_spelled : IsSpelled lit.start

@@ -185,7 +185,7 @@ module _ (regions : List Region) (ray : Ray) (rising : HaveRisingPlaces regions)
     number_at : (n : ℕ) (r : Region) → slice_get regions n ≡ Some r → get_or regions n no_region ≡ r
     number_at n r at = get_or_from_slice_get regions n r no_region at
 
-    -- a region's claim changes there just where it begins or ends to hold
+    -- a region's claim changes there just where it begins or ceases to hold
     turning : (n : ℕ) (r : Region) → slice_get regions n ≡ Some r → changes_on ray l.start r ≡ true → TurnsAt regions ray r.body l.start
     turning n r at changes =
         let c = start_cut regions ray below l has in

@@ -1,4 +1,4 @@
--- A region whose claim changes at a cut begins or ends to hold there.
+-- A region whose claim changes at a cut begins or ceases to hold there.
 use Rattle.std.proofs.Common.{◌≡◌, ◌<◌, ◌+◌, ℕ, zero, suc, ℤ, pos, negsuc, List, length, get_or, slice_get, Bool, true, false, Some, ap, sym, ◌∙◌, subst, refl, inl, inr, arith}
 use Rattle.std.proofs.lemmas.Bool.{cases_lt, true≢false}
 use Rattle.std.proofs.lemmas.Int.{ints}
@@ -126,7 +126,7 @@ module _ (regions : List Region) (ray : Ray) (below : HaveInstances regions) whe
     pub turns_at : (k : ℕ) → k < count → changes_at k (get_or (claims_on regions ray) n no_claims) ≡ true → TurnsAt regions ray region.body (cut k)
     turns_at k lt change = turns k (has_before claims k) (claims k) lt refl refl change
 
-    -- and where it begins or ends to hold its claim changes
+    -- and where it begins or ceases to hold its claim changes
     inside_before : (j : ℕ) (from : Pos) → suc j < count → IsPlace from → Precedes from (cut (suc j)) → IsFreeBehindBoth regions ray from (cut j) (cut (suc j))
     inside_before j from lt from_place before =
         free_behind_both regions ray from (cut j) (cut (suc j)) from_place (place regions ray below j (omega (arith, lt))) (place regions ray below (suc j) (omega (arith, lt)))

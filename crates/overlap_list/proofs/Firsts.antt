@@ -90,7 +90,7 @@ position_mapped f g xs = position_from-zero f (map g xs) ∙ position_from_mappe
 position_alike : {X : Type 0} (f g : X → Bool) (xs : List X) → ((x : X) → f x ≡ g x) → position f xs ≡ position g xs
 position_alike f g xs h = position_from-zero f xs ∙ position_same f g 0 xs (λ x m. h x) ∙ sym (position_from-zero g xs)
 
-any_mapped : {X Y : Type 0} (f : Y → Bool) (g : X → Y) (xs : List X) → list_any f (map g xs) ≡ list_any (λ x. f (g x)) xs
+pub any_mapped : {X Y : Type 0} (f : Y → Bool) (g : X → Y) (xs : List X) → list_any f (map g xs) ≡ list_any (λ x. f (g x)) xs
 any_mapped f g [] = refl
 any_mapped f g (x ∷ xs) = ap (λ b. f (g x) || b) (any_mapped f g xs)
 
@@ -135,7 +135,7 @@ module _ (woven : List Woven) (regions : List TreeRegion) (s : AreSpelled woven)
   pub claim_behind : (r : TreeRegion) (k : ℕ) → k < count → claims_at (claims_by woven r) k ≡ claims_behind woven r.tree r.first (cut_at woven k)
   claim_behind r k lt = claim_is r k lt ∙ beside.claimed_behind woven s r.tree r.first k (within_cuts k lt)
 
-  claim_before : (r : TreeRegion) (k : ℕ) → k < count → has_before (claims_at (claims_by woven r)) k ≡ claims_before woven r.tree r.first (cut_at woven k)
+  pub claim_before : (r : TreeRegion) (k : ℕ) → k < count → has_before (claims_at (claims_by woven r)) k ≡ claims_before woven r.tree r.first (cut_at woven k)
   claim_before r zero lt = sym (beside.before_first woven s r.tree r.first)
   claim_before r (suc j) lt =
       let e : j + 1 ≡ suc j = omega arith in
@@ -146,7 +146,7 @@ module _ (woven : List Woven) (regions : List TreeRegion) (s : AreSpelled woven)
       position_mapped (λ (r : RegionClaims). not r.air && claims_at r k) (claims_by woven) regions
       ∙ position_alike (λ r. not r.air && claims_at (claims_by woven r) k) (is_solid_behind woven (cut_at woven k)) regions (λ r. ap (λ b. not r.air && b) (claim_behind r k lt))
 
-  hit_is : (k : ℕ) → k < count → or_no_hit (hit_of woven all k) ≡ hit_by woven regions (cut_at woven k)
+  pub hit_is : (k : ℕ) → k < count → or_no_hit (hit_of woven all k) ≡ hit_by woven regions (cut_at woven k)
   hit_is k lt =
       ap (λ l. or_no_hit (hit_on (cut_at woven k) (lowest l)))
       (filter_alike (is_candidate all k (cut_at woven k)) (is_hit_at woven regions (cut_at woven k)) woven (λ w.

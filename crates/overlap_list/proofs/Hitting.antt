@@ -101,7 +101,7 @@ winner_changes regions zero i begun e = no_winner (subst IsSome (sym e ∙ none_
 winner_changes regions (suc j) i begun e = begun j (omega arith) e
 
 -- so where a run begins some claim changes
-some_change : (regions : List RegionClaims) (run : IntervalRun) → IsWonRun regions run → Any (λ r. changes_at run.from r ≡ true) regions
+pub some_change : (regions : List RegionClaims) (run : IntervalRun) → IsWonRun regions run → Any (λ r. changes_at run.from r ≡ true) regions
 some_change regions run w =
     elim (cases_Bool (list_any (changes_at run.from) regions)) [
       | inl some ↦ Any-from_list_any (changes_at run.from) regions some

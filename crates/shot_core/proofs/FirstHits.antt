@@ -22,6 +22,7 @@ use Rattle.shot_core.specs.Shots.{woven_if, woven_from, woven_of, level_on, leve
 use Rattle.shot_core.specs.FirstShots.{tree_region, trees_from, trees_of}
 use Rattle.shot_core.proofs.FirstShots.{none_right}
 use Rattle.shot_core.proofs.Numbering.{get_left, get_right}
+use Rattle.shot_core.proofs.LowestHits.{woven_rises}
 use Rattle.shot_core.proofs.Weaving.{woven_append, has_woven}
 use Rattle.shot_core.proofs.OwnClaims.{changes_on, change_is, Agree, next_agree}
 
@@ -38,15 +39,6 @@ lower_first w (v ∷ vs) h =
 lowest_first : (ws : List Woven) → Rises IsBelow ws → lowest ws ≡ first_of ws
 lowest_first [] r = refl
 lowest_first (w ∷ ws) r = ap (lower w) (lowest_first ws r.1) ∙ lower_first w ws r.0
-
-rises_if : (n : ℕ) (o : Option Seg) (ws : List Woven) → ((w : Woven) → Has ws w → n < w.instance) → Rises IsBelow ws → Rises IsBelow (woven_if n o ++ ws)
-rises_if n None ws h r = r
-rises_if n (Some seg) ws h r = (h, r)
-
-woven_rises : (ray : Ray) (n : ℕ) (xs : List Instance) → Rises IsBelow (woven_from ray n xs)
-woven_rises ray n [] = tt
-woven_rises ray n (x ∷ xs) =
-    rises_if n (segment_of x.surface ray) (woven_from ray (n + 1) xs) (λ w h. let a = has_woven ray (n + 1) xs w h in omega (arith, a.number)) (woven_rises ray (n + 1) xs)
 
 filter_same : {X : Type 0} (f g : X → Bool) (xs : List X) → ((x : X) → Has xs x → f x ≡ g x) → filter f xs ≡ filter g xs
 filter_same f g [] h = refl
@@ -186,17 +178,17 @@ module _ (regions : List Region) (ray : Ray) (x : Pos) where
         hits_from 0 regions (λ k lt. let e : 0 + k ≡ k = omega arith in ap (slice_get all) e) (λ i le. refl) (λ k lt. change_is regions ray leaves x k lt)
 
     face_go : (ws : List Woven) (e : Ending) → first_of (map (ending_of all) ws) ≡ Some e
-        → ((or_no_hit (hit_on x (first_of ws))).face ≡ face_of x e) × (level_of_hit regions ray (or_no_hit (hit_on x (first_of ws))) ≡ level_on e.0 (face_of x e) ray)
+        → ((or_no_hit (hit_on x (first_of ws))).face ≡ face_of x e) × (level_of_hit regions ray (or_no_hit (hit_on x (first_of ws))) ≡ level_on e.0 (face_of x e) ray) × (slice_get all (or_no_hit (hit_on x (first_of ws))).instance ≡ e.0)
     face_go [] e h = absurd (none_there e h)
     face_go (w ∷ ws) e h =
         let same : ending_of all w ≡ e = same_there (ending_of all w) e h in
-        (ap (face_of x) same, ap (λ (d : Ending). level_on d.0 (face_of x d) ray) same)
+        (ap (face_of x) same, ap (λ (d : Ending). level_on d.0 (face_of x d) ray) same, ap (λ (d : Ending). d.0) same)
 
     -- the first of these is hit
     pub hit_is : (e : Ending) → first_of (hits_among ray x regions) ≡ Some e
-        → ((hit_by (woven_of regions ray) (trees_of regions) x).face ≡ face_of x e) × (level_of_hit regions ray (hit_by (woven_of regions ray) (trees_of regions) x) ≡ level_on e.0 (face_of x e) ray)
+        → ((hit_by (woven_of regions ray) (trees_of regions) x).face ≡ face_of x e) × (level_of_hit regions ray (hit_by (woven_of regions ray) (trees_of regions) x) ≡ level_on e.0 (face_of x e) ray) × (slice_get all (hit_by (woven_of regions ray) (trees_of regions) x).instance ≡ e.0)
     hit_is e h =
         let first : hit_by (woven_of regions ray) (trees_of regions) x ≡ or_no_hit (hit_on x (first_of (filter test (woven_of regions ray)))) =
         ap (λ o. or_no_hit (hit_on x o)) (lowest_first (filter test (woven_of regions ray)) (rises_filter IsBelow test (woven_of regions ray) (woven_rises ray 0 (instances_of regions)))) in
         let got = face_go (filter test (woven_of regions ray)) e (ap first_of hits_are ∙ h) in
-        (ap (λ (k : Hit). k.face) first ∙ got.0, ap (level_of_hit regions ray) first ∙ got.1)
+        (ap (λ (k : Hit). k.face) first ∙ got.0, ap (level_of_hit regions ray) first ∙ got.1, ap (λ (k : Hit). slice_get all k.instance) first ∙ got.2)

@@ -273,7 +273,7 @@ module _ {X : Type 0} (keep : X → Bool) where
         | inr off ↦ ap (find f) (cond-false (keep x) (x ∷ filter keep xs) (filter keep xs) off) ∙ rest ∙ sym (cond-false (f x) (Some x) (find f xs) (h x (inl refl) off))
       ]
 
-  flat_left : {Y : Type 0} (f : X → List Y) (xs : List X) → LeftOut (λ x. f x ≡ []) xs → flat_map f (filter keep xs) ≡ flat_map f xs
+  pub flat_left : {Y : Type 0} (f : X → List Y) (xs : List X) → LeftOut (λ x. f x ≡ []) xs → flat_map f (filter keep xs) ≡ flat_map f xs
   flat_left f [] h = refl
   flat_left f (x ∷ xs) h =
       let rest = flat_left f xs (λ y m. h y (inr m)) in

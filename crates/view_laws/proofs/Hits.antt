@@ -1,47 +1,41 @@
 -- What is hit where a part of a ray starts, by the regions and without their numbers.
-use Rattle.std.proofs.Common.{◌≡◌, ◌≢◌, ◌<◌, ◌+◌, ℕ, zero, suc, List, [], ◌∷◌, ◌++◌, length, get_or, slice_get, map, flat_map, Bool, true, false, not, ◌&&◌, ◌||◌, ◌==◌, filter, cond, nat_le, nat_lt, Some, IsSome, Any, ap, sym, subst, ◌∙◌, refl, inl, inr, arith}
-use Rattle.std.specs.List.{list_any, position}
+use Rattle.std.proofs.Common.{◌≡◌, ◌<◌, ◌+◌, ℕ, List, [], ◌∷◌, ◌++◌, length, get_or, slice_get, map, flat_map, Bool, true, false, not, ◌&&◌, ◌==◌, filter, cond, Some, ap, sym, subst, ◌∙◌, refl, inl, inr, arith}
 use Rattle.std.specs.Ordering.{is_lt, is_eq}
 use Rattle.std.specs.declared.cmp.Ordering.{Ordering}
 use Rattle.std.specs.declared.cmp.Ordering.TheVariants.{Less, Equal, Greater}
-use Rattle.std.proofs.lemmas.Bool.{cases_Bool, cond-true, true≢false}
-use Rattle.std.proofs.lemmas.List.Elements.{filter_agree}
-use Rattle.std.proofs.lemmas.List.Folds.{Any-from_list_any, list_any_at}
-use Rattle.std.proofs.lemmas.Iterator.Adapters.{position_from-zero}
+use Rattle.std.proofs.lemmas.Bool.{cond-true, true≢false}
 use Rattle.lattice_core.specs.declared.ray.Ray.{Ray}
 use Rattle.surd_order.specs.declared.position.Pos.{Pos}
 use Rattle.surd_order.specs.PlaceOrder.{place_cmp}
 use Rattle.bool_weave.specs.declared.woven.Woven.{Woven}
 use Rattle.bool_weave.specs.Claims.{intervals_of, is_before}
-use Rattle.bool_weave.specs.Cuts.{cuts_of}
-use Rattle.bool_weave.specs.Behind.{covers_behind, covers_before, spans_behind, spans_before, claims_before, claims_behind}
+use Rattle.bool_weave.specs.Behind.{covers_behind, covers_before, spans_behind, spans_before, claims_before}
 use Rattle.bool_weave.proofs.Behind as beside
-use Rattle.bool_weave.proofs.Claimed.{intervals_length}
 use Rattle.bool_weave.proofs.Cutting.{turned}
-use Rattle.bool_weave.proofs.Sorted.{Has, has_at, contains_from_has}
+use Rattle.bool_weave.proofs.Sorted.{Has, has_at}
 use Rattle.overlap_list.specs.declared.hit.Hit.{Hit}
 use Rattle.overlap_list.specs.declared.partition.Partition.{Partition}
 use Rattle.overlap_list.specs.declared.region.RegionClaims.{RegionClaims}
-use Rattle.overlap_list.specs.Firsts.{TreeRegion, claims_by, changes_over, is_hit_at, hit_by}
-use Rattle.overlap_list.specs.Hits.{is_at, has_end_at, differ, changes_at, is_of, is_candidate, hit_on, lowest, cut_at, hit_of}
+use Rattle.overlap_list.specs.Firsts.{TreeRegion, claims_by, changes_over, hit_by}
+use Rattle.overlap_list.specs.Hits.{is_at, has_end_at, differ, changes_at, cut_at, hit_of}
 use Rattle.overlap_list.specs.Laws.{IsWonRun}
-use Rattle.overlap_list.specs.Partitions.{won_runs, or_zero, or_no_hit, partition_of}
-use Rattle.overlap_list.specs.Runs.{IntervalRun, has_before}
-use Rattle.overlap_list.specs.Winners.{claims_at, or_else, first_without_air, first_with_air, winner_of}
-use Rattle.overlap_list.proofs.Firsts.{claim_behind}
-use Rattle.overlap_list.proofs.Hitting.{position_same}
+use Rattle.overlap_list.specs.Partitions.{won_runs, or_no_hit, partition_of}
+use Rattle.overlap_list.specs.Runs.{IntervalRun}
+use Rattle.overlap_list.specs.Winners.{claims_at}
+use Rattle.overlap_list.proofs.Firsts as firsts
+use Rattle.overlap_list.proofs.Hitting.{some_change}
 use Rattle.overlap_list.proofs.Overlapping.{first_of}
-use Rattle.overlap_list.proofs.Parts.{some_of, winner_is, won_run}
+use Rattle.overlap_list.proofs.Parts.{won_run}
 use Rattle.shot_core.specs.declared.shot.Lit.{Lit}
 use Rattle.shot_core.specs.FirstShots.{tree_region, trees_of}
-use Rattle.shot_core.specs.Regions.{RegionBody, Region, HaveInstances, firsts_from}
+use Rattle.shot_core.specs.Regions.{RegionBody, Region, HaveInstances, firsts_from, instances_of}
 use Rattle.shot_core.specs.Shots.{woven_from, woven_of, claims_on, level_on, level_of_hit, lit_by, lit_of}
 use Rattle.shot_core.specs.Steps.{no_region}
-use Rattle.shot_core.proofs.Claiming.{claims_length, claims_number, no_claims}
+use Rattle.shot_core.proofs.Claiming.{claims_length, claims_number}
 use Rattle.shot_core.proofs.FirstHits.{Ending, ends_among, hits_of, hits_among, face_of, ending_of, ends_are, hit_is}
 use Rattle.shot_core.proofs.FirstShots.{woven_spelled, claims_by_trees}
 use Rattle.shot_core.proofs.OwnClaims.{before_on, behind_on, own_before, own_behind, changes_on, change_is}
-use Rattle.shot_core.proofs.Pointing.{any_from, has_mapped}
+use Rattle.shot_core.proofs.Pointing.{has_mapped}
 use Rattle.shot_core.proofs.Weaving.{or_false}
 
 -- a segment without an end at a place covers what lies before the place where it covers what lies behind it
@@ -112,45 +106,11 @@ first_flat f [] x there h = absurd there
 first_flat f (y ∷ ys) x (inl e) h = first_left (f y) (flat_map f ys) (subst (λ z. HasFirst (f z)) (sym e) h)
 first_flat f (y ∷ ys) x (inr there) h = first_right (f y) (flat_map f ys) (first_flat f ys x there h)
 
--- where a run of intervals begins that one region wins, the claim of some region changes
-agreed : {X : Type 0} (f g : X → Bool) (xs : List X) → ((x : X) → Has xs x → f x ≡ g x) → position f xs ≡ position g xs
-agreed f g xs h = position_from-zero f xs ∙ position_same f g 0 xs h ∙ sym (position_from-zero g xs)
-
-winner_stays : (all : List RegionClaims) (j k : ℕ) → ((r : RegionClaims) → Has all r → claims_at r j ≡ claims_at r k) → winner_of all j ≡ winner_of all k
-winner_stays all j k same =
-    ap (λ o. or_else o (first_with_air all j)) (agreed (λ (r : RegionClaims). not r.air && claims_at r j) (λ r. not r.air && claims_at r k) all (λ r h. ap (λ b. not r.air && b) (same r h)))
-    ∙ ap (or_else (first_without_air all k)) (agreed (λ (r : RegionClaims). r.air && claims_at r j) (λ r. r.air && claims_at r k) all (λ r h. ap (λ b. r.air && b) (same r h)))
-
-same_from : (a b : Bool) → differ a b ≡ false → a ≡ b
-same_from true true h = refl
-same_from true false h = absurd (true≢false h)
-same_from false true h = absurd (true≢false h)
-same_from false false h = refl
-
-false_from : (b : Bool) → (b ≡ true → ⊥) → b ≡ false
-false_from true h = absurd (h refl)
-false_from false h = refl
-
-some_change : (all : List RegionClaims) (k : ℕ) → IsSome (winner_of all k) → ((j : ℕ) → j + 1 ≡ k → winner_of all j ≢ winner_of all k) → Any (λ r. changes_at k r ≡ true) all
-some_change all zero some begun =
-    let w = winner_is all 0 (or_zero (winner_of all 0)) (some_of (winner_of all 0) some) in
-    any_from (λ (r : RegionClaims). changes_at 0 r ≡ true) all (get_or all (or_zero (winner_of all 0)) no_claims) (has_at all (get_or all (or_zero (winner_of all 0)) no_claims) no_claims (or_zero (winner_of all 0)) w.there refl) (w.claims no_claims)
-some_change all (suc j) some begun =
-    elim (cases_Bool (list_any (changes_at (suc j)) all)) [
-      | inl is ↦ Any-from_list_any (changes_at (suc j)) all is
-      | inr none ↦ absurd (begun j (omega arith) (winner_stays all j (suc j) (λ r h. same_from (claims_at r j) (claims_at r (suc j)) (false_from (changes_at (suc j) r) (λ is.
-          let at = contains_from_has all r h in
-          true≢false (sym (list_any_at (changes_at (suc j)) all at.0 r at.1 (ap (changes_at (suc j)) at.2 ∙ is)) ∙ none))))))
-    ]
-
-any_mapped : {X Y : Type 0} (f : Y → Bool) (g : X → Y) (xs : List X) → list_any f (map g xs) ≡ list_any (λ x. f (g x)) xs
-any_mapped f g [] = refl
-any_mapped f g (x ∷ xs) = ap (λ b. f (g x) || b) (any_mapped f g xs)
-
--- the first of what is hit where a partition starts, with the partition's face and level
+-- the first of what is hit where a partition starts, with the instance that the partition hits, and its face and level
 pub record IsFirstHit (regions : List Region) (ray : Ray) (l : Lit) : Type 0 where
   pub first : Ending
   pub there : first_of (hits_among ray l.start regions) ≡ Some first
+  pub instance : slice_get (instances_of regions) l.hit.instance ≡ first.0
   pub face : l.hit.face ≡ face_of l.start first
   pub level : l.level ≡ level_on first.0 (face_of l.start first) ray
 
@@ -167,34 +127,14 @@ module _ (regions : List Region) (ray : Ray) (below : HaveInstances regions) whe
   abbrev count : ℕ
   count = length (intervals_of woven)
 
-  behind : (t : TreeRegion) (k : ℕ) → k < count → claims_at (claims_by woven t) k ≡ claims_behind woven t.tree t.first (cut_at woven k)
-  behind t k lt = claim_behind woven [] (woven_spelled regions ray) t k lt
-
-  before : (t : TreeRegion) (k : ℕ) → k < count → has_before (claims_at (claims_by woven t)) k ≡ claims_before woven t.tree t.first (cut_at woven k)
-  before t zero lt = sym (beside.before_first woven (woven_spelled regions ray) t.tree t.first)
-  before t (suc j) lt =
-      let e : j + 1 ≡ suc j = omega arith in
-      let within : j + 1 < length (cuts_of woven) = omega (arith, lt, intervals_length (cuts_of woven)) in
-      behind t j (omega (arith, lt))
-      ∙ sym (beside.claimed_behind woven (woven_spelled regions ray) t.tree t.first j within)
-      ∙ beside.claimed_before woven (woven_spelled regions ray) t.tree t.first j within
-      ∙ ap (λ n. claims_before woven t.tree t.first (cut_at woven n)) e
-
   change_there : (t : TreeRegion) (k : ℕ) → k < count → changes_at k (claims_by woven t) ≡ changes_over woven (cut_at woven k) t
   change_there t k lt =
-      ap (λ b. differ b (claims_at (claims_by woven t) k)) (before t k lt)
-      ∙ ap (differ (claims_before woven t.tree t.first (cut_at woven k))) (behind t k lt)
+      ap (λ b. differ b (claims_at (claims_by woven t) k)) (firsts.claim_before woven [] (woven_spelled regions ray) t k lt)
+      ∙ ap (differ (claims_before woven t.tree t.first (cut_at woven k))) (firsts.claim_behind woven [] (woven_spelled regions ray) t k lt)
 
   -- the hit of a run, by the trees of regions
   hit_there : (k : ℕ) → k < count → or_no_hit (hit_of woven all k) ≡ hit_by woven trees (cut_at woven k)
-  hit_there k lt =
-      ap (λ l. or_no_hit (hit_of woven l k)) (claims_by_trees woven 0 regions)
-      ∙ ap (λ l. or_no_hit (hit_on (cut_at woven k) (lowest l)))
-      (filter_agree (is_candidate (map (claims_by woven) trees) k (cut_at woven k)) (is_hit_at woven trees (cut_at woven k)) (λ w.
-      ap (λ b. has_end_at (cut_at woven k) w && b)
-      (any_mapped (λ (r : RegionClaims). is_of r w && changes_at k r) (claims_by woven) trees
-      ∙ beside.any_same (λ t. is_of (claims_by woven t) w && changes_at k (claims_by woven t)) (λ t. (nat_le t.first w.instance && nat_lt w.instance (t.first + t.count)) && changes_over woven (cut_at woven k) t) trees
-      (λ t h. ap (λ b. is_of (claims_by woven t) w && b) (change_there t k lt)))) woven)
+  hit_there k lt = ap (λ l. or_no_hit (hit_of woven l k)) (claims_by_trees woven 0 regions) ∙ firsts.hit_is woven trees (woven_spelled regions ray) k lt
 
   abbrev tree_no : ℕ → TreeRegion
   tree_no n = tree_region (get_or (firsts_from 0 regions) n 0) (get_or regions n no_region).body
@@ -206,7 +146,7 @@ module _ (regions : List Region) (ray : Ray) (below : HaveInstances regions) whe
   -- something is hit where a run begins that one region wins
   some_hit : (run : IntervalRun) → IsWonRun all run → run.from < count → HasFirst (hits_among ray (cut_at woven run.from) regions)
   some_hit run won lt =
-      let a = some_change all run.from won.region won.begun in
+      let a = some_change all run won in
       let within : a.0 < length regions = omega (arith, a.2, claims_length woven 0 regions) in
       let change : changes_on ray (cut_at woven run.from) (get_or regions a.0 no_region) ≡ true = sym (change_no a.0 run.from a.1 within lt) ∙ ap (changes_at run.from) a.3 ∙ a.4 in
       let r = get_or regions a.0 no_region in
@@ -220,6 +160,7 @@ module _ (regions : List Region) (ray : Ray) (below : HaveInstances regions) whe
       record {
         first = hit.0;
         there = hit.1;
+        instance = ap (λ (h : Hit). slice_get (instances_of regions) h.instance) (hit_there run.from lt) ∙ got.2;
         face = ap (λ (h : Hit). h.face) (hit_there run.from lt) ∙ got.0;
         level = ap (level_of_hit regions ray) (hit_there run.from lt) ∙ got.1;
       }

@@ -1,6 +1,6 @@
 -- Regions that hold nowhere on a ray are left out, and the stretches of the others, by their numbers in the whole list, tell the points.
-use Rattle.std.proofs.Common.{◌≡◌, ◌<◌, zero, suc, ℕ, ℤ, List, [], ◌∷◌, ◌++◌, length, get_or, slice_get, map, flat_map, filter, Bool, true, false, cond, Option, Some, None, All, AllPairs, Contains, ap, sym, subst, ◌∙◌, refl, inl, inr, arith}
-use Rattle.std.proofs.lemmas.Bool.{cases_Bool, cases_lt, cond-true, cond-false}
+use Rattle.std.proofs.Common.{◌≡◌, ◌<◌, zero, suc, ℕ, ℤ, List, [], ◌∷◌, length, get_or, slice_get, map, filter, Bool, true, false, cond, Option, Some, None, All, AllPairs, Contains, ap, sym, subst, ◌∙◌, refl, inl, inr, arith}
+use Rattle.std.proofs.lemmas.Bool.{cases_Bool, cases_lt, cond-false}
 use Rattle.std.proofs.lemmas.List.Elements.{All-nil, All-cons, All-head, All-tail, All-filter}
 use Rattle.std.proofs.lemmas.List.Kept.{AllPairs-cons, AllPairs-filter}
 use Rattle.std.proofs.lemmas.Option.{slice_get_within, get_or_from_slice_get}
@@ -15,13 +15,14 @@ use Rattle.shot_core.specs.Shots.{level_on, lit_of}
 use Rattle.shot_core.specs.Points.{IsRayHitPlace, HoldsPoint, LiesAt, Stretch, stretch_of, stretches_of, HasPosition, HasRegionAt, TellsPoints, IsStretch, EndsBefore, AreStretches, IsTrueOfPoints}
 use Rattle.shot_core.specs.Pruned.{place_of}
 use Rattle.overlap_list.proofs.Overlapping.{first_of}
+use Rattle.shot_core.proofs.KeptSeen.{flat_left}
 use Rattle.shot_core.proofs.FirstHits.{Ending, ends_among, hits_of, hits_among, face_of}
 use Rattle.shot_core.proofs.OwnClaims.{changes_on, IsSilent, silent_changes}
 use Rattle.shot_core.proofs.Picking.{map_same_on, map_twice}
 use Rattle.shot_core.proofs.PointTruth.{true_of_points}
 use Rattle.shot_core.proofs.Pointing.{any_from, any_to, has_mapped}
 use Rattle.view_laws.specs.Pruning.{PlacedPartition, placed_partition, partitions_by_place, HoldsNowhere, PartitionsWithoutTheRest}
-use Rattle.view_laws.proofs.Hits.{IsFirstHit, first_hit}
+use Rattle.view_laws.proofs.Hits.{first_hit}
 use Rattle.view_laws.proofs.Silent.{at_some, some_at, silent}
 use Rattle.view_laws.proofs.Numbers.{numbers, kept_as, among_kept, numbers_rise, numbers_length}
 
@@ -76,16 +77,6 @@ instances_among : (keep : Region → Bool) (rs : List Region) (i : Instance) →
 instances_among keep [] i h = h
 instances_among keep (r ∷ rs) i h = one (keep r) r rs (filter keep rs) i (λ more. instances_among keep rs i more) h
 
--- what those that are left out tell nothing of
-flat_left : {X Y : Type 0} (keep : X → Bool) (f : X → List Y) (xs : List X) → ((x : X) → Has xs x → keep x ≡ false → f x ≡ []) → flat_map f (filter keep xs) ≡ flat_map f xs
-flat_left keep f [] h = refl
-flat_left keep f (x ∷ xs) h =
-    let rest = flat_left keep f xs (λ y more. h y (inr more)) in
-    elim (cases_Bool (keep x)) [
-      | inl is ↦ ap (flat_map f) (cond-true (keep x) (x ∷ filter keep xs) (filter keep xs) is) ∙ ap (λ l. f x ++ l) rest
-      | inr off ↦ ap (flat_map f) (cond-false (keep x) (x ∷ filter keep xs) (filter keep xs) off) ∙ rest ∙ sym (ap (λ l. l ++ flat_map f xs) (h x (inl refl) off))
-    ]
-
 -- a hit place of those that are kept is one of all
 hit_among : (keep : Region → Bool) (rs : List Region) (ray : Ray) (x : Pos) → IsRayHitPlace (filter keep rs) ray x → IsRayHitPlace rs ray x
 hit_among keep rs ray x (inl h) = inl h
@@ -98,7 +89,11 @@ record IsPart (keep : Region → Bool) (regions : List Region) (s : Stretch) : T
   within : offset < length regions
   there : slice_get regions offset ≡ slice_get (filter keep regions) s.region
 
--- the face and the level of what is hit, if anything is
+-- a part with what is hit where it starts, if anything is
+abbrev instance_at : Option Ending → Option Instance
+instance_at None = None
+instance_at (Some e) = e.0
+
 abbrev face_at : Option Ending → Pos → ℕ
 face_at None x = 0
 face_at (Some e) x = face_of x e
@@ -107,11 +102,20 @@ abbrev level_at : Option Ending → Ray → Pos → ℕ
 level_at None ray x = 0
 level_at (Some e) ray x = level_on e.0 (face_of x e) ray
 
-face_is : (regions : List Region) (ray : Ray) (l : Lit) → IsFirstHit regions ray l → l.hit.face ≡ face_at (first_of (hits_among ray l.start regions)) l.start
-face_is regions ray l h = h.face ∙ sym (ap (λ o. face_at o l.start) h.there)
+abbrev shown : Ray → Option Region → Pos → Pos → Option Ending → PlacedPartition
+shown ray o start end e = record { place = place_of o; start = start; end = end; instance = instance_at e; face = face_at e start; level = level_at e ray start }
 
-level_is : (regions : List Region) (ray : Ray) (l : Lit) → IsFirstHit regions ray l → l.level ≡ level_at (first_of (hits_among ray l.start regions)) ray l.start
-level_is regions ray l h = h.level ∙ sym (ap (λ o. level_at o ray l.start) h.there)
+alike : (place : ℕ) (start end : Pos) (i j : Option Instance) (f g v w : ℕ) → i ≡ j → f ≡ g → v ≡ w
+    → ◌≡◌ {A = PlacedPartition} (record { place = place; start = start; end = end; instance = i; face = f; level = v }) (record { place = place; start = start; end = end; instance = j; face = g; level = w })
+alike place start end i j f g v w a b c = cc
+
+part_is : (regions : List Region) (ray : Ray) → HaveInstances regions → (l : Lit) → Has (lit_of regions ray) l
+    → placed_partition regions l ≡ shown ray (slice_get regions l.region) l.start l.end (first_of (hits_among ray l.start regions))
+part_is regions ray below l has =
+    let h = first_hit regions ray below l has in
+    alike (place_of (slice_get regions l.region)) l.start l.end (slice_get (instances_of regions) l.hit.instance) h.first.0 l.hit.face (face_of l.start h.first) l.level (level_on h.first.0 (face_of l.start h.first) ray)
+    h.instance h.face h.level
+    ∙ sym (ap (shown ray (slice_get regions l.region) l.start l.end) h.there)
 
 module _ (regions : List Region) (ray : Ray) (keep : Region → Bool)
     (rising : AllPairs (λ (r s : Region). r.place < s.place) regions) (below : HaveInstances regions)
@@ -219,30 +223,15 @@ module _ (regions : List Region) (ray : Ray) (keep : Region → Bool)
   hits_same x = flat_left keep (hits_of ray x) regions (λ r has off. cond-false (changes_on ray x r) (ends_among ray x r.body.instances) [] (silent_changes ray x r (silent_left r has off)))
 
   abbrev placed : Stretch → PlacedPartition
-  placed s = record {
-    place = place_of (slice_get regions s.region);
-    start = s.start;
-    end = s.end;
-    face = face_at (first_of (hits_among ray s.start regions)) s.start;
-    level = level_at (first_of (hits_among ray s.start regions)) ray s.start;
-  }
-
-  whole_part : (l : Lit) → Has (lit_of regions ray) l → placed_partition regions l ≡ placed (stretch_of l)
-  whole_part l has =
-      let h = first_hit regions ray below l has in
-      ap (λ f. let p : PlacedPartition = record { place = place_of (slice_get regions l.region); start = l.start; end = l.end; face = f; level = l.level } in p) (face_is regions ray l h)
-      ∙ ap (λ v. let p : PlacedPartition = record { place = place_of (slice_get regions l.region); start = l.start; end = l.end; face = face_at (first_of (hits_among ray l.start regions)) l.start; level = v } in p) (level_is regions ray l h)
+  placed s = shown ray (slice_get regions s.region) s.start s.end (first_of (hits_among ray s.start regions))
 
   one_part : (l : Lit) → Has (lit_of kept ray) l → placed_partition kept l ≡ placed (renamed (stretch_of l))
   one_part l has =
       let is = part (stretch_of l) (in_range (stretch_of l) (mapped_has stretch_of (lit_of kept ray) l has)) in
       let there : slice_get kept l.region ≡ slice_get regions (get_or ns l.region 0) = sym (subst (λ m. slice_get regions m ≡ slice_get kept l.region) (sym is.number) is.there) in
-      let h = first_hit kept ray kept_below l has in
-      ap (λ o. let p : PlacedPartition = record { place = place_of o; start = l.start; end = l.end; face = l.hit.face; level = l.level } in p) there
-      ∙ ap (λ f. let p : PlacedPartition = record { place = place_of (slice_get regions (get_or ns l.region 0)); start = l.start; end = l.end; face = f; level = l.level } in p)
-      (face_is kept ray l h ∙ ap (λ hits. face_at (first_of hits) l.start) (hits_same l.start))
-      ∙ ap (λ v. let p : PlacedPartition = record { place = place_of (slice_get regions (get_or ns l.region 0)); start = l.start; end = l.end; face = face_at (first_of (hits_among ray l.start regions)) l.start; level = v } in p)
-      (level_is kept ray l h ∙ ap (λ hits. level_at (first_of hits) ray l.start) (hits_same l.start))
+      part_is kept ray kept_below l has
+      ∙ ap (λ o. shown ray o l.start l.end (first_of (hits_among ray l.start kept))) there
+      ∙ ap (λ hits. shown ray (slice_get regions (get_or ns l.region 0)) l.start l.end (first_of hits)) (hits_same l.start)
 
   parts_same : partitions_by_place kept ray ≡ partitions_by_place regions ray
   parts_same =
@@ -250,7 +239,7 @@ module _ (regions : List Region) (ray : Ray) (keep : Region → Bool)
       ∙ sym (map_twice placed renamed own ∙ map_twice (λ s. placed (renamed s)) stretch_of (lit_of kept ray))
       ∙ ap (map placed) same
       ∙ map_twice placed stretch_of (lit_of regions ray)
-      ∙ sym (map_same_on (placed_partition regions) (λ l. placed (stretch_of l)) (lit_of regions ray) whole_part)
+      ∙ sym (map_same_on (placed_partition regions) (λ l. placed (stretch_of l)) (lit_of regions ray) (part_is regions ray below))
 
 pub partitions_without_the_rest : PartitionsWithoutTheRest
 partitions_without_the_rest regions ray keep rising below nowhere = parts_same regions ray keep rising below nowhere

@@ -32,6 +32,7 @@ use Rattle.shot_core.specs.SeenPoints.{IsSeenFirst}
 use Rattle.shot_core.specs.Shots.{woven_if, woven_from, claims_on, level_on, lit_of}
 use Rattle.shot_core.specs.Steps.{no_region}
 use Rattle.shot_core.proofs.Claiming.{no_claims}
+use Rattle.shot_core.proofs.LowestHits.{woven_rises}
 use Rattle.shot_core.proofs.FirstHits.{IsBelow, Ending, ends_among, hits_of, face_of, ending_of, ends_are}
 use Rattle.shot_core.proofs.OwnClaims.{changes_on}
 use Rattle.shot_core.proofs.PointTruth.{ordered_lit}
@@ -104,15 +105,6 @@ none_in [] x e h = absurd h
 none_in (y ∷ ys) x e h = absurd (let wrong = e in cc)
 
 -- what is woven rises by number, and has each instance that has a segment
-rises_if : (n : ℕ) (o : Option Seg) (ws : List Woven) → ((w : Woven) → Has ws w → n < w.instance) → Rises IsBelow ws → Rises IsBelow (woven_if n o ++ ws)
-rises_if n None ws h r = r
-rises_if n (Some seg) ws h r = (h, r)
-
-woven_rises : (ray : Ray) (n : ℕ) (xs : List Instance) → Rises IsBelow (woven_from ray n xs)
-woven_rises ray n [] = tt
-woven_rises ray n (x ∷ xs) =
-    rises_if n (segment_of x.surface ray) (woven_from ray (n + 1) xs) (λ w h. let a = has_woven ray (n + 1) xs w h in omega (arith, a.number)) (woven_rises ray (n + 1) xs)
-
 abbrev one_woven : ℕ → Seg → Woven
 one_woven n seg = record { instance = n; seg = seg }
 

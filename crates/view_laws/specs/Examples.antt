@@ -1,5 +1,5 @@
 -- Partitions by place with a region beside the ray and without it, the pixels of a view of two, and its report, proved by computation.
-use Rattle.std.specs.Prelude.{◌≡◌, refl, ℕ, ℤ, pos, negsuc, List, [], ◌∷◌, Some}
+use Rattle.std.specs.Prelude.{◌≡◌, refl, ℕ, ℤ, pos, negsuc, List, [], ◌∷◌, Some, slice_get}
 use Rattle.lattice_core.specs.declared.boxes.Box3.TheVariants.{Span}
 use Rattle.lattice_core.specs.declared.ray.Dir.TheVariants.{PlusX}
 use Rattle.lattice_core.specs.declared.view.View.{View}
@@ -57,18 +57,20 @@ two_boxes air = first air ∷ last ∷ []
 abbrev pub two_pixels : View
 two_pixels = record { corner = vector (negsuc 4) (pos 5) (pos 5); dir = PlusX; cell = pos 50; w = 2; h = 1 }
 
-abbrev partition : ℕ → ℕ → ℕ → ℕ → PlacedPartition
-partition place start end face = record { place = place; start = Frac (pos start) (pos 1); end = Frac (pos end) (pos 1); face = face; level = 255 }
+-- of the region of some place, which hits the box of a region
+abbrev partition : ℕ → Region → ℕ → ℕ → ℕ → PlacedPartition
+partition place hit start end face = record { place = place; start = Frac (pos start) (pos 1); end = Frac (pos end) (pos 1); instance = slice_get hit.body.instances 0; face = face; level = 255 }
 
 abbrev partitions : List PlacedPartition
-partitions = partition 1 5 15 1 ∷ partition 3 15 20 2 ∷ []
+partitions = partition 1 (first 0) 5 15 1 ∷ partition 3 (first 0) 15 20 2 ∷ []
 
 -- the first box is hit at its face of least x, and the last one shows where the first one ends
-with_one_beside : partitions_by_place (first 0 ∷ box_at 2 0 green (pos 0) (pos 10) (pos 50) (pos 60) ∷ last ∷ []) (pixel_ray two_pixels 0 0) ≡ partitions
+with_one_beside : partitions_by_place (box_at 0 0 green (pos 0) (pos 10) (pos 50) (pos 60) ∷ two_boxes 0) (pixel_ray two_pixels 0 0) ≡ partitions
 unfolding place_cmp
 with_one_beside = refl
 
--- without the one beside the ray the numbers of regions and instances fall; places, faces and levels stay
+-- without the one beside the ray, which stands before them, the numbers of regions and instances fall; places, instances, faces and
+-- levels stay
 without_it : partitions_by_place (two_boxes 0) (pixel_ray two_pixels 0 0) ≡ partitions
 unfolding place_cmp
 without_it = refl

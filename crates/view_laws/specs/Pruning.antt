@@ -1,5 +1,5 @@
 -- The partitions of a ray, by the places of their regions, and which regions may be left out.
-use Rattle.std.specs.Prelude.{◌≡◌, ◌<◌, ℕ, ℤ, List, Bool, false, AllPairs, Contains, map, filter, slice_get}
+use Rattle.std.specs.Prelude.{◌≡◌, ◌<◌, ℕ, ℤ, List, Option, Bool, false, AllPairs, Contains, map, filter, slice_get}
 use Rattle.lattice_core.specs.declared.ray.Ray.{Ray}
 use Rattle.lattice_core.specs.declared.view.View.{View}
 use Rattle.lattice_core.specs.Rays.{IsOnRay}
@@ -7,22 +7,23 @@ use Rattle.lattice_core.specs.Views.{pixel_ray}
 use Rattle.surd_order.specs.declared.position.Pos.{Pos}
 use Rattle.surd_order.specs.declared.position.Pos.TheVariants.{Frac}
 use Rattle.shot_core.specs.declared.shot.Lit.{Lit}
-use Rattle.shot_core.specs.Regions.{Region, HaveInstances}
+use Rattle.shot_core.specs.Regions.{Instance, Region, HaveInstances, instances_of}
 use Rattle.shot_core.specs.Shots.{lit_of}
 use Rattle.shot_core.specs.Points.{IsRayHitPlace, HoldsPoint}
 use Rattle.shot_core.specs.Pruned.{place_of, kept_for, IsPixelOf}
 
--- a partition with the place of its region in place of the number, and of its hit the face and the level, without the number of the
--- instance: numbers change where regions are left out
+-- a partition with the place of its region and the instance that it hits in the place of their numbers, which change where regions are
+-- left out
 pub record PlacedPartition : Type 0 where
   pub place : ℕ
   pub start : Pos
   pub end : Pos
+  pub instance : Option Instance
   pub face : ℕ
   pub level : ℕ
 
 abbrev pub placed_partition : List Region → Lit → PlacedPartition
-placed_partition regions lit = record { place = place_of (slice_get regions lit.region); start = lit.start; end = lit.end; face = lit.hit.face; level = lit.level }
+placed_partition regions lit = record { place = place_of (slice_get regions lit.region); start = lit.start; end = lit.end; instance = slice_get (instances_of regions) lit.hit.instance; face = lit.hit.face; level = lit.level }
 
 -- the partitions of a ray, in order
 abbrev pub partitions_by_place : List Region → Ray → List PlacedPartition

@@ -9,7 +9,7 @@ mod Parts
 mod PathLines
 mod Placements
 pub mod Pointing
-mod Scening
+pub mod Scening
 mod Settling
 mod Sizing
 mod Tasks

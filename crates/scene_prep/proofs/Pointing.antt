@@ -22,7 +22,7 @@ leaves_from place (region ∷ regions) =
     All-cons (λ (r : Region). HasLeavesBelow (length r.body.instances) r.body.tree) (region_at place region) (map (λ e. region_at e.0 e.1) (enumerate_from (place + 1) regions))
     (below (length (map in_world (solids_of region.tree))) 0 region.tree (omega (arith, length-map (solids_of region.tree) in_world))) (leaves_from (place + 1) regions)
 
-scene_leaves : (directory : Entries) (names : List Name) → HaveInstances (scene_of directory names)
+pub scene_leaves : (directory : Entries) (names : List Name) → HaveInstances (scene_of directory names)
 scene_leaves directory names = leaves_from 1 (regions_of directory names)
 
 pub partitions_tell_points : PartitionsOfNamesTellPoints

@@ -90,20 +90,9 @@ record IsPart (keep : Region → Bool) (regions : List Region) (s : Stretch) : T
   there : slice_get regions offset ≡ slice_get (filter keep regions) s.region
 
 -- a part with what is hit where it starts, if anything is
-abbrev instance_at : Option Ending → Option Instance
-instance_at None = None
-instance_at (Some e) = e.0
-
-abbrev face_at : Option Ending → Pos → ℕ
-face_at None x = 0
-face_at (Some e) x = face_of x e
-
-abbrev level_at : Option Ending → Ray → Pos → ℕ
-level_at None ray x = 0
-level_at (Some e) ray x = level_on e.0 (face_of x e) ray
-
 abbrev shown : Ray → Option Region → Pos → Pos → Option Ending → PlacedPartition
-shown ray o start end e = record { place = place_of o; start = start; end = end; instance = instance_at e; face = face_at e start; level = level_at e ray start }
+shown ray o start end None = record { place = place_of o; start = start; end = end; instance = None; face = 0; level = 0 }
+shown ray o start end (Some e) = record { place = place_of o; start = start; end = end; instance = e.0; face = face_of start e; level = level_on e.0 (face_of start e) ray }
 
 alike : (place : ℕ) (start end : Pos) (i j : Option Instance) (f g v w : ℕ) → i ≡ j → f ≡ g → v ≡ w
     → ◌≡◌ {A = PlacedPartition} (record { place = place; start = start; end = end; instance = i; face = f; level = v }) (record { place = place; start = start; end = end; instance = j; face = g; level = w })

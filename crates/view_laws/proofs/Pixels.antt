@@ -104,7 +104,7 @@ none_in : {X : Type 0} (xs : List X) (x : X) → xs ≡ [] → Has xs x → ⊥
 none_in [] x e h = absurd h
 none_in (y ∷ ys) x e h = absurd (let wrong = e in cc)
 
--- what is woven rises by number, and has each instance that has a segment
+-- what is woven has each instance that has a segment
 abbrev one_woven : ℕ → Seg → Woven
 one_woven n seg = record { instance = n; seg = seg }
 

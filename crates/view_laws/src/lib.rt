@@ -7,10 +7,10 @@ ghost use Rattle.view_laws.specs.PixelPoints.{PixelsTellPoints};
 ghost use Rattle.view_laws.specs.ReportPoints.{ReportsTellPoints};
 
 /// Regions that hold at no point of a ray, hit places aside, may be left out, and the partitions of the ray are the same, by
-/// the places of their regions, with the solid, the face and the level of what each hits: of all regions whose places rise and whose leaves
-/// stand for their solids. So the regions that are kept for a tile have on each ray of the tile the partitions that all regions
-/// have, where these are of placed solids with their boxes and the view has no fault. The function does nothing: its contract is
-/// the law.
+/// the places of their regions, with the solid, the face and the level of what each hits: of all regions whose places rise and
+/// whose leaves stand for their solids. So the regions that are kept for a tile have on each ray of the tile the partitions that
+/// all regions have, where these are of placed solids with their boxes and the view has no fault. The function does nothing: its
+/// contract is the law.
 pub fn pruning_laws()
     ensures left_out { PartitionsWithoutTheRest }
     ensures kept { KeptHaveTheSamePartitions }

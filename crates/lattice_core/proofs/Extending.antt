@@ -200,3 +200,29 @@ meet_shares a b x w some =
       λ h. (((low.0 h.0).0, (high.0 h.1).0), ((low.0 h.0).1, (high.0 h.1).1)),
       λ h. (low.1 (h.0.0, h.1.0), high.1 (h.0.1, h.1.1)),
     )
+
+-- two extents, of which the second holds some coordinate, share some exactly where each begins by the other's end and the first holds some
+lower : (c : Side) → AreOrdered c Open
+lower Open = tt
+lower (At c) = tt
+
+sides_share : (a b c d : Side) → AreOrdered c d → (AreOrdered a d × AreOrdered c b × AreOrdered a b) ↔ AreOrdered (meet_low a c) (meet_high b d)
+sides_share Open Open c d le = (λ h. le, λ m. (tt, lower c, tt))
+sides_share Open (At b) Open Open le = (λ h. tt, λ m. (tt, tt, tt))
+sides_share Open (At b) Open (At d) le = (λ h. tt, λ m. (tt, tt, tt))
+sides_share Open (At b) (At c) Open le = (λ h. h.1, λ m. (tt, m, tt))
+sides_share Open (At b) (At c) (At d) le = (λ h. let from = h.1 in omega (arith, ints, clamps, from, le), λ m. (tt, omega (arith, ints, clamps, m), tt))
+sides_share (At a) Open Open Open le = (λ h. tt, λ m. (tt, tt, tt))
+sides_share (At a) Open Open (At d) le = (λ h. h.0, λ m. (m, tt, tt))
+sides_share (At a) Open (At c) Open le = (λ h. tt, λ m. (tt, tt, tt))
+sides_share (At a) Open (At c) (At d) le = (λ h. let to = h.0 in omega (arith, ints, clamps, to, le), λ m. (omega (arith, ints, clamps, m), tt, tt))
+sides_share (At a) (At b) Open Open le = (λ h. h.2, λ m. (tt, tt, m))
+sides_share (At a) (At b) Open (At d) le = (λ h. let to = h.0 in let own = h.2 in omega (arith, ints, clamps, to, own), λ m. (omega (arith, ints, clamps, m), tt, omega (arith, ints, clamps, m)))
+sides_share (At a) (At b) (At c) Open le = (λ h. let from = h.1 in let own = h.2 in omega (arith, ints, clamps, from, own), λ m. (tt, omega (arith, ints, clamps, m), omega (arith, ints, clamps, m)))
+sides_share (At a) (At b) (At c) (At d) le = (
+  λ h. let to = h.0 in let from = h.1 in let own = h.2 in omega (arith, ints, clamps, to, from, own, le),
+  λ m. (omega (arith, ints, clamps, m), omega (arith, ints, clamps, m), omega (arith, ints, clamps, m)),
+)
+
+pub share : (e other : Extent) → IsOrdered other → (AreOrdered e.low other.high × AreOrdered other.low e.high × IsOrdered e) ↔ IsOrdered (meet_extent e other)
+share e other le = sides_share e.low e.high other.low other.high le

@@ -1,7 +1,7 @@
 //! One axis of a box: its low and its high side.
 
 ghost use Rattle.std.specs.Prelude.{◌↔◌, ◌≡◌, ◌≤ℤ◌, IsTrue, pos, ℤ};
-ghost use Rattle.lattice_core.specs.Extents.{hull_low, hull_high, meet_low, meet_high, IsStep};
+ghost use Rattle.lattice_core.specs.Extents.{hull_low, hull_high, meet_low, meet_high, AreOrdered, IsStep};
 ghost use Rattle.lattice_core.specs.Limits.{IsAtMost};
 
 use crate::boxes::Side;
@@ -31,10 +31,7 @@ impl Extent {
     pub(crate) fn is_ordered(self) -> bool
         ensures { IsTrue result ↔ IsOrdered self }
     {
-        match (self.low, self.high) {
-            (Side::At(low), Side::At(high)) => low <= high,
-            _ => true,
-        }
+        are_ordered(self.low, self.high)
     }
 
     /// The least extent that holds two.
@@ -64,7 +61,21 @@ impl Extent {
         requires step { IsStep step }
         ensures { IsTrue result ↔ IsOrdered (meet_extent self (reach_extent origin step)) }
     {
-        self.meet(Extent::of_ray(origin, step)).is_ordered()
+        self.shares(Extent::of_ray(origin, step))
+    }
+
+    /// Whether some coordinate lies in both extents, of which the other one holds some.
+    fn shares(self, other: Extent) -> bool
+        requires { IsOrdered other }
+        ensures { IsTrue result ↔ IsOrdered (meet_extent self other) }
+    {
+        if !are_ordered(self.low, other.high) {
+            return false;
+        }
+        if !are_ordered(other.low, self.high) {
+            return false;
+        }
+        self.is_ordered()
     }
 
     /// From the least coordinate on such a ray to the greatest.
@@ -75,6 +86,16 @@ impl Extent {
     {
         let end = origin + step * FAR;
         Extent::between(origin.min(end), origin.max(end))
+    }
+}
+
+/// Whether a low side is at most a high one.
+fn are_ordered(low: Side, high: Side) -> bool
+    ensures { IsTrue result ↔ AreOrdered low high }
+{
+    match (low, high) {
+        (Side::At(low), Side::At(high)) => low <= high,
+        _ => true,
     }
 }
 

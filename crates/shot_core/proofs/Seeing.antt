@@ -14,7 +14,9 @@ use Rattle.solid_set.specs.Levels.{IsEndFace}
 use Rattle.bool_weave.specs.declared.woven.Woven.{Woven}
 use Rattle.bool_weave.specs.Cuts.{places_of}
 use Rattle.bool_weave.specs.Behind.{claims_behind, claims_before, HasSpelledEnds}
+use Rattle.bool_weave.specs.Claims.{is_before}
 use Rattle.bool_weave.proofs.Behind.{never_itself}
+use Rattle.bool_weave.proofs.Flanks.{nothing_before}
 use Rattle.bool_weave.proofs.Cutting.{equal_from, tied_same, start_is_place, end_is_place}
 use Rattle.bool_weave.proofs.Sorted.{Has, has_from_contains, contains_from_has}
 use Rattle.overlap_list.specs.declared.hit.Hit.{Hit}
@@ -28,7 +30,7 @@ use Rattle.shot_core.specs.Regions.{Instance, Region, HaveInstances, HavePlacedS
 use Rattle.shot_core.specs.Shots.{woven_of, level_of_hit}
 use Rattle.shot_core.specs.Steps.{no_region, IsHitOn}
 use Rattle.shot_core.specs.FirstShots.{first_seen, seen_of, tree_region, trees_from, trees_of, seen_by, IsOrderOf}
-use Rattle.shot_core.specs.FirstSteps.{first_no, body_no, own_no, box_no, solid_no, IsFront, IsFrontAt, IsPassed, IsPartOf, IsThrough, changes_beside, own_hit, part_hit, lowest_hit}
+use Rattle.shot_core.specs.FirstSteps.{first_no, body_no, own_no, box_no, solid_no, IsFront, IsFrontAt, IsPassed, IsPartOf, IsThrough, TurnsInFront, changes_beside, own_hit, part_hit, lowest_hit}
 use Rattle.shot_core.proofs.FirstShots.{woven_spelled, own_segments_tell, seen_at_first_place, nothing_seen_else}
 use Rattle.shot_core.proofs.LowestHits.{is_lowest, none_lowest, woven_rises, of_region, of_all, only_its_own, IsAtMost, all_take, all_are, own_hit_is, own_hit_most}
 use Rattle.shot_core.proofs.Passing.{unchanged}
@@ -108,6 +110,24 @@ module _ (regions : List Region) (ray : Ray) (below : HaveInstances regions) whe
         solid = any_at (is_solid_behind (woven_of regions ray) front.start) (trees_of regions) front.region no_tree within_trees solid_there;
         first = λ y before. none_solid y (in_order (λ n. solid_no regions ray n y ≡ false) (λ k lt. f.early k y lt before));
       }
+
+      -- nothing lies before the front that the region in front claims, so its claim changes there
+      pub front_turns : changes_beside (own_no regions ray front.region) (body_no regions front.region).tree (first_no regions front.region) front.start ≡ true
+      front_turns =
+          let own = own_no regions ray front.region in
+          let tree = (body_no regions front.region).tree in
+          let first = first_no regions front.region in
+          let solid = and_parts (not (has_air (body_no regions front.region))) (claims_behind own tree first front.start) f.solid in
+          let quiet : (y : Pos) → is_before y front.start ≡ true → claims_behind own tree first y ≡ false =
+          λ y before. sym (ap (λ b. b && claims_behind own tree first y) solid.0)
+          ∙ in_order (λ n. solid_no regions ray n y ≡ false) (λ k lt. f.early k y lt before) front.region f.there in
+          ap (λ b. differ b (claims_behind own tree first front.start)) (nothing_before own tree first front.start quiet) ∙ ap (differ false) solid.1
+
+      pub part_turns : (segments : List Woven) (p : Part) → IsPartOf regions ray segments p → TurnsInFront regions segments front p
+      part_turns segments p i here =
+          ap (λ ws. changes_beside ws (body_no regions p.region).tree (first_no regions p.region) front.start) i.own
+          ∙ ap (λ n. changes_beside (own_no regions ray n) (body_no regions n).tree (first_no regions n) front.start) here
+          ∙ front_turns
 
       position_is : position (is_solid_behind (woven_of regions ray) front.start) (trees_of regions) ≡ Some front.region
       position_is =

@@ -199,6 +199,11 @@ pub record IsPartIn (regions : List Region) (segments : List Woven) (p : Part) :
 abbrev pub changes_beside : List Woven → Mask → ℕ → Pos → Bool
 changes_beside woven tree first x = differ (claims_before woven tree first x) (claims_behind woven tree first x)
 
+-- where a part is that of the region in front, the region's claim changes there
+abbrev pub TurnsInFront : List Region → List Woven → Front → Part → Type 0
+TurnsInFront regions segments front p =
+    p.region ≡ front.region → changes_beside (part_in segments p) (body_no regions p.region).tree (first_no regions p.region) front.start ≡ true
+
 -- the first of a region's segments that ends at a place where the region's claim changes
 abbrev pub own_hit : List Woven → Mask → ℕ → Pos → Option Woven
 own_hit own tree first x = cond (changes_beside own tree first x) (find (has_end_at x) own) None

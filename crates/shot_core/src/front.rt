@@ -1,4 +1,4 @@
-ghost use Rattle.std.specs.Prelude.{◌≡◌, ◌<◌, ◌++◌, All, IfOk, length};
+ghost use Rattle.std.specs.Prelude.{◌≡◌, ◌<◌, ◌++◌, All, OnOk, IfOk, length};
 ghost use Rattle.std.specs.Option.{ForSome};
 ghost use Rattle.lattice_core.specs.declared.limit.TheConstants.{WORLD};
 ghost use Rattle.lattice_core.specs.Limits.{IsWithin};
@@ -68,28 +68,29 @@ fn has_air(body: &PrepRegion) -> bool
 fn take_region(
     segments: &mut Vec<Woven>,
     marks: &mut Marks,
-    best: Option<Front>,
+    best: &mut Option<Front>,
     scene: &Scene,
     ray: &Ray,
     number: u32,
-) -> Result<Option<Front>, Memory>
+) -> Result<(), Memory>
     requires sound { All (λ w. IsSegment w.seg) segments.old.items }
-    requires best { ForSome best (λ b. IsInRange b.start) }
+    requires best { ForSome best.old (λ b. IsInRange b.start) }
     requires number { number < length scene.now }
     requires origin { IsWithin WORLD ray.now.origin }
-    ensures taken { IfOk result (IsTaken scene.now ray.now number best) }
-    ensures segments { IfOk result (λ _. segments.new.items ≡ segments.old.items ++ own_no scene.now ray.now number) }
-    ensures sound { IfOk result (λ _. All (λ w. IsSegment w.seg) segments.new.items) }
+    ensures taken { OnOk result (IsTaken scene.now ray.now number best.old best.new) }
+    ensures segments { OnOk result (segments.new.items ≡ segments.old.items ++ own_no scene.now ray.now number) }
+    ensures sound { OnOk result (All (λ w. IsSegment w.seg) segments.new.items) }
 {
     let from = segments.len();
     let first = scene.first(number);
     let body = scene.regions()[number as usize].body();
     add_segments(segments, first, body.solids(), ray)?;
     if has_air(body) {
-        return Ok(best);
+        return Ok(());
     }
     let start = start_of(marks, &segments[from..], first, body)?;
-    Ok(better(best, start, number))
+    *best = better(*best, start, number);
+    Ok(())
 }
 
 /// The same, where the region is not passed over; its segments are then the next part.
@@ -97,32 +98,32 @@ fn meet_region(
     segments: &mut Vec<Woven>,
     parts: &mut Vec<Part>,
     marks: &mut Marks,
-    best: Option<Front>,
+    best: &mut Option<Front>,
     scene: &Scene,
     ray: &Ray,
     number: u32,
-) -> Result<Option<Front>, Memory>
+) -> Result<(), Memory>
     requires sound { All (λ w. IsSegment w.seg) segments.old.items }
     requires parts { All (IsPartOf scene.now ray.now segments.old.items) parts.old.items }
-    requires best { ForSome best (λ b. IsInRange b.start) }
+    requires best { ForSome best.old (λ b. IsInRange b.start) }
     requires number { number < length scene.now }
     requires origin { IsWithin WORLD ray.now.origin }
-    ensures met { IfOk result (λ r. IsMet scene.now ray.now number best parts.old.items r parts.new.items) }
-    ensures sound { IfOk result (λ _. All (λ w. IsSegment w.seg) segments.new.items) }
-    ensures parts { IfOk result (λ _. All (IsPartOf scene.now ray.now segments.new.items) parts.new.items) }
+    ensures met { OnOk result (IsMet scene.now ray.now number best.old parts.old.items best.new parts.new.items) }
+    ensures sound { OnOk result (All (λ w. IsSegment w.seg) segments.new.items) }
+    ensures parts { OnOk result (All (IsPartOf scene.now ray.now segments.new.items) parts.new.items) }
 {
-    let bounds = scene.regions()[number as usize].body().bounds();
-    if is_passed(&bounds, ray, best) {
-        return Ok(best);
+    let bounds = scene.regions()[number as usize].body().lent_bounds();
+    if is_passed(bounds, ray, best) {
+        return Ok(());
     }
     let from = segments.len();
-    let best = take_region(segments, marks, best, scene, ray, number)?;
+    take_region(segments, marks, best, scene, ray, number)?;
     parts.push(Part {
         region: number,
         from,
         to: segments.len(),
     })?;
-    Ok(best)
+    Ok(())
 }
 
 /// Where the regions of these numbers, in whatever order, claim first without air, with the segments of those that are not
@@ -148,7 +149,7 @@ pub(crate) fn front_of(
     parts.clear();
     let mut best = None;
     for i in 0..order.len() {
-        best = meet_region(segments, parts, marks, best, scene, ray, order[i])?;
+        meet_region(segments, parts, marks, &mut best, scene, ray, order[i])?;
     }
     Ok(best)
 }

@@ -1,11 +1,13 @@
-ghost use Rattle.std.specs.Prelude.{◌≡◌, true, IfOk, length, map};
+ghost use Rattle.std.specs.Prelude.{◌≡◌, true, pos, IfOk, length, map};
 ghost use Rattle.std.specs.Option.{ForSome};
 ghost use Rattle.lattice_core.specs.declared.limit.TheConstants.{WORLD};
 ghost use Rattle.lattice_core.specs.Limits.{IsWithin};
 ghost use Rattle.surd_order.specs.Range.{IsInRange};
+ghost use Rattle.surd_order.specs.Order.{Precedes};
+ghost use Rattle.surd_order.specs.declared.position.Pos.TheVariants.{Frac};
 ghost use Rattle.shot_core.specs.FirstShots.{IsOrderOf};
 ghost use Rattle.shot_core.specs.RegionBoxes.{ahead_rising, ahead_falling, near_side};
-ghost use Rattle.shot_core.specs.FirstSteps.{side_of, IsBeforeSide, IsPassed};
+ghost use Rattle.shot_core.specs.FirstSteps.{side_of, IsBeforeSide, BeginsBehind, IsPassed};
 
 use crate::front::Front;
 use crate::scene::Scene;
@@ -63,12 +65,51 @@ fn is_before_side(place: &Pos, side: Option<i128>) -> bool
     place.cmp(&Pos::Frac { p: near, q: 1 }).is_lt()
 }
 
-/// Whether a ray can pass over what a box holds: it misses the box, or enters it only behind the best place so far.
-pub(crate) fn is_passed(b: &Box3, ray: &Ray, best: Option<Front>) -> bool
-    requires best { ForSome best (λ f. IsInRange f.start) }
-    requires origin { IsWithin WORLD ray.now.origin }
-    ensures { result ≡ true → IsPassed b.now ray.now best }
+/// Whether a place lies before a whole number, as far as that is told without a root: `a - √k` lies before all that is over `a`.
+/// Most boxes that are passed over are so by this alone.
+fn is_well_before(place: &Pos, near: i128) -> bool
+    requires { IsInRange place.now }
+    ensures { result ≡ true → Precedes place.now (Frac near (pos 1)) }
 {
+    match *place {
+        Pos::Frac { p, q } => {
+            if q != 1 {
+                return false;
+            }
+            p < near
+        }
+        Pos::Surd { a, plus, k: _k } => {
+            if plus {
+                return false;
+            }
+            (a as i128) < near
+        }
+    }
+}
+
+/// Whether a box begins behind the best place so far, as far as that is told without a root.
+fn begins_well_behind(b: &Box3, ray: &Ray, best: &Option<Front>) -> bool
+    requires { ForSome best.now (λ f. IsInRange f.start) }
+    ensures { result ≡ true → BeginsBehind b.now ray.now best.now }
+{
+    let Some(front) = best else {
+        return false;
+    };
+    let Some(near) = near_side(b, ray) else {
+        return false;
+    };
+    is_well_before(&front.start, near)
+}
+
+/// Whether a ray can pass over what a box holds: it misses the box, or enters it only behind the best place so far.
+pub(crate) fn is_passed(b: &Box3, ray: &Ray, best: &Option<Front>) -> bool
+    requires best { ForSome best.now (λ f. IsInRange f.start) }
+    requires origin { IsWithin WORLD ray.now.origin }
+    ensures { result ≡ true → IsPassed b.now ray.now best.now }
+{
+    if begins_well_behind(b, ray, best) {
+        return true;
+    }
     if !box_meets_ray(b, ray) {
         return true;
     }

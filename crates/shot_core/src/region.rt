@@ -153,6 +153,13 @@ impl PrepRegion {
         self.bounds
     }
 
+    /// The same box, lent: each ray asks for it.
+    pub(crate) fn lent_bounds(&self) -> &Box3
+        ensures { result.now ≡ tree_box (boxes_of self.now.instances) self.now.tree }
+    {
+        &self.bounds
+    }
+
     /// The hash of all that contracts see of it. It is taken once, as the name of each tile that shows the region wants it.
     pub fn digest(&self) -> u64
         ensures { result ≡ body_digest self.now }

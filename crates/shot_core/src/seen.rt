@@ -58,7 +58,7 @@ pub fn shoot_first(
     let Some(front) = front_of(segments, parts, marks, scene, ray, order)? else {
         return Ok(None);
     };
-    let hit = hit_at(marks, scene, segments, parts, &front.start)?;
+    let hit = hit_at(marks, scene, segments, parts, &front)?;
     Ok(Some(Seen {
         region: front.region,
         start: front.start,

@@ -1,6 +1,6 @@
 //! From crossings to segments: the running start and end of the part of a ray that is inside.
 
-ghost use Rattle.std.specs.Prelude.{◌≡◌, ◌-◌, ◌≤◌, All, None, slice_index_or};
+ghost use Rattle.std.specs.Prelude.{◌≡◌, ◌-◌, ◌≤◌, All, Some, None, cond, slice_index_or};
 ghost use Rattle.std.specs.Option.{ForSome};
 ghost use Rattle.lattice_core.specs.declared.limit.TheConstants.{WORLD};
 ghost use Rattle.lattice_core.specs.Limits.{IsWithin};
@@ -40,46 +40,43 @@ fn spelled(place: Pos) -> Pos
     }
 }
 
-/// Of the best crossing so far and the next one the one that is ahead, by the order of their places. Where both are at
-/// one place, the face that was crossed first stays.
-fn chosen(order: Ordering, best: Crossed, next: Crossed) -> Crossed
-    requires best { IsInRange best.place }
+/// Keeps of the best crossing so far and the next one the one that is ahead, by the order of their places. Where both are
+/// at one place, the face that was crossed first stays.
+fn choose(order: Ordering, best: &mut Crossed, next: Crossed)
+    requires best { IsInRange best.old.place }
     requires next { IsInRange next.place }
-    ensures value { result ≡ chosen order best next }
-    ensures range { IsInRange result.place }
+    ensures value { best.new ≡ chosen order best.old next }
+    ensures range { IsInRange best.new.place }
 {
     match order {
-        Ordering::Less => best,
+        Ordering::Less => {}
         Ordering::Equal => {
             if best.face == 0 {
-                Crossed {
-                    face: next.face,
-                    place: best.place,
-                }
-            } else {
-                best
+                best.face = next.face;
             }
         }
-        Ordering::Greater => next,
+        Ordering::Greater => {
+            *best = next;
+        }
     }
 }
 
-fn later(best: Crossed, next: Crossed) -> Crossed
-    requires best { IsInRange best.place }
+fn keep_later(best: &mut Crossed, next: Crossed)
+    requires best { IsInRange best.old.place }
     requires next { IsInRange next.place }
-    ensures value { result ≡ later best next }
-    ensures range { IsInRange result.place }
+    ensures value { best.new ≡ later best.old next }
+    ensures range { IsInRange best.new.place }
 {
-    chosen(next.place.cmp(&best.place), best, next)
+    choose(next.place.cmp(&best.place), best, next);
 }
 
-fn earlier(best: Crossed, next: Crossed) -> Crossed
-    requires best { IsInRange best.place }
+fn keep_earlier(best: &mut Crossed, next: Crossed)
+    requires best { IsInRange best.old.place }
     requires next { IsInRange next.place }
-    ensures value { result ≡ earlier best next }
-    ensures range { IsInRange result.place }
+    ensures value { best.new ≡ earlier best.old next }
+    ensures range { IsInRange best.new.place }
 {
-    chosen(best.place.cmp(&next.place), best, next)
+    choose(best.place.cmp(&next.place), best, next);
 }
 
 fn whole_span() -> Span
@@ -101,42 +98,40 @@ fn whole_span() -> Span
     }
 }
 
-fn crossed_span(span: Span, face: u8, crossing: Crossing) -> Option<Span>
-    requires span { IsSpanInRange span }
+/// Cuts a span by what a face does to the ray. Where the ray misses what the face holds, nothing is left, and the answer is no.
+fn cross_span(span: &mut Span, face: u8, crossing: Crossing) -> bool
+    requires span { IsSpanInRange span.old }
     requires crossing { IsCrossingInRange crossing }
-    ensures value { result ≡ crossed_span span face crossing }
-    ensures range { ForSome result IsSpanInRange }
+    ensures value { cond result (Some span.new) None ≡ crossed_span span.old face crossing }
+    ensures range { IsSpanInRange span.new }
 {
-    let Span { start, end } = span;
     match crossing {
         Crossing::Enters(p, q) => {
             let place = Pos::Frac { p, q };
-            Some(Span {
-                start: later(start, Crossed { face, place }),
-                end,
-            })
+            keep_later(&mut span.start, Crossed { face, place });
+            true
         }
         Crossing::Leaves(p, q) => {
             let place = Pos::Frac { p, q };
-            Some(Span {
-                start,
-                end: earlier(end, Crossed { face, place }),
-            })
+            keep_earlier(&mut span.end, Crossed { face, place });
+            true
         }
-        Crossing::Holds => Some(span),
-        Crossing::Misses => None,
+        Crossing::Holds => true,
+        Crossing::Misses => false,
     }
 }
 
-fn cut_span(span: Span, face: u8, sides: &[Option<Plane>; 12], ray: &Ray) -> Option<Span>
-    requires span { IsSpanInRange span }
+/// Cuts a span by a face of a solid of eight vertices.
+fn cut_span(span: &mut Span, face: u8, sides: &[Option<Plane>; 12], ray: &Ray) -> bool
+    requires span { IsSpanInRange span.old }
     requires face { 1 ≤ face }
     requires sides { All (λ side. ForSome side IsWorldPlane) sides.now }
     requires origin { IsWithin WORLD ray.now.origin }
-    ensures value { result ≡ cut_span span face (slice_index_or sides.now (face - 1) None) ray.now }
-    ensures range { ForSome result IsSpanInRange }
+    ensures value { cond result (Some span.new) None ≡ cut_span span.old face (slice_index_or sides.now (face - 1) None) ray.now }
+    ensures range { IsSpanInRange span.new }
 {
-    crossed_span(span, face, prim_arb8::crossed_at(sides, face, ray))
+    let crossing = prim_arb8::crossed_at(sides, face, ray);
+    cross_span(span, face, crossing)
 }
 
 fn finished_span(span: Span) -> Option<Seg>
@@ -165,7 +160,9 @@ pub fn segment_of_faces(sides: &[Option<Plane>; 12], ray: &Ray) -> Option<Seg>
 {
     let mut span = whole_span();
     for i in 0..12usize {
-        span = cut_span(span, i as u8 + 1, sides, ray)?;
+        if !cut_span(&mut span, i as u8 + 1, sides, ray) {
+            return None;
+        }
     }
     finished_span(span)
 }
@@ -177,7 +174,10 @@ pub fn segment_of_half(plane: &Plane, ray: &Ray) -> Option<Seg>
     ensures value { result ≡ segment_of (Surface.HalfSpace plane.now) ray.now }
     ensures range { ForSome result IsSegInRange }
 {
-    let span = crossed_span(whole_span(), 1, prim_half::crossed_at(plane, ray))?;
+    let mut span = whole_span();
+    if !cross_span(&mut span, 1, prim_half::crossed_at(plane, ray)) {
+        return None;
+    }
     finished_span(span)
 }
 
@@ -200,11 +200,10 @@ fn ball_span(chord: Chord) -> Span
     ensures value { result ≡ ball_span chord }
     ensures range { IsSpanInRange result }
 {
-    let Span { start, end } = whole_span();
-    Span {
-        start: later(start, ball_crossed(chord, false)),
-        end: earlier(end, ball_crossed(chord, true)),
-    }
+    let mut span = whole_span();
+    keep_later(&mut span.start, ball_crossed(chord, false));
+    keep_earlier(&mut span.end, ball_crossed(chord, true));
+    span
 }
 
 fn ball_crossed(chord: Chord, plus: bool) -> Crossed

@@ -7,12 +7,12 @@ pub loop-i-preserved : goal.loop-i-preserved
 loop-i-preserved c =
     let within = c.requires.order c.loop-i.i 0 c.loop-i-test.true in
     record {
-      front = front_met c.args.scene.now c.args.ray.now c.args.order.now c.loop-i.i within c.requires.leaves c.requires.placed c.loop-i.best c.in_ok-best.best c.loop-i.parts.items c.meet_region.new.parts.items
-          c.loop-i.invariant.front c.in_ok-best.ensures.met;
-      through = through_next c.args.scene.now c.args.ray.now c.args.order.now c.loop-i.i within c.loop-i.best c.in_ok-best.best c.loop-i.parts.items c.meet_region.new.parts.items c.loop-i.invariant.front
-          c.loop-i.invariant.through c.in_ok-best.ensures.met;
-      sound = c.in_ok-best.ensures.sound;
-      parts = c.in_ok-best.ensures.parts;
+      front = front_met c.args.scene.now c.args.ray.now c.args.order.now c.loop-i.i within c.requires.leaves c.requires.placed c.loop-i.best c.meet_region.new.best c.loop-i.parts.items c.meet_region.new.parts.items
+          c.loop-i.invariant.front c.in_ok-meet_region.ensures.met;
+      through = through_next c.args.scene.now c.args.ray.now c.args.order.now c.loop-i.i within c.loop-i.best c.meet_region.new.best c.loop-i.parts.items c.meet_region.new.parts.items c.loop-i.invariant.front
+          c.loop-i.invariant.through c.in_ok-meet_region.ensures.met;
+      sound = c.in_ok-meet_region.ensures.sound;
+      parts = c.in_ok-meet_region.ensures.parts;
     }
 
 pub returns-clause-front : goal.returns-clause-front

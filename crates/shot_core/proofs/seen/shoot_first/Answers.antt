@@ -4,9 +4,9 @@ use Rattle.bool_weave.specs.declared.woven.Woven.{Woven}
 use Rattle.bool_weave.specs.Cuts.{IsSegment}
 use Rattle.shot_core.specs.declared.front.Front.{Front}
 use Rattle.shot_core.specs.Steps.{IsHitOn}
-use Rattle.shot_core.specs.FirstSteps.{IsFront, IsFrontAt, IsThrough, IsPartOf, IsPartIn}
+use Rattle.shot_core.specs.FirstSteps.{IsFront, IsFrontAt, IsThrough, IsPartOf, IsPartIn, TurnsInFront}
 use Rattle.shot_core.proofs.Owning.{part_within}
-use Rattle.shot_core.proofs.Seeing.{nothing_seen, hit_is_on, seen_there}
+use Rattle.shot_core.proofs.Seeing.{nothing_seen, part_turns, hit_is_on, seen_there}
 use Rattle.shot_core.proofs.seen.shoot_first.Goals as goal
 
 pub returns-in_default-clause-seen : goal.returns-in_default-clause-seen
@@ -21,6 +21,16 @@ hit_at-requires-clause-parts c =
     (subst (λ ws. All (IsPartOf c.args.scene.now c.args.ray.now ws) c.front_of.new.parts.items) (sym c.deref.ensures.value) c.in_ok-front.ensures.parts) in
     let sound : All (λ (w : Woven). IsSegment w.seg) c.deref.result.now = subst (All (λ (w : Woven). IsSegment w.seg)) (sym c.deref.ensures.value) c.in_ok-front.ensures.sound in
     All-weaker (IsPartOf c.args.scene.now c.args.ray.now c.deref.result.now) (IsPartIn c.args.scene.now c.deref.result.now) (λ p i. part_within c.args.scene.now c.args.ray.now c.deref.result.now p sound i) c.deref-2.result.now parts
+
+pub hit_at-requires-clause-turns : goal.hit_at-requires-clause-turns
+hit_at-requires-clause-turns c =
+    let front : IsFrontAt c.args.scene.now c.args.ray.now c.args.order.now (length c.args.order.now) c.in-Some.front =
+    subst (IsFront c.args.scene.now c.args.ray.now c.args.order.now (length c.args.order.now)) c.in-Some.is c.in_ok-front.ensures.front in
+    let parts : All (IsPartOf c.args.scene.now c.args.ray.now c.deref.result.now) c.deref-2.result.now =
+    subst (All (IsPartOf c.args.scene.now c.args.ray.now c.deref.result.now)) (sym c.deref-2.ensures.value)
+    (subst (λ ws. All (IsPartOf c.args.scene.now c.args.ray.now ws) c.front_of.new.parts.items) (sym c.deref.ensures.value) c.in_ok-front.ensures.parts) in
+    All-weaker (IsPartOf c.args.scene.now c.args.ray.now c.deref.result.now) (TurnsInFront c.args.scene.now c.deref.result.now c.in-Some.front)
+    (λ p i. part_turns c.args.scene.now c.args.ray.now c.regions.ensures.leaves c.args.order.now c.requires.order c.in-Some.front front c.deref.result.now p i) c.deref-2.result.now parts
 
 pub level_of_hit-requires-clause-hit : goal.level_of_hit-requires-clause-hit
 level_of_hit-requires-clause-hit c =

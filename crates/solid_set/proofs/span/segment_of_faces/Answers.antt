@@ -1,4 +1,4 @@
-use Rattle.std.proofs.Common.{◌≡◌, ◌∙◌, ◌+◌, ◌<◌, sym, subst, take, length, arith, true, List, [], Option}
+use Rattle.std.proofs.Common.{◌≡◌, ◌∙◌, ◌+◌, ◌<◌, ap, sym, subst, take, length, arith, true, List, [], Option, Some, None, cond}
 use Rattle.plane_geom.specs.declared.plane.Plane.{Plane}
 use Rattle.solid_set.specs.Crossings.{is_missed_by}
 use Rattle.solid_set.specs.declared.span.Span.{Span}
@@ -12,16 +12,16 @@ loop-i-init c = record {
   made = subst (λ (s : Span). IsSpanOf c.args.ray.now [] s) (sym c.whole_span-span.ensures.value) (span_first c.args.ray.now);
 }
 
-pub returns-in_err-span-clause-value : goal.returns-in_err-span-clause-value
-returns-in_err-span-clause-value c =
+pub returns-then-not-cut_span-clause-value : goal.returns-then-not-cut_span-clause-value
+returns-then-not-cut_span-clause-value c =
     let ray = c.args.ray.now in
     let all = c.args.sides.now in
     let i = c.loop-i.i in
     let lt : c.loop-i.i < length c.args.sides.now = omega arith in
-    c.from_residual.ensures
-    ∙ sym (loop_missed ray all i
+    let cut = sym (ap (λ b. cond b (Some c.cut_span.new.span) None) c.if-not-cut_span.true) ∙ c.cut_span.ensures.value in
+    sym (loop_missed ray all i
     (at_none (is_missed_by ray (take (i + 1) all) ≡ true) (λ next. IsSpanOf ray (take (i + 1) all) next) _
-    (sym (loop_cut ray all i c.loop-i.span c.cut_span.result c.cut_span.ensures.value) ∙ c.in_err-span.was) (loop_next ray all i c.loop-i.span lt c.loop-i.invariant.made)))
+    (sym (loop_cut ray all i c.loop-i.span None cut)) (loop_next ray all i c.loop-i.span lt c.loop-i.invariant.made)))
 
 pub loop-i-preserved : goal.loop-i-preserved
 loop-i-preserved c =
@@ -29,10 +29,11 @@ loop-i-preserved c =
     let all = c.args.sides.now in
     let i = c.loop-i.i in
     let lt : c.loop-i.i < length c.args.sides.now = omega arith in
+    let cut = sym (ap (λ b. cond b (Some c.cut_span.new.span) None) c.if-not-cut_span.false) ∙ c.cut_span.ensures.value in
     record {
-      range = c.cut_span.ensures.range c.in_ok-span.span c.in_ok-span.was;
-      made = at_some (is_missed_by ray (take (i + 1) all) ≡ true) (λ next. IsSpanOf ray (take (i + 1) all) next) _ c.in_ok-span.span
-          (sym (loop_cut ray all i c.loop-i.span c.cut_span.result c.cut_span.ensures.value) ∙ c.in_ok-span.was) (loop_next ray all i c.loop-i.span lt c.loop-i.invariant.made);
+      range = c.cut_span.ensures.range;
+      made = at_some (is_missed_by ray (take (i + 1) all) ≡ true) (λ next. IsSpanOf ray (take (i + 1) all) next) _ c.cut_span.new.span
+          (sym (loop_cut ray all i c.loop-i.span (Some c.cut_span.new.span) cut)) (loop_next ray all i c.loop-i.span lt c.loop-i.invariant.made);
     }
 
 pub returns-clause-value : goal.returns-clause-value

@@ -1,5 +1,6 @@
 pub mod Cuts
 pub mod Masks
+pub mod Lines
 pub mod Claims
 pub mod Laws
 pub mod Tables

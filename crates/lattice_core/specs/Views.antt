@@ -6,7 +6,7 @@ use Rattle.lattice_core.specs.declared.ray.Dir.{Dir}
 use Rattle.lattice_core.specs.declared.ray.Dir.TheVariants.{PlusX, MinusX, PlusY, MinusY, PlusZ, MinusZ}
 use Rattle.lattice_core.specs.declared.view.View.{View}
 use Rattle.lattice_core.specs.declared.view.ViewFault.{ViewFault}
-use Rattle.lattice_core.specs.declared.view.ViewFault.TheVariants.{Pixels, Side, Cell, World}
+use Rattle.lattice_core.specs.declared.view.ViewFault.TheVariants.{Pixels, Side, Cell, Direction, World}
 use Rattle.lattice_core.specs.declared.limit.TheConstants.{WORLD, PICTURE_SIDE}
 use Rattle.lattice_core.specs.Limits.{IsWithin}
 use Rattle.lattice_core.specs.Units.{unit_of}
@@ -53,9 +53,10 @@ abbrev pub HasFault : View → ViewFault → Type 0
 HasFault view Pixels = (view.w ≡ 0) ⊎ (view.h ≡ 0)
 HasFault view Side = (PICTURE_SIDE < view.w) ⊎ (PICTURE_SIDE < view.h)
 HasFault view Cell = view.cell <ℤ pos 1
+HasFault view Direction = ⊥
 HasFault view World = StartsOutside view
 
--- the order in which a view's faults are looked for
+-- the order in which a view's faults are looked for; no view has a direction that is none
 abbrev pub fault_order : List ViewFault
 fault_order = Pixels ∷ Side ∷ Cell ∷ World ∷ []
 

@@ -1,7 +1,7 @@
 //! How large the numbers of a model may be. Each limit is a constant here, and other crates build theirs from these.
 
-ghost use Rattle.std.specs.Prelude.{◌≡◌, pos};
-ghost use Rattle.lattice_core.specs.declared.limit.TheConstants.{COORD, SHIFT, WORLD, FAR, PICTURE_SIDE, TILE_SIDE, VIEW_NUMBER};
+ghost use Rattle.std.specs.Prelude.{◌≡◌, ◌^◌, pos};
+ghost use Rattle.lattice_core.specs.declared.limit.TheConstants.{COORD, SHIFT, WORLD, FAR, REACH, WIDE, PICTURE_SIDE, TILE_SIDE, VIEW_NUMBER};
 
 /// The greatest size of a coordinate, a radius, a component of a half-space's normal or of a shift, in millimetres.
 pub const COORD: i64 = 16_384;
@@ -42,6 +42,8 @@ pub fn limit_laws()
     ensures shift { SHIFT ≡ pos 262144 }
     ensures world { WORLD ≡ pos 524288 }
     ensures ray { FAR ≡ pos 1048576 }
+    ensures points { REACH ≡ pos 1048576 }
+    ensures turned { WIDE ≡ pos (2 ^ 62) }
     ensures picture { PICTURE_SIDE ≡ 2048 }
     ensures tile { TILE_SIDE ≡ 16 }
     ensures view { VIEW_NUMBER ≡ pos 999999999 }

@@ -35,6 +35,10 @@ pub enum ViewFault {
     /// Its cell is less than 1 mm.
     #[error("cell below 1")]
     Cell,
+    /// Its direction is no primitive whole vector. The six directions of a view all are, so no view has this fault: it is
+    /// for single rays that go in other directions.
+    #[error("direction that is no primitive vector")]
+    Direction,
     /// The ray of one of its pixels starts outside the world: a coordinate of its origin is over `WORLD` in size.
     #[error("ray outside the world")]
     World,

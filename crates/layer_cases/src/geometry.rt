@@ -5,6 +5,7 @@ mod numbers;
 mod placements;
 mod planes;
 mod positions;
+mod quotients;
 mod segments;
 mod shown;
 mod solids;
@@ -36,6 +37,7 @@ fn answer_number(
         "surd" => positions::answer_surd(words, out),
         "fraction_text" => positions::answer_fraction_text(words, out),
         "surd_text" => positions::answer_surd_text(words, out),
+        "quotient_text" => quotients::answer_quotient_text(words, out),
         _ => return answer_set(alloc, kind, words, out),
     }
     Ok(())
@@ -52,6 +54,8 @@ fn answer_set(
         "order" => positions::answer_order(words, out),
         "sort" => positions::answer_sort(alloc, words, out),
         "distinct" => positions::answer_distinct(alloc, words, out),
+        "quotient" => quotients::answer_quotient(words, out),
+        "quotient_order" => quotients::answer_quotient_order(words, out),
         "hull" => boxes::answer_hull(words, out),
         "meet" => boxes::answer_meet(words, out),
         "box_meets_ray" => boxes::answer_box_meets_ray(words, out),

@@ -1,8 +1,9 @@
 -- The overlaps of regions on a ray.
-use Rattle.std.specs.Prelude.{◌<◌, ℕ, ◌+◌, ◌-◌, List, Option, Some, None, Bool, false, ◌&&◌, not, length, map, flat_map, slice_get}
+use Rattle.std.specs.Prelude.{◌<◌, ℕ, ℤ, ◌+◌, ◌-◌, List, Option, Some, None, Bool, false, ◌&&◌, not, length, map, flat_map, slice_get}
 use Rattle.std.specs.List.{find, filter_map, range_with_len}
 use Rattle.bool_weave.specs.declared.woven.Woven.{Woven}
-use Rattle.bool_weave.specs.Claims.{intervals_of}
+use Rattle.bool_weave.specs.Cuts.{ray_length}
+use Rattle.bool_weave.specs.Claims.{intervals_up_to}
 use Rattle.overlap_list.specs.declared.region.RegionClaims.{RegionClaims}
 use Rattle.overlap_list.specs.declared.overlap.OverlapRun.{OverlapRun}
 use Rattle.overlap_list.specs.declared.overlap.TheConstants.{MOST_PAIRS}
@@ -10,7 +11,7 @@ use Rattle.overlap_list.specs.declared.overlap.CheckFault.{CheckFault}
 use Rattle.overlap_list.specs.declared.overlap.CheckFault.TheVariants.{TooMany, Memory}
 use Rattle.overlap_list.specs.Winners.{claims_at}
 use Rattle.overlap_list.specs.Runs.{IntervalRun, runs_below, is_maximal}
-use Rattle.overlap_list.specs.Hits.{cut_at}
+use Rattle.overlap_list.specs.Hits.{cut_up_to}
 
 -- the places of two regions, the lower one first
 pub record RegionPair : Type 0 where
@@ -33,17 +34,26 @@ is_solid_at (Some r) k = not r.air && claims_at r k
 abbrev pub do_overlap_at : List RegionClaims → RegionPair → ℕ → Bool
 do_overlap_at regions pair k = is_solid_at (slice_get regions pair.one) k && is_solid_at (slice_get regions pair.two) k
 
-abbrev pub overlap_on : List Woven → RegionPair → Option IntervalRun → Option OverlapRun
-overlap_on woven pair None = None
-overlap_on woven pair (Some run) = Some (record { one = pair.one; two = pair.two; start = cut_at woven run.from; end = cut_at woven run.to })
+abbrev pub overlap_up_to : ℤ → List Woven → RegionPair → Option IntervalRun → Option OverlapRun
+overlap_up_to far woven pair None = None
+overlap_up_to far woven pair (Some run) = Some (record { one = pair.one; two = pair.two; start = cut_up_to far woven run.from; end = cut_up_to far woven run.to })
 
--- the first of the maximal runs of intervals that both regions of a pair claim
+abbrev pub overlap_on : List Woven → RegionPair → Option IntervalRun → Option OverlapRun
+overlap_on woven pair found = overlap_up_to ray_length woven pair found
+
+-- the first of the maximal runs of intervals that both regions of a pair claim, on a ray that ends so far
+abbrev pub first_overlap_up_to : ℤ → List Woven → List RegionClaims → RegionPair → Option OverlapRun
+first_overlap_up_to far woven regions pair = overlap_up_to far woven pair (find (is_maximal (do_overlap_at regions pair)) (runs_below (length (intervals_up_to far woven))))
+
 abbrev pub first_overlap : List Woven → List RegionClaims → RegionPair → Option OverlapRun
-first_overlap woven regions pair = overlap_on woven pair (find (is_maximal (do_overlap_at regions pair)) (runs_below (length (intervals_of woven))))
+first_overlap woven regions pair = first_overlap_up_to ray_length woven regions pair
 
 -- for each pair of places that overlaps, by the lower place and then the higher one
+abbrev pub overlaps_up_to : ℤ → List Woven → List RegionClaims → List OverlapRun
+overlaps_up_to far woven regions = filter_map (first_overlap_up_to far woven regions) (pairs_up_to (length regions - 1))
+
 abbrev pub overlaps_of : List Woven → List RegionClaims → List OverlapRun
-overlaps_of woven regions = filter_map (first_overlap woven regions) (pairs_up_to (length regions - 1))
+overlaps_of woven regions = overlaps_up_to ray_length woven regions
 
 -- there are too many of them, or there was no memory
 abbrev pub IsTooMany : ℕ → CheckFault → Type 0

@@ -16,7 +16,7 @@ sub_mul a b c =
     *ℤ_comm (a -ℤ b) c ∙ mul_sub c a b ∙ ap (λ (z : ℤ). z -ℤ (c *ℤ b)) (*ℤ_comm c a) ∙ ap (λ (z : ℤ). (a *ℤ c) -ℤ z) (*ℤ_comm c b)
 
 -- the outer factors change places
-turn_round : (a b c : ℤ) → (a *ℤ b) *ℤ c ≡ (c *ℤ b) *ℤ a
+pub turn_round : (a b c : ℤ) → (a *ℤ b) *ℤ c ≡ (c *ℤ b) *ℤ a
 turn_round a b c = mul_swap a b c ∙ ap (λ (z : ℤ). z *ℤ b) (*ℤ_comm a c) ∙ sym (mul_swap c b a)
 
 pub cross_first : (u v : V3) → dot_product (cross_product u v) u ≡ pos 0

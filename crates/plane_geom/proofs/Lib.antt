@@ -1,6 +1,8 @@
 pub mod BoolTests
 pub mod Sizes
 pub mod Cross
+pub mod Squares
+pub mod Lines
 pub mod Crossings
 pub mod Levels
 pub mod Placed

@@ -38,3 +38,11 @@ fits128 m z small h = fits_signed_from_abs w128 z (omega (arith, abs_of m z h))
 
 pub fits64 : (m : ℕ) (z : ℤ) → m < 2 ^ 63 → IsAtMost (pos m) z → FitsSigned w64 z
 fits64 m z small h = fits_signed_from_abs w64 z (omega (arith, abs_of m z h))
+
+-- a limit may be raised
+pub wider : (m n : ℕ) (v : V3) → m ≤ n → IsWithin (pos m) v → IsWithin (pos n) v
+wider m n v le h = record {
+  x = (omega (arith, ints, h.x.0, h.x.1), omega (arith, ints, h.x.0, h.x.1));
+  y = (omega (arith, ints, h.y.0, h.y.1), omega (arith, ints, h.y.0, h.y.1));
+  z = (omega (arith, ints, h.z.0, h.z.1), omega (arith, ints, h.z.0, h.z.1));
+}

@@ -1,5 +1,6 @@
 pub mod Vectors
 pub mod Edges
 pub mod Planes
+pub mod Chords
 pub mod Crossings
 pub mod Examples

@@ -68,18 +68,28 @@ placed_plane by plane =
     let n : V3 = turned by.turn.number plane.n in
     record { n = n; d = plane.d +ℤ dot_product n by.shift }
 
--- how fast n · p grows along a ray, and where it starts
+-- how fast n · p grows along a line o + t e, and where it starts
+abbrev pub slope_along : Plane → V3 → ℤ
+slope_along plane e = dot_product plane.n e
+
+abbrev pub start_at : Plane → V3 → ℤ
+start_at plane o = dot_product plane.n o
+
+-- the plane holds the point of the line at the fraction p / q
+abbrev pub PlaneHoldsAlong : Plane → V3 → V3 → ℤ → ℤ → Type 0
+PlaneHoldsAlong plane o e p q =
+    ((slope_along plane e ≢ pos 0) × ((start_at plane o *ℤ q) +ℤ (slope_along plane e *ℤ p)) ≤ℤ (plane.d *ℤ q))
+    ⊎ ((slope_along plane e ≡ pos 0) × ((start_at plane o <ℤ plane.d) ⊎ ((start_at plane o ≡ plane.d) × FirstIsNegative plane.n)))
+
+-- the same of a ray
 abbrev pub slope_on : Plane → Ray → ℤ
-slope_on plane ray = dot_product plane.n (unit_of ray.dir)
+slope_on plane ray = slope_along plane (unit_of ray.dir)
 
 abbrev pub start_on : Plane → Ray → ℤ
-start_on plane ray = dot_product plane.n ray.origin
+start_on plane ray = start_at plane ray.origin
 
--- the plane holds the point of the ray at the fraction p / q
 abbrev pub PlaneHolds : Plane → Ray → ℤ → ℤ → Type 0
-PlaneHolds plane ray p q =
-    ((slope_on plane ray ≢ pos 0) × ((start_on plane ray *ℤ q) +ℤ (slope_on plane ray *ℤ p)) ≤ℤ (plane.d *ℤ q))
-    ⊎ ((slope_on plane ray ≡ pos 0) × ((start_on plane ray <ℤ plane.d) ⊎ ((start_on plane ray ≡ plane.d) × FirstIsNegative plane.n)))
+PlaneHolds plane ray p q = PlaneHoldsAlong plane ray.origin (unit_of ray.dir) p q
 
 -- from which fraction on, or up to which one, a plane holds a ray
 abbrev pub IsCrossing : Plane → Ray → Crossing → Type 0

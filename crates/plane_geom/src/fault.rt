@@ -20,4 +20,7 @@ pub enum ShapeFault {
     /// The normal is zero.
     #[error("zero normal")]
     ZeroNormal,
+    /// Not exactly one component of the height differs from 0.
+    #[error("axis")]
+    Axis,
 }

@@ -35,7 +35,7 @@ impl Plane {
     ghost use Rattle.lattice_core.specs.Limits.{IsAtMost, IsWithin};
     ghost use Rattle.plane_geom.specs.Crossings.{crossing_of};
     ghost use Rattle.plane_geom.specs.Edges.{HoldsAlong};
-    ghost use Rattle.plane_geom.specs.Planes.{IsSolidPlane, IsWorldPlane, AreOnOneLine, IsThrough, plane_through, placed_plane, KeepsHeights, slope_on, start_on, height_over, IsCrossing, IsSmallCrossing, level_of};
+    ghost use Rattle.plane_geom.specs.Planes.{IsSolidPlane, IsWorldPlane, AreOnOneLine, IsThrough, plane_of, plane_through, placed_plane, KeepsHeights, slope_on, start_on, height_over, IsCrossing, IsSmallCrossing, level_of};
 
     /// The plane through three points, with the normal `(b - a) × (c - a)`, or `None` where they lie on one line.
     pub fn through(a: V3, b: V3, c: V3) -> Option<Plane>
@@ -53,6 +53,16 @@ impl Plane {
         } else {
             Some(Plane { n, d: dot(n, a) })
         }
+    }
+
+    /// The plane through a point with a normal whose components are at most 1 in size.
+    pub fn at(n: V3, p: V3) -> Plane
+        requires normal { IsWithin (pos 1) n }
+        requires point { IsWithin (pos 2 *ℤ COORD) p }
+        ensures value { result ≡ plane_of n p }
+        ensures size { IsSolidPlane result }
+    {
+        Plane { n, d: dot(n, p) }
     }
 
     /// The plane of the points that the placement takes this plane's points to.

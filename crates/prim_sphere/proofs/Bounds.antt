@@ -1,20 +1,11 @@
 -- The box of a sphere.
-use Rattle.std.proofs.Common.{ℤ, pos, ◌+ℤ◌, ◌-ℤ◌, ◌*ℤ◌, ◌<ℤ◌, ◌≤ℤ◌, inl, arith}
+use Rattle.std.proofs.Common.{ℤ, pos, ◌+ℤ◌, ◌-ℤ◌, ◌*ℤ◌, ◌≤ℤ◌, inl, arith}
 use Rattle.std.proofs.lemmas.Int.{ints}
 use Rattle.lattice_core.specs.declared.vector.V3.{V3}
 use Rattle.lattice_core.specs.Boxes.{IsTidy}
-use Rattle.lattice_core.proofs.Products.{add_mul, mul_at_most, square_at_least}
-use Rattle.plane_geom.proofs.Cross.{sub_mul}
+use Rattle.lattice_core.proofs.Products.{square_at_least}
 use Rattle.prim_sphere.specs.Spheres.{squared, HoldsPointsOf, IsRadius, box_of}
-use Rattle.prim_sphere.proofs.Squares.{square_between}
-
-side : (v c r w : ℤ) → pos 0 ≤ℤ r → pos 0 <ℤ w → squared (v -ℤ (c *ℤ w)) ≤ℤ squared (r *ℤ w) → (((c -ℤ r) *ℤ w) ≤ℤ v) × (v ≤ℤ ((c +ℤ r) *ℤ w))
-side v c r w high some le =
-    let more : (pos 0 *ℤ w) ≤ℤ (r *ℤ w) = mul_at_most (pos 0) r w (omega (arith, ints)) high in
-    let found = square_between (v -ℤ (c *ℤ w)) (r *ℤ w) (omega (arith, ints, more)) le in
-    let down = sub_mul c r w in
-    let up = add_mul c r w in
-    (omega (arith, ints, found.0, down), omega (arith, ints, found.1, up))
+use Rattle.plane_geom.proofs.Lines.{within_radius}
 
 first_small : (x y z t : ℤ) → pos 0 ≤ℤ y → pos 0 ≤ℤ z → ((x +ℤ y) +ℤ z) ≤ℤ t → x ≤ℤ t
 first_small x y z t low low' le = omega (arith, ints)
@@ -31,9 +22,9 @@ holds_points c r radius v w some h =
     let x : ℤ = v.x -ℤ (c.x *ℤ w) in
     let y : ℤ = v.y -ℤ (c.y *ℤ w) in
     let z : ℤ = v.z -ℤ (c.z *ℤ w) in (
-      side v.x c.x r w high some (first_small (squared x) (squared y) (squared z) _ (square_at_least y) (square_at_least z) h),
-      side v.y c.y r w high some (second_small (squared x) (squared y) (squared z) _ (square_at_least x) (square_at_least z) h),
-      side v.z c.z r w high some (third_small (squared x) (squared y) (squared z) _ (square_at_least x) (square_at_least y) h),
+      within_radius v.x c.x r w high some (first_small (squared x) (squared y) (squared z) _ (square_at_least y) (square_at_least z) h),
+      within_radius v.y c.y r w high some (second_small (squared x) (squared y) (squared z) _ (square_at_least x) (square_at_least z) h),
+      within_radius v.z c.z r w high some (third_small (squared x) (squared y) (squared z) _ (square_at_least x) (square_at_least y) h),
     )
 
 pub box_tidy : (c : V3) (r : ℤ) → IsRadius r → IsTidy (box_of c r)

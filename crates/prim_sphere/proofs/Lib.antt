@@ -1,4 +1,3 @@
-pub mod Squares
 pub mod Chords
 pub mod Bounds
 pub mod Examples

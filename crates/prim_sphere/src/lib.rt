@@ -3,9 +3,8 @@
 #![tactic(auto)]
 
 mod chord;
-mod limit;
 mod sphere;
 
-pub use chord::{Chord, bounds_at, crossed_at, level_at};
-pub use limit::REMOTE;
+pub use chord::{bounds_at, crossed_at, level_at};
+pub use plane_geom::Chord;
 pub use sphere::Sphere;

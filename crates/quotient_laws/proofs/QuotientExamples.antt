@@ -5,10 +5,10 @@ use Rattle.surd_order.specs.declared.position.Pos.{Pos}
 use Rattle.surd_order.specs.declared.position.Pos.TheVariants.{Frac, Surd}
 use Rattle.surd_order.specs.Order.{Precedes}
 use Rattle.solid_set.proofs.Separated.{all_more, pairs_more}
-use Rattle.quotient_laws.specs.Quotients.{Quotient, IsQuotient, IsAtMostQuotient, QuotientPrecedes, as_quotient}
+use Rattle.surd_quot.specs.Quotients.{Quotient, IsQuotient, IsAtMostQuotient, QuotientPrecedes, as_quotient}
 use Rattle.quotient_laws.specs.Separation.{LiesBetweenQuotients, HasFractionsBetweenQuotients}
-use Rattle.quotient_laws.proofs.Quotients.{at_most_once, at_most_again}
-use Rattle.quotient_laws.proofs.Ordered.{quotients_are_ordered}
+use Rattle.surd_quot.proofs.Quotients.{at_most_once, at_most_again}
+use Rattle.surd_quot.proofs.Ordered.{quotients_are_ordered}
 
 abbrev fraction : ℤ → ℤ → Quotient
 fraction p q = as_quotient (Frac p q)

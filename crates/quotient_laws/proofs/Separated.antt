@@ -1,7 +1,7 @@
 -- Between two quotients lie fractions: one by what lies between positions, and more by one after the other.
-use Rattle.std.proofs.Common.{◌≡◌, zero, suc, ℤ, pos, ◌*ℤ◌, ◌<ℤ◌, ◌≤ℤ◌, [], ◌∷◌, ap, ◌∙◌, refl, arith}
+use Rattle.std.proofs.Common.{◌≡◌, zero, suc, ℤ, pos, ◌*ℤ◌, ◌<ℤ◌, ◌≤ℤ◌, [], ◌∷◌, ap, refl, arith}
 use Rattle.std.proofs.lemmas.Int.{ints, by_lt_z}
-use Rattle.lattice_core.proofs.Products.{mul_assoc, mul_swap, mul_below, mul_at_most}
+use Rattle.wide_core.proofs.Products.{mul_at_most}
 use Rattle.surd_order.specs.declared.position.Pos.{Pos}
 use Rattle.surd_order.specs.declared.position.Pos.TheVariants.{Frac, Surd}
 use Rattle.surd_order.specs.Order.{Precedes, IsPlace}
@@ -10,22 +10,10 @@ use Rattle.surd_order.proofs.AtMostLaws.{at_most_down}
 use Rattle.surd_order.proofs.OrderLaws.{before_fraction, not_before_fraction}
 use Rattle.solid_set.proofs.Between.{between_places}
 use Rattle.solid_set.proofs.Separated.{all_more, pairs_more}
-use Rattle.quotient_laws.specs.Quotients.{Quotient, IsQuotient, IsAtMostQuotient, QuotientPrecedes, as_quotient}
+use Rattle.surd_quot.specs.Quotients.{Quotient, IsQuotient, IsAtMostQuotient, QuotientPrecedes, as_quotient}
 use Rattle.quotient_laws.specs.Separation.{LiesBetweenQuotients, QuotientsAreSeparated}
-use Rattle.quotient_laws.proofs.Quotients.{at_most_once, at_most_again, plain_order}
-
-pub product_positive : (m n : ℤ) → pos 0 <ℤ m → pos 0 <ℤ n → pos 0 <ℤ (m *ℤ n)
-product_positive m n some some' = let it : (pos 0 *ℤ n) <ℤ (m *ℤ n) = mul_below (pos 0) m n some' some in omega (arith, ints, it)
-
-pub mul_turn : (a b : ℤ) → a *ℤ b ≡ b *ℤ a
-mul_turn a b = omega (arith, ints)
-
--- products of three in another order
-pub turned : (n p q : ℤ) → (n *ℤ p) *ℤ q ≡ (p *ℤ q) *ℤ n
-turned n p q = ap (λ x. x *ℤ q) (mul_turn n p) ∙ mul_swap p n q
-
-pub outside : (n p q : ℤ) → (n *ℤ p) *ℤ q ≡ p *ℤ (n *ℤ q)
-outside n p q = ap (λ x. x *ℤ q) (mul_turn n p) ∙ mul_assoc p n q
+use Rattle.surd_quot.proofs.Factors.{product_positive, turned, outside}
+use Rattle.surd_quot.proofs.Quotients.{at_most_once, at_most_again, plain_order}
 
 -- a fraction that is not at most a quotient comes after it
 comes_after : (u : Quotient) (p q : ℤ) → pos 0 <ℤ q → ¬ (IsAtMostQuotient p q u) → QuotientPrecedes u (as_quotient (Frac p q))

@@ -1,3 +1,1 @@
-pub mod Quotients
 pub mod Separation
-pub mod Examples

@@ -1,9 +1,9 @@
--- Between two different quotient positions lie as many fractions as one likes.
+-- Between two different quotients lie as many fractions as one likes.
 use Rattle.std.specs.Prelude.{◌≡◌, ℕ, List, length, All, AllPairs}
 use Rattle.surd_order.specs.declared.position.Pos.{Pos}
 use Rattle.surd_order.specs.Order.{Precedes, IsPlace}
 use Rattle.surd_order.specs.Spelling.{IsFraction}
-use Rattle.quotient_laws.specs.Quotients.{Quotient, IsQuotient, QuotientPrecedes, as_quotient}
+use Rattle.surd_quot.specs.Quotients.{Quotient, IsQuotient, QuotientPrecedes, as_quotient}
 
 -- z is a fraction strictly between the two quotients
 pub record LiesBetweenQuotients (u v : Quotient) (z : Pos) : Type 0 where

@@ -7,6 +7,7 @@ use Rattle.surd_order.specs.declared.position.Pos.TheVariants.{Frac}
 use Rattle.surd_order.specs.Order.{Precedes, SamePlace, IsPlace}
 use Rattle.surd_order.proofs.LawProofs.{outcome, is_kept_by_same_place, places_have_one_spelling}
 use Rattle.surd_order.proofs.OrderLaws.{asymmetric, same_symm, transitive}
+pub use Rattle.solid_set.proofs.Places.{ArePlaces}
 use Rattle.solid_set.specs.HitPlaces.{IsAtOneOf}
 use Rattle.solid_set.specs.Segments.{ray_start, ray_end}
 use Rattle.solid_set.proofs.Foremost.{Has as HasPlace}
@@ -31,11 +32,6 @@ HasAround (s ∷ ss) n x = IsAround s n x ⊎ HasAround ss n x
 abbrev pub AreGood : List Stretch → Type 0
 AreGood [] = Unit {0}
 AreGood (s ∷ ss) = IsStretch s × ((t : Stretch) → Has ss t → EndsBefore s t) × AreGood ss
-
--- positions that are all places
-abbrev pub ArePlaces : List Pos → Type 0
-ArePlaces [] = Unit {0}
-ArePlaces (x ∷ xs) = IsPlace x × ArePlaces xs
 
 has_place : (xs : List Pos) → ArePlaces xs → (x : Pos) → HasPlace xs x → IsPlace x
 has_place [] places x has = absurd has

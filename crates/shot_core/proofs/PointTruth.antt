@@ -1,24 +1,16 @@
 -- The partitions of a ray are the one list of stretches that tells what lies at its points.
-use Rattle.std.proofs.Common.{◌≡◌, ◌<◌, ℕ, zero, suc, ℤ, pos, negsuc, List, [], ◌∷◌, ◌++◌, length, flat_map, Option, Some, None, All, AllPairs, ap, sym, subst, refl, inl, inr, arith, ◌≤◌, map}
+use Rattle.std.proofs.Common.{◌≡◌, ◌<◌, ℕ, zero, suc, List, [], ◌∷◌, ◌++◌, length, flat_map, All, AllPairs, ap, sym, subst, refl, inl, inr, arith, ◌≤◌, map}
 use Rattle.std.proofs.lemmas.Bool.{cases_lt}
 use Rattle.std.proofs.lemmas.Int.{ints}
 use Rattle.std.proofs.lemmas.List.Elements.{All-map}
 use Rattle.lattice_core.specs.declared.ray.Ray.{Ray}
-use Rattle.plane_geom.specs.declared.plane.Plane.{Plane}
-use Rattle.plane_geom.specs.declared.plane.Crossing.{Crossing}
-use Rattle.plane_geom.specs.declared.plane.Crossing.TheVariants.{Enters, Leaves, Holds, Misses}
-use Rattle.plane_geom.specs.Crossings.{crossing_of}
-use Rattle.plane_geom.specs.Planes.{IsCrossing}
-use Rattle.plane_geom.proofs.Unique.{crossing_is}
-use Rattle.prim_sphere.specs.Spheres.{nearest_on, half_chord_squared}
 use Rattle.surd_order.specs.declared.position.Pos.{Pos}
 use Rattle.surd_order.specs.declared.position.Pos.TheVariants.{Frac}
 use Rattle.surd_order.specs.Order.{IsPlace, SamePlace}
 use Rattle.surd_order.proofs.OrderLaws.{asymmetric, same_symm, same_refl}
-use Rattle.solid_set.specs.declared.surface.Surface.{Surface}
-use Rattle.solid_set.specs.declared.surface.Surface.TheVariants.{Planes, HalfSpace, Ball}
-use Rattle.solid_set.specs.HitPlaces.{crossing_places, side_places, root_places, surface_places, IsAtOneOf}
+use Rattle.solid_set.specs.HitPlaces.{surface_places, IsAtOneOf}
 use Rattle.solid_set.proofs.HitPlaceLaws.{behind}
+use Rattle.solid_set.proofs.Places.{places_append, surface_is_placed}
 use Rattle.bool_weave.specs.declared.woven.Woven.{Woven}
 use Rattle.bool_weave.specs.Claims.{intervals_of}
 use Rattle.bool_weave.proofs.Sorted.{Has, contains_from_has}
@@ -41,31 +33,6 @@ use Rattle.shot_core.proofs.OneList.{IsAround, HasAround, AreGood, ArePlaces, st
 use Rattle.shot_core.proofs.Pointing.{at_of, at_left, at_right, any_from, any_to, on_ray, rises, tells_points}
 
 -- the places of hits are places
-places_append : (xs ys : List Pos) → ArePlaces xs → ArePlaces ys → ArePlaces (xs ++ ys)
-places_append [] ys h g = g
-places_append (x ∷ xs) ys h g = (h.0, places_append xs ys h.1 g)
-
-crossing_is_place : (plane : Plane) (ray : Ray) (c : Crossing) → IsCrossing plane ray c → ArePlaces (crossing_places c)
-crossing_is_place plane ray (Enters p q) h = (h.2, tt)
-crossing_is_place plane ray (Leaves p q) h = (h.2, tt)
-crossing_is_place plane ray Holds h = tt
-crossing_is_place plane ray Misses h = tt
-
-sides_are_places : (ray : Ray) (sides : List (Option Plane)) → ArePlaces (side_places ray sides)
-sides_are_places ray [] = tt
-sides_are_places ray (None ∷ sides) = sides_are_places ray sides
-sides_are_places ray (Some plane ∷ sides) =
-    places_append (crossing_places (crossing_of plane ray)) (side_places ray sides) (crossing_is_place plane ray (crossing_of plane ray) (crossing_is plane ray)) (sides_are_places ray sides)
-
-roots_are_places : (a k : ℤ) → ArePlaces (root_places a k)
-roots_are_places a (pos k) = (tt, (tt, tt))
-roots_are_places a (negsuc k) = tt
-
-surface_is_placed : (surface : Surface) (ray : Ray) → ArePlaces (surface_places surface ray)
-surface_is_placed (Planes sides) ray = sides_are_places ray sides
-surface_is_placed (HalfSpace plane) ray = sides_are_places ray (Some plane ∷ [])
-surface_is_placed (Ball centre radius) ray = roots_are_places (nearest_on centre ray) (half_chord_squared centre radius ray)
-
 instances_placed : (ray : Ray) (xs : List Instance) → ArePlaces (flat_map (λ (i : Instance). surface_places i.surface ray) xs)
 instances_placed ray [] = tt
 instances_placed ray (x ∷ xs) = places_append (surface_places x.surface ray) (flat_map (λ (i : Instance). surface_places i.surface ray) xs) (surface_is_placed x.surface ray) (instances_placed ray xs)

@@ -1,16 +1,17 @@
 -- What a ray meets first of the regions without air.
-use Rattle.std.specs.Prelude.{◌≡◌, ◌<◌, ◌+◌, ℕ, List, [], ◌∷◌, Option, Some, None, Bool, false, not, All, Contains, length, slice_get, slice_index_or}
+use Rattle.std.specs.Prelude.{◌≡◌, ◌<◌, ◌+◌, ℕ, ℤ, List, [], ◌∷◌, Option, Some, None, Bool, false, not, All, Contains, length, slice_get, slice_index_or}
 use Rattle.std.specs.List.{find}
 use Rattle.std.specs.Option.{option_map}
 use Rattle.lattice_core.specs.declared.ray.Ray.{Ray}
 use Rattle.surd_order.specs.declared.position.Pos.{Pos}
 use Rattle.bool_weave.specs.declared.woven.Woven.{Woven}
+use Rattle.bool_weave.specs.Cuts.{ray_length}
 use Rattle.bool_weave.specs.Behind.{claims_behind, claims_before}
 use Rattle.overlap_list.specs.Firsts.{TreeRegion, Start, start_at, some_solid_behind, IsFirstPlace}
 use Rattle.shot_core.specs.declared.shot.Lit.{Lit}
 use Rattle.shot_core.specs.declared.first.Seen.{Seen}
 use Rattle.shot_core.specs.Regions.{RegionBody, Region, HaveInstances, has_air, firsts_from}
-use Rattle.shot_core.specs.Shots.{woven_from, woven_of, level_of_hit, lit_of}
+use Rattle.shot_core.specs.Shots.{woven_from, woven_of, level_of_hit, lit_up_to}
 
 abbrev pub is_solid : Option Region → Bool
 is_solid None = false
@@ -20,9 +21,12 @@ is_solid (Some r) = not (has_air r.body)
 abbrev pub first_of : List Region → List Lit → Option Lit
 first_of regions lit = find (λ l. is_solid (slice_get regions l.region)) lit
 
--- the first partition of the ray whose region has no air
+-- the first partition, on a ray that ends so far, whose region has no air
+abbrev pub first_seen_up_to : ℤ → List Region → Ray → Option Lit
+first_seen_up_to far regions ray = first_of regions (lit_up_to far regions ray)
+
 abbrev pub first_seen : List Region → Ray → Option Lit
-first_seen regions ray = first_of regions (lit_of regions ray)
+first_seen regions ray = first_seen_up_to ray_length regions ray
 
 -- each number below a count, in whatever order
 pub record IsOrderOf (count : ℕ) (order : List ℕ) : Type 0 where

@@ -13,7 +13,7 @@ use Rattle.surd_order.proofs.FractionSurdOrder.{difference_ordered}
 use Rattle.surd_order.proofs.AtMostLaws.{at_most_or_not}
 use Rattle.surd_order.proofs.OrderLaws.{before_fraction, not_before_fraction}
 use Rattle.prim_sphere.specs.Spheres.{squared, IsNear}
-use Rattle.prim_sphere.proofs.Squares.{square_of_opposite}
+use Rattle.plane_geom.proofs.Squares.{square_of_opposite}
 
 -- m is at most √n, by the order of m and √n
 not_above : (r : Ordering) (m n : ℤ) → IsRootOrder r m n → r ≡ Greater → ¬ ((m *ℤ m) ≤ℤ n)

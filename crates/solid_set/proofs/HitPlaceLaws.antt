@@ -23,7 +23,7 @@ use Rattle.plane_geom.specs.Planes.{placed_plane}
 use Rattle.prim_arb8.specs.Faces.{planes_of}
 use Rattle.prim_sphere.specs.Spheres.{squared, nearest_on, half_chord_squared, chord_of, IsNear}
 use Rattle.prim_sphere.proofs.Chords.{held_near}
-use Rattle.prim_sphere.proofs.Squares.{square_none}
+use Rattle.plane_geom.proofs.Squares.{square_none}
 use Rattle.surd_order.specs.declared.position.Pos.{Pos}
 use Rattle.surd_order.specs.declared.position.Pos.TheVariants.{Frac, Surd}
 use Rattle.surd_order.specs.declared.position.Seg.{Seg}

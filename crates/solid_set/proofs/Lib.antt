@@ -12,6 +12,7 @@ pub mod BallLaws
 pub mod SurfaceLaws
 pub mod Landing
 pub mod Enclosed
+pub mod Places
 pub mod HitPlaceLaws
 pub mod Between
 pub mod Separated

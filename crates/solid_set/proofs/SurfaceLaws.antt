@@ -11,7 +11,7 @@ use Rattle.lattice_core.specs.declared.vector.V3.{V3}
 use Rattle.lattice_core.specs.declared.ray.Ray.{Ray}
 use Rattle.plane_geom.specs.declared.plane.Plane.{Plane}
 use Rattle.plane_geom.specs.Planes.{slope_on}
-use Rattle.prim_sphere.specs.declared.chord.Chord.{Chord}
+use Rattle.plane_geom.specs.declared.chord.Chord.{Chord}
 use Rattle.prim_sphere.specs.Spheres.{chord_at, HoldsBetween, HoldsOnceAtMost}
 use Rattle.prim_sphere.proofs.Chords.{held_at, missed_at}
 use Rattle.surd_order.specs.declared.position.Pos.{Pos}

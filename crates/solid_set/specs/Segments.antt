@@ -1,5 +1,5 @@
 -- The segment between whole lists of crossings.
-use Rattle.std.specs.Prelude.{ℕ, pos, Bool, true, false, cond, not, List, [], ◌∷◌, map, Option, Some, None}
+use Rattle.std.specs.Prelude.{ℕ, ℤ, pos, Bool, true, false, cond, not, List, [], ◌∷◌, map, Option, Some, None}
 use Rattle.std.specs.List.{find, list_all}
 use Rattle.std.specs.Ordering.{is_lt, is_eq, is_gt}
 use Rattle.lattice_core.specs.declared.ray.Ray.{Ray}
@@ -10,7 +10,7 @@ use Rattle.surd_order.specs.declared.position.Pos.TheVariants.{Frac, Surd}
 use Rattle.surd_order.specs.declared.position.Seg.{Seg}
 use Rattle.surd_order.specs.PlaceOrder.{place_cmp}
 use Rattle.surd_order.specs.Spelled.{spelled}
-use Rattle.prim_sphere.specs.declared.chord.Chord.{Chord}
+use Rattle.plane_geom.specs.declared.chord.Chord.{Chord}
 use Rattle.prim_sphere.specs.Spheres.{chord_at}
 use Rattle.solid_set.specs.declared.crossed.Crossed.{Crossed}
 use Rattle.solid_set.specs.declared.surface.Surface.{Surface}
@@ -21,8 +21,11 @@ use Rattle.solid_set.specs.Crossings.{entering_from, leaving_from, is_missed_by}
 abbrev pub ray_start : Pos
 ray_start = Frac (pos 0) (pos 1)
 
+abbrev pub end_at : ℤ → Pos
+end_at far = Frac far (pos 1)
+
 abbrev pub ray_end : Pos
-ray_end = Frac FAR (pos 1)
+ray_end = end_at FAR
 
 abbrev pub comes_after : Pos → Pos → Bool
 comes_after x y = is_gt (place_cmp x y)
@@ -64,20 +67,27 @@ face_at x crossings = face_or_none (find (λ c. is_eq (place_cmp c.place x)) cro
 abbrev pub start_of : List Crossed → Pos
 start_of entering = greatest ray_start (places_of entering)
 
+-- on a ray that ends so far
+abbrev pub end_up_to : ℤ → List Crossed → Pos
+end_up_to far leaving = least (end_at far) (places_of leaving)
+
 abbrev pub end_of : List Crossed → Pos
-end_of leaving = least ray_end (places_of leaving)
+end_of leaving = end_up_to FAR leaving
 
 -- from the greatest of the ray's start and the entering crossings to the least of its end and the leaving ones
-abbrev pub segment_between : List Crossed → List Crossed → Option Seg
-segment_between entering leaving =
-    cond (is_lt (place_cmp (start_of entering) (end_of leaving)))
+abbrev pub segment_between_up_to : ℤ → List Crossed → List Crossed → Option Seg
+segment_between_up_to far entering leaving =
+    cond (is_lt (place_cmp (start_of entering) (end_up_to far leaving)))
     (Some (record {
       start = spelled (start_of entering);
       start_face = face_at (start_of entering) entering;
-      end = spelled (end_of leaving);
-      end_face = face_at (end_of leaving) leaving;
+      end = spelled (end_up_to far leaving);
+      end_face = face_at (end_up_to far leaving) leaving;
     }))
     None
+
+abbrev pub segment_between : List Crossed → List Crossed → Option Seg
+segment_between entering leaving = segment_between_up_to FAR entering leaving
 
 -- the part of a ray that planes hold, with the faces numbered from 1 on
 abbrev pub segment_through : List (Option Plane) → Ray → Option Seg
@@ -115,6 +125,10 @@ is_missed (Planes sides) ray = is_missed_by ray sides
 is_missed (HalfSpace plane) ray = is_missed_by ray (Some plane ∷ [])
 is_missed (Ball centre radius) ray = is_no_chord (chord_at centre radius ray)
 
+-- the segment that a surface encloses of a ray that ends so far
+abbrev pub segment_up_to : ℤ → Surface → Ray → Option Seg
+segment_up_to far surface ray = cond (is_missed surface ray) None (segment_between_up_to far (entering surface ray) (leaving surface ray))
+
 -- the segment of a ray that a surface encloses
 abbrev pub segment_of : Surface → Ray → Option Seg
-segment_of surface ray = cond (is_missed surface ray) None (segment_between (entering surface ray) (leaving surface ray))
+segment_of surface ray = segment_up_to FAR surface ray

@@ -7,7 +7,7 @@ use Rattle.lattice_core.specs.declared.ray.Ray.{Ray}
 use Rattle.plane_geom.specs.declared.plane.Plane.{Plane}
 use Rattle.plane_geom.specs.declared.plane.Crossing.{Crossing}
 use Rattle.plane_geom.specs.declared.plane.Crossing.TheVariants.{Enters, Leaves, Holds, Misses}
-use Rattle.prim_sphere.specs.declared.chord.Chord.{Chord}
+use Rattle.plane_geom.specs.declared.chord.Chord.{Chord}
 use Rattle.surd_order.specs.declared.position.Pos.{Pos}
 use Rattle.surd_order.specs.declared.position.Pos.TheVariants.{Frac, Surd}
 use Rattle.surd_order.specs.declared.position.Seg.{Seg}

@@ -16,8 +16,7 @@ ghost use Rattle.solid_set.specs.Spans.{IsSpanInRange, IsCrossingInRange, chosen
 
 use crate::crossed::Crossed;
 use lattice_core::{FAR, Ray, V3};
-use plane_geom::{Crossing, Plane};
-use prim_sphere::Chord;
+use plane_geom::{Chord, Crossing, Plane};
 use std::cmp::Ordering;
 use surd_order::{Pos, Seg};
 

@@ -3,14 +3,14 @@ ghost use Rattle.std.specs.Int.RustNames.{unsigned_abs};
 ghost use Rattle.std.specs.Ordering.{int_cmp};
 ghost use Rattle.surd_order.specs.Order.{IsOrderOf};
 ghost use Rattle.surd_order.specs.PlaceOrder.{place_cmp};
-ghost use Rattle.surd_order.specs.Range.{IsInRange, IsFractionInRange, IsSurdInRange};
+ghost use Rattle.surd_order.specs.Range.{IsInRange, IsFractionInRange, IsSurdInRange, AreNear};
 ghost use Rattle.surd_order.specs.Roots.{IsRootOrder};
 
 use crate::{Pos, WHOLE_LIMIT};
 use std::cmp::Ordering;
 
 /// The exact product of two numbers of at most 64 bits, which one multiplication gives.
-fn product(a: i128, b: i128) -> i128
+pub fn product(a: i128, b: i128) -> i128
     requires first { unsigned_abs a < 2 ^ 63 }
     requires second { unsigned_abs b < 2 ^ 63 }
     ensures { result ≡ a *ℤ b }
@@ -18,7 +18,8 @@ fn product(a: i128, b: i128) -> i128
     (a as i64) as i128 * (b as i64) as i128
 }
 
-fn cmp_fractions(p: i128, q: i128, r: i128, s: i128) -> Ordering
+/// The order of `p / q` and `r / s`, which is that of their cross products.
+pub fn cmp_fractions(p: i128, q: i128, r: i128, s: i128) -> Ordering
     requires p_size { unsigned_abs p < 2 ^ 63 }
     requires q_size { unsigned_abs q < 2 ^ 63 }
     requires r_size { unsigned_abs r < 2 ^ 63 }
@@ -30,7 +31,7 @@ fn cmp_fractions(p: i128, q: i128, r: i128, s: i128) -> Ordering
 
 /// The order of `m` and `√n`: a negative number is below every root, and else the squares decide, which
 /// are below 2^127.
-fn cmp_root(m: i128, n: u128) -> Ordering
+pub fn cmp_root(m: i128, n: u128) -> Ordering
     requires { unsigned_abs m ≤ 5 * 2 ^ 61 }
     ensures { IsRootOrder result m (pos n) }
 {
@@ -42,11 +43,12 @@ fn cmp_root(m: i128, n: u128) -> Ordering
 }
 
 /// `k q²`, whose root is `q √k`.
-fn scaled_square(k: u64, q: i128) -> u128
-    requires k_size { k < 2 ^ 36 }
+pub fn scaled_square(k: u64, q: i128) -> u128
+    requires k_size { k < 2 ^ 41 }
     requires q_positive { pos 0 ≤ℤ q }
-    requires q_size { unsigned_abs q < 2 ^ 40 }
-    ensures { pos result ≡ pos k *ℤ (q *ℤ q) }
+    requires q_size { unsigned_abs q < 2 ^ 42 }
+    ensures value { pos result ≡ pos k *ℤ (q *ℤ q) }
+    ensures size { result < 2 ^ 126 }
 {
     let side = (q as u64) as u128;
     side * side * k as u128
@@ -65,10 +67,9 @@ fn offset(p: i128, q: i128, a: i64) -> i128
 /// How far `b` is above `a`.
 fn distance(a: i64, b: i64) -> u64
     requires order { a ≤ℤ b }
-    requires a_size { unsigned_abs a < WHOLE_LIMIT }
-    requires b_size { unsigned_abs b < WHOLE_LIMIT }
+    requires near { unsigned_abs (b -ℤ a) < 2 ^ 28 }
     ensures apart { b ≡ a +ℤ pos result }
-    ensures size { result < 2 ^ 26 }
+    ensures size { result < 2 ^ 28 }
 {
     (b - a) as u64
 }
@@ -91,9 +92,9 @@ fn cmp_fraction_with_difference(p: i128, q: i128, a: i64, k: u64) -> Ordering
 
 /// The order of `√k` and `d + √l`, which is that of `k - d² - l` and `√(4 d² l)`.
 fn cmp_root_with_sum(k: u64, d: u64, l: u64) -> Ordering
-    requires k_size { k < 2 ^ 36 }
-    requires d_size { d < 2 ^ 26 }
-    requires l_size { l < 2 ^ 36 }
+    requires k_size { k < 2 ^ 53 }
+    requires d_size { d < 2 ^ 28 }
+    requires l_size { l < 2 ^ 53 }
     ensures { IsRootOrder result (pos k -ℤ pos (d * d + l)) (pos (4 * (d * d * l))) }
 {
     let square = d * d;
@@ -105,9 +106,9 @@ fn cmp_root_with_sum(k: u64, d: u64, l: u64) -> Ordering
 
 /// The order of `d` and `√k + √l`, which is that of `d² - k - l` and `√(4 k l)`.
 fn cmp_whole_with_roots(d: u64, k: u64, l: u64) -> Ordering
-    requires d_size { d < 2 ^ 26 }
-    requires k_size { k < 2 ^ 36 }
-    requires l_size { l < 2 ^ 36 }
+    requires d_size { d < 2 ^ 28 }
+    requires k_size { k < 2 ^ 53 }
+    requires l_size { l < 2 ^ 53 }
     ensures { IsRootOrder result (pos (d * d) -ℤ pos (k + l)) (pos (4 * (k * l))) }
 {
     cmp_root(
@@ -118,8 +119,7 @@ fn cmp_whole_with_roots(d: u64, k: u64, l: u64) -> Ordering
 
 /// The order of `a + √k` and `b + √l`.
 fn cmp_sums(a: i64, k: u64, b: i64, l: u64) -> Ordering
-    requires first { IsSurdInRange a k }
-    requires second { IsSurdInRange b l }
+    requires { AreNear a k b l }
     ensures { IsOrderOf result (Pos.Surd a true k) (Pos.Surd b true l) }
 {
     if a <= b {
@@ -131,8 +131,7 @@ fn cmp_sums(a: i64, k: u64, b: i64, l: u64) -> Ordering
 
 /// The order of `a - √k` and `b - √l`.
 fn cmp_differences(a: i64, k: u64, b: i64, l: u64) -> Ordering
-    requires first { IsSurdInRange a k }
-    requires second { IsSurdInRange b l }
+    requires { AreNear a k b l }
     ensures { IsOrderOf result (Pos.Surd a false k) (Pos.Surd b false l) }
 {
     if a <= b {
@@ -144,8 +143,7 @@ fn cmp_differences(a: i64, k: u64, b: i64, l: u64) -> Ordering
 
 /// The order of `a + √k` and `b - √l`.
 fn cmp_sum_with_difference(a: i64, k: u64, b: i64, l: u64) -> Ordering
-    requires first { IsSurdInRange a k }
-    requires second { IsSurdInRange b l }
+    requires { AreNear a k b l }
     ensures { IsOrderOf result (Pos.Surd a true k) (Pos.Surd b false l) }
 {
     if a <= b {
@@ -196,9 +194,9 @@ fn cmp_fraction_with_surd(p: i128, q: i128, a: i64, plus: bool, k: u64) -> Order
     }
 }
 
-fn cmp_surds(a: i64, plus: bool, k: u64, b: i64, also_plus: bool, l: u64) -> Ordering
-    requires first { IsSurdInRange a k }
-    requires second { IsSurdInRange b l }
+/// The order of `a + √k` or `a - √k` and `b + √l` or `b - √l`.
+pub fn cmp_surds(a: i64, plus: bool, k: u64, b: i64, also_plus: bool, l: u64) -> Ordering
+    requires { AreNear a k b l }
     ensures { IsOrderOf result (Pos.Surd a plus k) (Pos.Surd b also_plus l) }
 {
     match (plus, also_plus) {

@@ -1,5 +1,5 @@
 -- What a pixel shows.
-use Rattle.std.specs.Prelude.{◌≡◌, ◌<◌, ℕ, zero, suc, ◌+◌, ◌*◌, ◌/◌, List, [], ◌∷◌, Option, Some, None, map, slice_get}
+use Rattle.std.specs.Prelude.{◌≡◌, ◌<◌, ℕ, ℤ, zero, suc, ◌+◌, ◌*◌, ◌/◌, List, [], ◌∷◌, Option, Some, None, map, slice_get}
 use Rattle.region_attr.specs.declared.attr.Rgb.{Rgb}
 use Rattle.lattice_core.specs.declared.ray.Ray.{Ray}
 use Rattle.lattice_core.specs.declared.view.View.{View}
@@ -8,7 +8,8 @@ use Rattle.lattice_core.specs.Tiles.{tiles_of, span_of}
 use Rattle.ppm_write.specs.Pictures.{block_bytes, whole_span, IsPictureOf, AreCopiedInTurn}
 use Rattle.shot_core.specs.declared.shot.Lit.{Lit}
 use Rattle.shot_core.specs.Regions.{RegionBody, Region, HaveInstances, HavePlacedSolids}
-use Rattle.shot_core.specs.FirstShots.{first_seen}
+use Rattle.shot_core.specs.FirstShots.{first_seen_up_to}
+use Rattle.bool_weave.specs.Cuts.{ray_length}
 use Rattle.shot_core.specs.Pruned.{kept_for}
 
 -- a part of a colour at a brightness, rounded down
@@ -30,8 +31,11 @@ pixel_by regions None = black
 pixel_by regions (Some lit) = shaded lit.level (colour_of (slice_get regions lit.region))
 
 -- the colour of what a ray meets first of the regions without air, at its brightness; black where it meets nothing
+abbrev pub pixel_up_to : ℤ → List Region → Ray → Rgb
+pixel_up_to far regions ray = pixel_by regions (first_seen_up_to far regions ray)
+
 abbrev pub pixel_of : List Region → Ray → Rgb
-pixel_of regions ray = pixel_by regions (first_seen regions ray)
+pixel_of regions ray = pixel_up_to ray_length regions ray
 
 -- the three parts of a colour, by number
 abbrev pub part_of : Rgb → ℕ → ℕ

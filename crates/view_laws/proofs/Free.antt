@@ -3,23 +3,16 @@ use Rattle.std.proofs.Common.{◌<ℤ◌, ℤ, pos, negsuc, List, [], ◌∷◌,
 use Rattle.std.proofs.lemmas.Int.{ints}
 use Rattle.lattice_core.specs.declared.ray.Ray.{Ray}
 use Rattle.lattice_core.specs.Rays.{IsOnRay}
-use Rattle.plane_geom.specs.declared.plane.Plane.{Plane}
-use Rattle.plane_geom.specs.declared.plane.Crossing.{Crossing}
-use Rattle.plane_geom.specs.declared.plane.Crossing.TheVariants.{Enters, Leaves, Holds, Misses}
-use Rattle.plane_geom.specs.Crossings.{crossing_of}
-use Rattle.plane_geom.specs.Planes.{IsCrossing}
-use Rattle.plane_geom.proofs.Unique.{crossing_is}
-use Rattle.prim_sphere.specs.Spheres.{nearest_on, half_chord_squared}
 use Rattle.surd_order.specs.declared.position.Pos.{Pos}
 use Rattle.surd_order.specs.declared.position.Pos.TheVariants.{Frac}
 use Rattle.surd_order.specs.Order.{IsPlace, Precedes}
 use Rattle.surd_order.proofs.LawProofs.{outcome, is_kept_by_same_place}
 use Rattle.surd_order.proofs.OrderLaws.{transitive, same_symm}
 use Rattle.solid_set.specs.declared.surface.Surface.{Surface}
-use Rattle.solid_set.specs.declared.surface.Surface.TheVariants.{Planes, HalfSpace, Ball}
-use Rattle.solid_set.specs.HitPlaces.{crossing_places, side_places, root_places, surface_places}
+use Rattle.solid_set.specs.HitPlaces.{surface_places}
 use Rattle.solid_set.specs.Segments.{ray_start, ray_end}
 use Rattle.solid_set.proofs.InsideLaws.{on_ray_within}
+use Rattle.solid_set.proofs.Places.{ArePlaces as AllPlaces, surface_is_placed}
 use Rattle.solid_set.proofs.Separated.{between_but}
 use Rattle.bool_weave.proofs.Sorted.{Has, has_append_cases}
 use Rattle.shot_core.specs.Points.{ray_places, IsRayHitPlace}
@@ -32,30 +25,13 @@ ArePlaces xs = (x : Pos) → Has xs x → IsPlace x
 both_places : (xs ys : List Pos) → ArePlaces xs → ArePlaces ys → ArePlaces (xs ++ ys)
 both_places xs ys h g x has = elim (has_append_cases xs ys x has) [ inl a ↦ h x a | inr b ↦ g x b ]
 
-crossing_placed : (plane : Plane) (ray : Ray) (c : Crossing) → IsCrossing plane ray c → ArePlaces (crossing_places c)
-crossing_placed plane ray (Enters p q) h x (inl e) = subst IsPlace e h.2
-crossing_placed plane ray (Enters p q) h x (inr none) = absurd none
-crossing_placed plane ray (Leaves p q) h x (inl e) = subst IsPlace e h.2
-crossing_placed plane ray (Leaves p q) h x (inr none) = absurd none
-crossing_placed plane ray Holds h x none = absurd none
-crossing_placed plane ray Misses h x none = absurd none
-
-sides_placed : (ray : Ray) (sides : List (Option Plane)) → ArePlaces (side_places ray sides)
-sides_placed ray [] x none = absurd none
-sides_placed ray (None ∷ sides) x has = sides_placed ray sides x has
-sides_placed ray (Some plane ∷ sides) x has =
-    both_places (crossing_places (crossing_of plane ray)) (side_places ray sides) (crossing_placed plane ray (crossing_of plane ray) (crossing_is plane ray)) (sides_placed ray sides) x has
-
-roots_placed : (a k : ℤ) → ArePlaces (root_places a k)
-roots_placed a (pos k) x (inl e) = subst IsPlace e tt
-roots_placed a (pos k) x (inr (inl e)) = subst IsPlace e tt
-roots_placed a (pos k) x (inr (inr none)) = absurd none
-roots_placed a (negsuc k) x none = absurd none
+each_place : (xs : List Pos) → AllPlaces xs → ArePlaces xs
+each_place [] all x none = absurd none
+each_place (y ∷ ys) all x (inl e) = subst IsPlace e all.0
+each_place (y ∷ ys) all x (inr has) = each_place ys all.1 x has
 
 surface_placed : (surface : Surface) (ray : Ray) → ArePlaces (surface_places surface ray)
-surface_placed (Planes sides) ray = sides_placed ray sides
-surface_placed (HalfSpace plane) ray = sides_placed ray (Some plane ∷ [])
-surface_placed (Ball centre radius) ray = roots_placed (nearest_on centre ray) (half_chord_squared centre radius ray)
+surface_placed surface ray = each_place (surface_places surface ray) (surface_is_placed surface ray)
 
 instances_placed : (ray : Ray) (is : List Instance) → ArePlaces (flat_map (λ (i : Instance). surface_places i.surface ray) is)
 instances_placed ray [] x none = absurd none

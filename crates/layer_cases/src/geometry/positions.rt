@@ -12,8 +12,8 @@ use std::cmp::Ordering;
 use std::collections::BTreeMap;
 use surd_order::{Pos, PosText};
 
-/// The greatest size of what stands beside a root.
-const WHOLE: u64 = 1 << 62;
+/// What stands beside a root is below this in size.
+pub const WHOLE: u64 = 1 << 62;
 
 /// Puts in the text of a position.
 pub fn put_position(position: &Pos, out: &mut Shown) {
@@ -47,7 +47,7 @@ fn surd(words: &mut Words, whole: &[u8], sign: u8, square: &[u8]) -> Pos {
 }
 
 /// The position that a word is: `P`, `P/Q`, `A+sqrt(K)` or `A-sqrt(K)`, in no matter what spelling.
-fn position(words: &mut Words, word: &[u8]) -> Pos {
+pub fn position(words: &mut Words, word: &[u8]) -> Pos {
     if let Some((over, under)) = parted(word, b'/') {
         return fraction(words, over, under);
     }
@@ -140,7 +140,8 @@ fn near_position(words: &mut Words) -> Result<Pos, CaseFault>
     }
 }
 
-fn order_word(order: Ordering) -> &'static [u8] {
+/// The word for an order.
+pub fn order_word(order: Ordering) -> &'static [u8] {
     match order {
         Ordering::Less => b"less",
         Ordering::Equal => b"equal",

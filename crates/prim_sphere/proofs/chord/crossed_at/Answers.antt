@@ -5,33 +5,33 @@ use Rattle.lattice_core.specs.declared.vector.V3.{V3}
 use Rattle.lattice_core.specs.Units.{unit_of}
 use Rattle.lattice_core.specs.Vectors.{dot_product, vector_difference}
 use Rattle.plane_geom.proofs.Sizes.{fits64}
-use Rattle.prim_sphere.specs.declared.chord.Chord.{Chord}
+use Rattle.plane_geom.specs.declared.chord.Chord.{Chord}
 use Rattle.prim_sphere.specs.Spheres.{squared, length_squared, nearest_on, half_chord_squared, chord_of, IsSmallChord, HoldsBetween, HoldsOnceAtMost}
 use Rattle.prim_sphere.proofs.Chords.{none_is, small_at, held_at, missed_at}
 use Rattle.prim_sphere.proofs.chord.crossed_at.Goals as goal
 
-nearest : (c : goal.After-chord_from) → c.along-a.result ≡ nearest_on c.args.centre c.args.ray.now
-nearest c = c.along-a.ensures.value ∙ ap (λ (v : V3). dot_product v (unit_of c.args.ray.now.dir)) c.from_to-apart.ensures.value
+nearest : (c : goal.After-of) → c.along-a.result ≡ nearest_on c.args.centre c.args.ray.now
+nearest c = c.along-a.ensures.value ∙ ap (λ (v : V3). dot_product v (unit_of c.args.ray.now.dir)) c.apart_from-apart.ensures.value
 
-half : (c : goal.After-chord_from) → c.half_chord.result ≡ half_chord_squared c.args.centre c.args.radius c.args.ray.now
+half : (c : goal.After-of) → c.half_chord.result ≡ half_chord_squared c.args.centre c.args.radius c.args.ray.now
 half c =
-    let fa : FitsSigned w64 c.along-a.result = fits64 802816 c.along-a.result (lit< tt) (c.along-a.ensures.size (pos 802816) c.from_to-apart.ensures.size) in
+    let fa : FitsSigned w64 c.along-a.result = fits64 802816 c.along-a.result (lit< tt) (c.along-a.ensures.size (pos 802816) c.apart_from-apart.ensures.size) in
     let fr : FitsSigned w64 c.args.radius = c.ranges.radius in
     simp to_z-of_z at c.half_chord.ensures
-    ∙ ap (λ (v : V3). squared c.args.radius -ℤ (length_squared v -ℤ squared c.along-a.result)) c.from_to-apart.ensures.value
+    ∙ ap (λ (v : V3). squared c.args.radius -ℤ (length_squared v -ℤ squared c.along-a.result)) c.apart_from-apart.ensures.value
     ∙ ap (λ (z : ℤ). squared c.args.radius -ℤ (length_squared (vector_difference c.args.centre c.args.ray.now.origin) -ℤ squared z)) (nearest c)
 
 pub half_chord-requires-clause-along : goal.half_chord-requires-clause-along
 half_chord-requires-clause-along c =
-    let size : IsAtMost (pos 802816) c.along-a.result = c.along-a.ensures.size (pos 802816) c.from_to-apart.ensures.size in
+    let size : IsAtMost (pos 802816) c.along-a.result = c.along-a.ensures.size (pos 802816) c.apart_from-apart.ensures.size in
     let fa : FitsSigned w64 c.along-a.result = fits64 802816 c.along-a.result (lit< tt) size in
     simp to_z-of_z size
 
 pub returns-clause-value : goal.returns-clause-value
 returns-clause-value c =
-    let fa : FitsSigned w64 c.along-a.result = fits64 802816 c.along-a.result (lit< tt) (c.along-a.ensures.size (pos 802816) c.from_to-apart.ensures.size) in
+    let fa : FitsSigned w64 c.along-a.result = fits64 802816 c.along-a.result (lit< tt) (c.along-a.ensures.size (pos 802816) c.apart_from-apart.ensures.size) in
     let fk : FitsSigned w64 c.half_chord.result = search rules in
-    simp to_z-of_z at c.chord_from.ensures
+    simp to_z-of_z at c.of.ensures
     ∙ ap (λ (z : ℤ). chord_of z c.half_chord.result) (nearest c)
     ∙ ap (λ (z : ℤ). chord_of (nearest_on c.args.centre c.args.ray.now) z) (half c)
 
@@ -43,7 +43,7 @@ returns-clause-none c =
 pub returns-clause-small : goal.returns-clause-small
 returns-clause-small c =
     subst (λ (r : Option Chord). IfSome r (IsSmallChord c.args.radius)) (sym (returns-clause-value c))
-    (small_at c.args.centre c.args.radius c.args.ray.now (subst (IsAtMost (pos 802816)) (nearest c) (c.along-a.ensures.size (pos 802816) c.from_to-apart.ensures.size)) c.requires.radius)
+    (small_at c.args.centre c.args.radius c.args.ray.now (subst (IsAtMost (pos 802816)) (nearest c) (c.along-a.ensures.size (pos 802816) c.apart_from-apart.ensures.size)) c.requires.radius)
 
 pub returns-clause-held : goal.returns-clause-held
 returns-clause-held c =

@@ -13,6 +13,6 @@ returns c =
     let fm : FitsSigned w128 (pos 0 -ℤ c.offset.result) = omega (arith, ints) in
     let far = simp to_z-of_z at c.offset.ensures.value in
     let back : pos 0 -ℤ c.offset.result ≡ (c.args.a *ℤ c.args.q) -ℤ c.args.p = omega (arith, ints, far) in
-    let scaled = simp to_z-of_z at c.scaled_square.ensures in
+    let scaled = simp to_z-of_z at c.scaled_square.ensures.value in
     let h = simp to_z-of_z at c.cmp_root.ensures in
     rw c.reverse.ensures (difference_ordered c.args.p c.args.q c.args.a c.args.k c.cmp_root.result c.requires.fraction.positive (rw (back, scaled) at h))

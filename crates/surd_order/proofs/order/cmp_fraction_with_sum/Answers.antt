@@ -11,6 +11,6 @@ returns c =
     let fa : FitsSigned w64 c.args.a = c.ranges.a in
     let fo : FitsSigned w128 c.offset.result = search rules in
     let far = simp to_z-of_z at c.offset.ensures.value in
-    let scaled = simp to_z-of_z at c.scaled_square.ensures in
+    let scaled = simp to_z-of_z at c.scaled_square.ensures.value in
     let h = simp to_z-of_z at c.cmp_root.ensures in
     sum_ordered c.args.p c.args.q c.args.a c.args.k c.cmp_root.result c.requires.fraction.positive (rw (far, scaled) at h)

@@ -1,7 +1,0 @@
-use Rattle.std.proofs.Common.{arith}
-use Rattle.std.proofs.lemmas.Int.{ints}
-use Rattle.lattice_core.proofs.Turning.{vector_same}
-use Rattle.prim_sphere.proofs.chord.from_to.Goals as goal
-
-pub returns-clause-value : goal.returns-clause-value
-returns-clause-value c = vector_same (omega (arith, ints)) (omega (arith, ints)) (omega (arith, ints))

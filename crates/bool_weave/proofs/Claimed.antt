@@ -6,7 +6,7 @@ use Rattle.std.proofs.lemmas.List.{get_or_append_left, get_or-append-add, get_or
 use Rattle.std.proofs.lemmas.List.Elements.{All-weaker, filter_passes}
 use Rattle.std.proofs.lemmas.List.Folds.{list_any_at}
 use Rattle.tree_forms.specs.declared.Op.{Op}
-use Rattle.tree_forms.specs.declared.Op.TheVariants.{U, N, Minus}
+use Rattle.tree_forms.specs.declared.Op.TheVariants.{U, N, Minus, X}
 use Rattle.tree_forms.specs.Trees.{Leaf, Join, joined}
 use Rattle.surd_order.specs.declared.position.Pos.{Pos}
 use Rattle.bool_weave.specs.declared.span.Span.{Span}
@@ -25,6 +25,7 @@ joined_none : (op : Op) → joined op false false ≡ false
 joined_none U = refl
 joined_none N = refl
 joined_none Minus = refl
+joined_none X = refl
 
 pub nothing_from_nothing : NothingFromNothing
 nothing_from_nothing (Leaf None) values h = refl
@@ -32,10 +33,10 @@ nothing_from_nothing (Leaf (Some i)) values h = h i
 nothing_from_nothing (Join op l r) values h =
     ap (λ b. joined op b (mask_holds r values)) (nothing_from_nothing l values h) ∙ ap (λ b. joined op false b) (nothing_from_nothing r values h) ∙ joined_none op
 
-pub all_left : {X : Type 0} (P : X → Type 0) (xs ys : List X) → All P (xs ++ ys) → All P xs
+pub all_left : {A : Type 0} (P : A → Type 0) (xs ys : List A) → All P (xs ++ ys) → All P xs
 all_left P xs ys all k d lt = subst P (get_or_append_left xs ys d k lt) (all k d (omega (arith, lt, length-append xs ys)))
 
-pub all_right : {X : Type 0} (P : X → Type 0) (xs ys : List X) → All P (xs ++ ys) → All P ys
+pub all_right : {A : Type 0} (P : A → Type 0) (xs ys : List A) → All P (xs ++ ys) → All P ys
 all_right P xs ys all k d lt = subst P (get_or-append-add xs ys k d) (all (length xs + k) d (omega (arith, lt, length-append xs ys)))
 
 -- a tree holds alike for two values that agree at its leaves

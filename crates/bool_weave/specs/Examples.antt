@@ -3,7 +3,7 @@ use Rattle.std.specs.Prelude.{◌≡◌, refl, ℕ, pos, true, false, [], ◌∷
 use Rattle.surd_order.specs.declared.position.Pos.{Pos}
 use Rattle.surd_order.specs.declared.position.Pos.TheVariants.{Frac, Surd}
 use Rattle.surd_order.specs.PlaceOrder.{place_cmp}
-use Rattle.tree_forms.specs.declared.Op.TheVariants.{U, N, Minus}
+use Rattle.tree_forms.specs.declared.Op.TheVariants.{U, N, Minus, X}
 use Rattle.tree_forms.specs.Trees.{Leaf, Join}
 use Rattle.bool_weave.specs.declared.woven.Woven.{Woven}
 use Rattle.bool_weave.specs.Cuts.{cuts_of}
@@ -20,7 +20,7 @@ from_to instance a b = record { instance = instance; seg = record { start = whol
 abbrev leaf : ℕ → Mask
 leaf i = Leaf (Some i)
 
--- what only one side holds, written with the three operators
+-- what only one side holds, written with the other operators
 abbrev either_alone : Mask
 either_alone = Join U (Join Minus (leaf 0) (leaf 1)) (Join Minus (leaf 1) (leaf 0))
 
@@ -58,6 +58,16 @@ subtracted_beyond = refl
 intersected : claims_of (from_to 0 5 15 ∷ from_to 1 10 20 ∷ []) (Join N (leaf 0) (leaf 1)) 0 ≡ false ∷ false ∷ true ∷ false ∷ false ∷ []
 unfolding place_cmp
 intersected = refl
+
+-- two intervals where exactly one side is, and between them one where both are
+exclusive : claims_of (from_to 0 5 15 ∷ from_to 1 10 20 ∷ []) (Join X (leaf 0) (leaf 1)) 0 ≡ false ∷ true ∷ false ∷ true ∷ false ∷ []
+unfolding place_cmp
+exclusive = refl
+
+-- of three, where one or all three are
+exclusive_of_three : claims_of (from_to 0 5 20 ∷ from_to 1 10 20 ∷ from_to 2 15 20 ∷ []) (Join X (Join X (leaf 0) (leaf 1)) (leaf 2)) 0 ≡ false ∷ true ∷ false ∷ true ∷ false ∷ []
+unfolding place_cmp
+exclusive_of_three = refl
 
 held_by_one_alone : claims_of (from_to 0 5 15 ∷ from_to 1 10 20 ∷ []) either_alone 0 ≡ false ∷ true ∷ false ∷ true ∷ false ∷ []
 unfolding place_cmp

@@ -30,6 +30,7 @@ abbrev pub apply : Op → MaskNode
 apply op.U = node.U
 apply op.N = node.N
 apply op.Minus = node.Minus
+apply op.X = node.X
 
 -- its nodes in postfix order
 abbrev pub mask_nodes : Mask → List MaskNode
@@ -45,6 +46,7 @@ read node.Never = inl None
 read node.U = inr op.U
 read node.N = inr op.N
 read node.Minus = inr op.Minus
+read node.X = inr op.X
 
 pub leaf_back : (l : Option ℕ) → read (leaf l) ≡ inl l
 leaf_back None = refl
@@ -54,6 +56,7 @@ pub apply_back : (o : Op) → read (apply o) ≡ inr o
 apply_back op.U = refl
 apply_back op.N = refl
 apply_back op.Minus = refl
+apply_back op.X = refl
 
 abbrev pub node_laws : IsNodes leaf apply read
 node_laws = record { leaf_back = leaf_back; apply_back = apply_back }

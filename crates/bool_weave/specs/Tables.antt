@@ -52,6 +52,7 @@ leaf_end node.Never = 0
 leaf_end node.U = 0
 leaf_end node.N = 0
 leaf_end node.Minus = 0
+leaf_end node.X = 0
 
 -- each leaf's number is below a bound
 abbrev pub AreLeavesBelow : ℕ → List MaskNode → Type 0

@@ -16,6 +16,8 @@ pub enum MaskNode {
     N,
     /// The left side without the right one.
     Minus,
+    /// What exactly one of the two sides has.
+    X,
 }
 
 /// A boolean tree over leaves that are numbers or always false. Contracts see it as that tree; it is kept as its nodes in
@@ -54,7 +56,7 @@ fn leaf_end(node: MaskNode) -> u64
 {
     match node {
         MaskNode::Leaf(leaf) => leaf as u64 + 1,
-        MaskNode::Never | MaskNode::U | MaskNode::N | MaskNode::Minus => 0,
+        MaskNode::Never | MaskNode::U | MaskNode::N | MaskNode::Minus | MaskNode::X => 0,
     }
 }
 
@@ -112,6 +114,7 @@ fn step_on(
         MaskNode::U => join_top(stack, Op::U),
         MaskNode::N => join_top(stack, Op::N),
         MaskNode::Minus => join_top(stack, Op::Minus),
+        MaskNode::X => join_top(stack, Op::X),
     }
 }
 

@@ -4,7 +4,7 @@ use Rattle.std.specs.List.{list_any, filter}
 use Rattle.std.proofs.lemmas.List.{length-map, map-append, length-append}
 use Rattle.std.proofs.lemmas.List.Elements.{filter-append}
 use Rattle.tree_forms.specs.declared.Op.{Op}
-use Rattle.tree_forms.specs.declared.Op.TheVariants.{U, N, Minus}
+use Rattle.tree_forms.specs.declared.Op.TheVariants.{U, N, Minus, X}
 use Rattle.tree_forms.specs.Trees.{Tree, Leaf, Join, postfix, leaves, map_leaves}
 use Rattle.name_core.specs.declared.name.Name.{Name}
 use Rattle.comb_tree.specs.declared.node.ListEntry.{ListEntry}
@@ -41,6 +41,7 @@ kept_op : (f : Member → Member) (op : Op) → on_leaf f (apply op) ≡ apply o
 kept_op f U = refl
 kept_op f N = refl
 kept_op f Minus = refl
+kept_op f X = refl
 
 map_postfix : (f : Member → Member) (t : Tree Member) → postfix leaf apply (map_leaves f t) ≡ map (on_leaf f) (postfix leaf apply t)
 map_postfix f (Leaf m) = refl
@@ -103,8 +104,9 @@ no_leaf : (op : Op) → is_leaf (apply op) ≡ false
 no_leaf U = refl
 no_leaf N = refl
 no_leaf Minus = refl
+no_leaf X = refl
 
-all_pass : {X : Type 0} (xs : List X) → length (filter (λ x. true) xs) ≡ length xs
+all_pass : {A : Type 0} (xs : List A) → length (filter (λ x. true) xs) ≡ length xs
 all_pass [] = refl
 all_pass (x ∷ xs) = omega (arith, all_pass xs)
 
@@ -116,6 +118,7 @@ no_name : (name : Name) (op : Op) → is_at name (apply op) ≡ false
 no_name name U = refl
 no_name name N = refl
 no_name name Minus = refl
+no_name name X = refl
 
 pub name_count : (name : Name) (t : Comb) → length (filter (is_at name) (comb_nodes t)) ≡ length (filter (λ m. same_name m.name name) (members t))
 name_count name t = count_nodes (is_at name) (λ m. same_name m.name name) (λ m. refl) (no_name name) t
@@ -189,11 +192,11 @@ count_is t ns e = ap (λ xs. length (filter is_leaf xs)) (sym e) ∙ leaf_count 
 pub count_of : (t : Comb) (ns : List CombNode) → comb_nodes t ≡ ns → length (members (comb_of ns)) ≡ length (filter is_leaf ns)
 count_of t ns e = sym (count_is (comb_of ns) ns (nodes_kept t ns e))
 
-short_step : {X : Type 0} (b : Bool) (x : X) (ys xs : List X) → length ys ≤ length xs → length (cond b (x ∷ ys) ys) ≤ length (x ∷ xs)
+short_step : {A : Type 0} (b : Bool) (x : A) (ys xs : List A) → length ys ≤ length xs → length (cond b (x ∷ ys) ys) ≤ length (x ∷ xs)
 short_step true x ys xs h = omega arith
 short_step false x ys xs h = omega arith
 
-pub filter_short : {X : Type 0} (p : X → Bool) (xs : List X) → length (filter p xs) ≤ length xs
+pub filter_short : {A : Type 0} (p : A → Bool) (xs : List A) → length (filter p xs) ≤ length xs
 filter_short p [] = omega arith
 filter_short p (x ∷ xs) = short_step (p x) x (filter p xs) xs (filter_short p xs)
 

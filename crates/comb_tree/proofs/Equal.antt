@@ -48,12 +48,14 @@ name_at n (node.Leaf name placement) = name
 name_at n node.U = n
 name_at n node.N = n
 name_at n node.Minus = n
+name_at n node.X = n
 
 abbrev place_at : Placement → CombNode → Placement
 place_at p (node.Leaf name placement) = placement
 place_at p node.U = p
 place_at p node.N = p
 place_at p node.Minus = p
+place_at p node.X = p
 
 leaf_decides : (n m : Name) (p q : Placement) → Decides (nodes.eq-value.it (node.Leaf n p) (node.Leaf m q)) (node.Leaf n p ≡ node.Leaf m q)
 leaf_decides n m p q =
@@ -65,15 +67,24 @@ node_decides (node.Leaf n p) (node.Leaf m q) = leaf_decides n m p q
 node_decides (node.Leaf n p) node.U = (λ h. cc, λ e. cc)
 node_decides (node.Leaf n p) node.N = (λ h. cc, λ e. cc)
 node_decides (node.Leaf n p) node.Minus = (λ h. cc, λ e. cc)
+node_decides (node.Leaf n p) node.X = (λ h. cc, λ e. cc)
 node_decides node.U (node.Leaf m q) = (λ h. cc, λ e. cc)
 node_decides node.U node.U = (λ h. cc, λ e. cc)
 node_decides node.U node.N = (λ h. cc, λ e. cc)
 node_decides node.U node.Minus = (λ h. cc, λ e. cc)
+node_decides node.U node.X = (λ h. cc, λ e. cc)
 node_decides node.N (node.Leaf m q) = (λ h. cc, λ e. cc)
 node_decides node.N node.U = (λ h. cc, λ e. cc)
 node_decides node.N node.N = (λ h. cc, λ e. cc)
 node_decides node.N node.Minus = (λ h. cc, λ e. cc)
+node_decides node.N node.X = (λ h. cc, λ e. cc)
 node_decides node.Minus (node.Leaf m q) = (λ h. cc, λ e. cc)
 node_decides node.Minus node.U = (λ h. cc, λ e. cc)
 node_decides node.Minus node.N = (λ h. cc, λ e. cc)
 node_decides node.Minus node.Minus = (λ h. cc, λ e. cc)
+node_decides node.Minus node.X = (λ h. cc, λ e. cc)
+node_decides node.X (node.Leaf m q) = (λ h. cc, λ e. cc)
+node_decides node.X node.U = (λ h. cc, λ e. cc)
+node_decides node.X node.N = (λ h. cc, λ e. cc)
+node_decides node.X node.Minus = (λ h. cc, λ e. cc)
+node_decides node.X node.X = (λ h. cc, λ e. cc)

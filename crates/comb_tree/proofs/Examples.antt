@@ -2,7 +2,7 @@
 use Rattle.std.specs.Prelude.{◌≡◌, ℕ, List, [], ◌∷◌, ◌++◌, Some, None, Bool, true, false, cond, ◌==◌}
 use Rattle.std.proofs.Common.{refl}
 use Rattle.tree_forms.specs.declared.Op.{Op}
-use Rattle.tree_forms.specs.declared.Op.TheVariants.{U, N, Minus}
+use Rattle.tree_forms.specs.declared.Op.TheVariants.{U, N, Minus, X}
 use Rattle.tree_forms.specs.Trees.{Tree, Leaf, Join}
 use Rattle.name_core.specs.declared.name.Name.{Name}
 use Rattle.lattice_core.specs.declared.placement.Placement.{Placement}
@@ -54,11 +54,25 @@ the_first_operator_is_u p = refl
 pub read_as_u : (p : Placement) → from_u (entry p Minus 1 ∷ entry p N 2 ∷ []) ≡ entry p U 1 ∷ entry p N 2 ∷ []
 read_as_u p = refl
 
+-- an exclusive union belongs to a product, as an intersection and a difference do: u 1 ^ 2 u 3 ^ 4
+pub an_exclusive_union_binds_closer : (p : Placement) → tree_of_list (entry p U 1 ∷ entry p X 2 ∷ entry p U 3 ∷ entry p X 4 ∷ []) ≡ Some (Join U (Join X (at p 1) (at p 2)) (Join X (at p 3) (at p 4)))
+an_exclusive_union_binds_closer p = refl
+
+pub an_exclusive_union_at_its_place : (p : Placement) → tree_of_list (entry p U 1 ∷ entry p Minus 2 ∷ entry p X 3 ∷ entry p N 4 ∷ []) ≡ Some (Join N (Join X (Join Minus (at p 1) (at p 2)) (at p 3)) (at p 4))
+an_exclusive_union_at_its_place p = refl
+
+-- ^ 1 ^ 2
+pub an_exclusive_union_first_is_u : (p : Placement) → tree_of_list (entry p X 1 ∷ entry p X 2 ∷ []) ≡ Some (Join X (at p 1) (at p 2))
+an_exclusive_union_first_is_u p = refl
+
 pub no_entry_no_leaf : tree_of_list [] ≡ None
 no_entry_no_leaf = refl
 
 pub goes_on_with_the_last_product : (p : Placement) → tree_of_list (body p ++ entry p N 4 ∷ []) ≡ Some (Join U (at p 1) (Join N (Join Minus (at p 2) (at p 3)) (at p 4)))
 goes_on_with_the_last_product p = refl
+
+pub goes_on_with_an_exclusive_union : (p : Placement) → tree_of_list (body p ++ entry p X 4 ∷ []) ≡ Some (Join U (at p 1) (Join X (Join Minus (at p 2) (at p 3)) (at p 4)))
+goes_on_with_an_exclusive_union p = refl
 
 pub two_without_the_third : (p : Placement) → comb_holds (tree_of_list (mixed p)) (values_of true true false false) ≡ true
 two_without_the_third p = refl

@@ -1,7 +1,7 @@
 use Rattle.std.proofs.Common.{◌≡◌, List, [], ◌∷◌, ◌++◌, Bool, true, false, refl, ap, sym, ◌∙◌, append_assoc}
 use Rattle.std.proofs.lemmas.List.{append-nil}
 use Rattle.tree_forms.specs.declared.Op.{Op}
-use Rattle.tree_forms.specs.declared.Op.TheVariants.{U, N, Minus}
+use Rattle.tree_forms.specs.declared.Op.TheVariants.{U, N, Minus, X}
 use Rattle.tree_forms.proofs.Running.{tree_back}
 use Rattle.comb_tree.specs.declared.node.ListEntry.{ListEntry}
 use Rattle.comb_tree.specs.declared.node.CombNode.{CombNode}
@@ -21,6 +21,7 @@ same_op_leaf (node.Leaf name placement ∷ ns) m more = refl
 same_op_leaf (node.U ∷ ns) m more = refl
 same_op_leaf (node.N ∷ ns) m more = refl
 same_op_leaf (node.Minus ∷ ns) m more = refl
+same_op_leaf (node.X ∷ ns) m more = refl
 
 same_op_u : (ns : List CombNode) → op_before (ns ++ node.U ∷ []) ≡ op_before ns
 same_op_u [] = refl
@@ -28,22 +29,26 @@ same_op_u (node.Leaf name placement ∷ ns) = refl
 same_op_u (node.U ∷ ns) = refl
 same_op_u (node.N ∷ ns) = refl
 same_op_u (node.Minus ∷ ns) = refl
+same_op_u (node.X ∷ ns) = refl
 
 same_entry : (n : CombNode) (ns ms : List CombNode) → op_before ns ≡ op_before ms → entry_at n ns ≡ entry_at n ms
 same_entry (node.Leaf name placement) ns ms e = ap (λ op. let x : ListEntry = record { op = op; name = name; placement = placement } in x ∷ []) e
 same_entry node.U ns ms e = refl
 same_entry node.N ns ms e = refl
 same_entry node.Minus ns ms e = refl
+same_entry node.X ns ms e = refl
 
 op_of_apply : (op : Op) → op_before (apply op ∷ []) ≡ op
 op_of_apply U = refl
 op_of_apply N = refl
 op_of_apply Minus = refl
+op_of_apply X = refl
 
 no_entry : (op : Op) (ns : List CombNode) → entry_at (apply op) ns ≡ []
 no_entry U ns = refl
 no_entry N ns = refl
 no_entry Minus ns = refl
+no_entry X ns = refl
 
 entries_leaf : (ns : List CombNode) (m : Member) (more : List CombNode) → entries (ns ++ leaf m ∷ more) ≡ entries ns ++ entries (leaf m ∷ more)
 entries_leaf [] m more = refl
@@ -72,6 +77,7 @@ one_more : (later : Bool) (ns : List CombNode) (op : Op) (m : Member)
 one_more later ns U m = entries_leaf (ns ++ tail_of later) m [] ∙ ap (λ xs. xs ++ with_op U m ∷ []) (entries_tail later ns)
 one_more later ns N m = entries_pair ns m N
 one_more later ns Minus m = entries_pair ns m Minus
+one_more later ns X m = entries_pair ns m X
 
 read_from : (later : Bool) (ns : List CombNode) (es : List ListEntry) → entries (nodes_from later ns es) ≡ entries ns ++ es
 read_from later ns [] = entries_tail later ns ∙ sym (append-nil (entries ns))

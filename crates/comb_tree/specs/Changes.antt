@@ -30,6 +30,7 @@ on_leaf f (node.Leaf name placement) = leaf (f (record { name = name; placement 
 on_leaf f node.U = node.U
 on_leaf f node.N = node.N
 on_leaf f node.Minus = node.Minus
+on_leaf f node.X = node.X
 
 abbrev pub names_of : List ListEntry → List Name
 names_of l = map (λ e. e.name) l

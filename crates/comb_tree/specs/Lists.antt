@@ -1,7 +1,7 @@
 -- Lists of members, and the tree that a list gives.
 use Rattle.std.specs.Prelude.{◌≡◌, List, [], ◌∷◌, Some, None, Bool, true, false, cond}
 use Rattle.tree_forms.specs.declared.Op.{Op}
-use Rattle.tree_forms.specs.declared.Op.TheVariants.{U, N, Minus}
+use Rattle.tree_forms.specs.declared.Op.TheVariants.{U, N, Minus, X}
 use Rattle.tree_forms.specs.Trees.{Tree, Leaf, Join}
 use Rattle.comb_tree.specs.declared.node.ListEntry.{ListEntry}
 use Rattle.comb_tree.specs.Nodes.{Member, Comb}
@@ -13,6 +13,7 @@ abbrev pub is_u : Op → Bool
 is_u U = true
 is_u N = false
 is_u Minus = false
+is_u X = false
 
 -- what is left of a list begins with u, or is at its end
 abbrev pub is_cut : List ListEntry → Bool

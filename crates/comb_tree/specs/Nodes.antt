@@ -34,6 +34,7 @@ abbrev pub apply : Op → CombNode
 apply op.U = node.U
 apply op.N = node.N
 apply op.Minus = node.Minus
+apply op.X = node.X
 
 -- its nodes in postfix order
 abbrev pub comb_nodes : Comb → List CombNode
@@ -48,11 +49,13 @@ read (node.Leaf name placement) = inl (record { name = name; placement = placeme
 read node.U = inr op.U
 read node.N = inr op.N
 read node.Minus = inr op.Minus
+read node.X = inr op.X
 
 pub apply_back : (o : Op) → read (apply o) ≡ inr o
 apply_back op.U = refl
 apply_back op.N = refl
 apply_back op.Minus = refl
+apply_back op.X = refl
 
 abbrev pub node_laws : IsNodes leaf apply read
 node_laws = record { leaf_back = λ m. refl; apply_back = apply_back }

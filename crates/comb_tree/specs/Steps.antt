@@ -3,7 +3,7 @@ use Rattle.name_core.specs.Same.{same_name}
 use Rattle.std.specs.Prelude.{List, [], ◌∷◌, ◌++◌, Bool, true, false, cond, ◌&&◌, Option, Some, None}
 use Rattle.name_core.specs.declared.name.Name.{Name}
 use Rattle.tree_forms.specs.declared.Op.{Op}
-use Rattle.tree_forms.specs.declared.Op.TheVariants.{U, N, Minus}
+use Rattle.tree_forms.specs.declared.Op.TheVariants.{U, N, Minus, X}
 use Rattle.comb_tree.specs.declared.node.ListEntry.{ListEntry}
 use Rattle.comb_tree.specs.declared.node.CombNode.{CombNode}
 use Rattle.comb_tree.specs.declared.node.CombNode.TheVariants as node
@@ -31,12 +31,14 @@ op_before (node.Leaf name placement ∷ ns) = U
 op_before (node.U ∷ ns) = U
 op_before (node.N ∷ ns) = N
 op_before (node.Minus ∷ ns) = Minus
+op_before (node.X ∷ ns) = X
 
 abbrev pub entry_at : CombNode → List CombNode → List ListEntry
 entry_at (node.Leaf name placement) ns = (record { op = op_before ns; name = name; placement = placement }) ∷ []
 entry_at node.U ns = []
 entry_at node.N ns = []
 entry_at node.Minus ns = []
+entry_at node.X ns = []
 
 -- the entries of nodes, each leaf with the operator after it
 abbrev pub entries : List CombNode → List ListEntry
@@ -48,6 +50,7 @@ is_leaf (node.Leaf name placement) = true
 is_leaf node.U = false
 is_leaf node.N = false
 is_leaf node.Minus = false
+is_leaf node.X = false
 
 -- whether an entry stays in the product that goes on
 abbrev pub rest_stays : (Name → Bool) → List ListEntry → Bool
@@ -66,3 +69,4 @@ is_at name (node.Leaf n placement) = same_name n name
 is_at name node.U = false
 is_at name node.N = false
 is_at name node.Minus = false
+is_at name node.X = false

@@ -55,6 +55,7 @@ fn operator_before(nodes: &[CombNode]) -> Op
     match nodes.first() {
         Some(CombNode::N) => Op::N,
         Some(CombNode::Minus) => Op::Minus,
+        Some(CombNode::X) => Op::X,
         _ => Op::U,
     }
 }

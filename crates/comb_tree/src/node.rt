@@ -17,6 +17,8 @@ pub enum CombNode {
     N,
     /// The difference: the left side without the right one.
     Minus,
+    /// The exclusive union: what exactly one of the two sides has.
+    X,
 }
 
 /// A member of a list, with the operator before it.
@@ -35,6 +37,7 @@ impl From<Op> for CombNode {
             Op::U => CombNode::U,
             Op::N => CombNode::N,
             Op::Minus => CombNode::Minus,
+            Op::X => CombNode::X,
         }
     }
 }

@@ -2,7 +2,7 @@
 use Rattle.std.specs.Prelude.{◌≡◌, ℕ, ◌+◌, ◌*◌, ◌==◌, List, [], ◌∷◌, Option, Some, None, Bool, true, false, cond, ◌⊎◌}
 use Rattle.std.proofs.Common.{refl, inl, inr}
 use Rattle.tree_forms.specs.declared.Op.{Op}
-use Rattle.tree_forms.specs.declared.Op.TheVariants.{U, N, Minus}
+use Rattle.tree_forms.specs.declared.Op.TheVariants.{U, N, Minus, X}
 use Rattle.tree_forms.specs.Trees.{Tree, Leaf, Join, joined, leaves, holds, holds_by, fold, map_leaves, postfix}
 use Rattle.tree_forms.specs.Stacks.{run, tree_of, nodes_of}
 
@@ -34,6 +34,22 @@ the_left_without_the_right = refl
 
 pub the_right_without_the_left : joined Minus false true ≡ false
 the_right_without_the_left = refl
+
+pub one_side_alone : joined X true false ≡ true
+one_side_alone = refl
+
+pub the_other_side_alone : joined X false true ≡ true
+the_other_side_alone = refl
+
+pub not_both_sides : joined X true true ≡ false
+not_both_sides = refl
+
+pub neither_side : joined X false false ≡ false
+neither_side = refl
+
+-- the exclusive union of three holds where one or all three do
+pub all_three_of_a_row : holds {A = ℕ} (Join X (Join X (Leaf 7) (Leaf 8)) (Leaf 9)) (λ i. true) ≡ true
+all_three_of_a_row = refl
 
 pub its_leaves : leaves small ≡ 7 ∷ 8 ∷ 7 ∷ []
 its_leaves = refl

@@ -1,7 +1,7 @@
 -- A boolean tree over leaves of any kind, and what it means.
 use Rattle.std.specs.Prelude.{ℕ, ◌+◌, List, [], ◌∷◌, ◌++◌, length, Bool, ◌&&◌, ◌||◌, not}
 use Rattle.tree_forms.specs.declared.Op.{Op}
-use Rattle.tree_forms.specs.declared.Op.TheVariants.{U, N, Minus}
+use Rattle.tree_forms.specs.declared.Op.TheVariants.{U, N, Minus, X}
 
 -- a tree that is not empty: a leaf, or an operator over a left and a right side
 pub data Tree (A : Type 0) : Type 0 where
@@ -9,11 +9,12 @@ pub data Tree (A : Type 0) : Type 0 where
   Join : Op → Tree A → Tree A → Tree A
 
 -- a union holds where a side does, an intersection where both do, a difference where the left side does and the
--- right one does not
+-- right one does not, an exclusive union where exactly one side does
 abbrev pub joined : Op → Bool → Bool → Bool
 joined U left right = left || right
 joined N left right = left && right
 joined Minus left right = left && not right
+joined X left right = (left && not right) || (not left && right)
 
 -- the leaves from left to right
 abbrev pub leaves : {A : Type 0} → Tree A → List A
@@ -26,7 +27,7 @@ holds (Leaf a) values = values 0
 holds (Join op l r) values = joined op (holds l values) (holds r (λ i. values (length (leaves l) + i)))
 
 -- what a tree comes to, from what its leaves come to and how an operator joins its sides
-abbrev pub fold : {A X : Type 0} → (A → X) → (Op → X → X → X) → Tree A → X
+abbrev pub fold : {A V : Type 0} → (A → V) → (Op → V → V → V) → Tree A → V
 fold value join (Leaf a) = value a
 fold value join (Join op l r) = join op (fold value join l) (fold value join r)
 

@@ -13,6 +13,8 @@ pub enum Op {
     N,
     /// The difference: the left side without the right one.
     Minus,
+    /// The exclusive union: what exactly one of the two sides has.
+    X,
 }
 
 impl Op {
@@ -24,6 +26,7 @@ impl Op {
             Op::U => left || right,
             Op::N => left && right,
             Op::Minus => left && !right,
+            Op::X => left != right,
         }
     }
 }

@@ -1,9 +1,9 @@
 -- The texts of refusals.
 use Rattle.std.specs.Prelude.{ℕ, List, ◌++◌, codes, decimal}
 use Rattle.plane_geom.specs.declared.fault.ShapeFault.{ShapeFault}
-use Rattle.plane_geom.specs.declared.fault.ShapeFault.TheVariants.{Flat, NotPlanar, NotConvex, Radius, ZeroNormal}
+use Rattle.plane_geom.specs.declared.fault.ShapeFault.TheVariants.{Flat, NotPlanar, NotConvex, Radius, ZeroNormal, Axis}
 use Rattle.lattice_core.specs.declared.view.ViewFault.{ViewFault}
-use Rattle.lattice_core.specs.declared.view.ViewFault.TheVariants.{Pixels, Side, Cell, World}
+use Rattle.lattice_core.specs.declared.view.ViewFault.TheVariants.{Pixels, Side, Cell, Direction, World}
 use Rattle.command_set.specs.declared.refusal.Refusal.{Refusal}
 use Rattle.command_set.specs.declared.refusal.Refusal.TheVariants.{Syntax, Name, Number, View, Shape, Exists, Missing, NotComb, NotList, Absent, Heads, Members, Full, Cycle, Deep, Instances, Quota, Memory}
 
@@ -11,6 +11,7 @@ abbrev pub view_text : ViewFault → List ℕ
 view_text Pixels = codes "pixels"
 view_text Side = codes "side"
 view_text Cell = codes "cell"
+view_text Direction = codes "direction"
 view_text World = codes "world"
 
 abbrev pub shape_text : ShapeFault → List ℕ
@@ -19,6 +20,7 @@ shape_text (NotPlanar face) = codes "planar " ++ decimal face
 shape_text (NotConvex face) = codes "convex " ++ decimal face
 shape_text Radius = codes "radius"
 shape_text ZeroNormal = codes "normal"
+shape_text Axis = codes "axis"
 
 -- how a refusal is printed
 abbrev pub refusal_text : Refusal → List ℕ

@@ -26,7 +26,7 @@ impl Model for CheckedView {
 }
 
 impl CheckedView {
-    /// The view, or the first of its faults, which are looked for in the order of `ViewFault`.
+    /// The view, or the first of its faults, which are looked for in this order: no pixels, a long side, a cell below 1, a ray outside the world.
     pub fn of_view(view: View) -> Result<CheckedView, ViewFault>
         requires corner { IsWithin VIEW_NUMBER view.corner }
         requires cell { IsAtMost VIEW_NUMBER view.cell }

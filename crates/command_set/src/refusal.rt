@@ -59,6 +59,7 @@ fn push_view(fault: ViewFault, out: &mut RefusalText)
         ViewFault::Pixels => out.push(b"pixels"),
         ViewFault::Side => out.push(b"side"),
         ViewFault::Cell => out.push(b"cell"),
+        ViewFault::Direction => out.push(b"direction"),
         ViewFault::World => out.push(b"world"),
     }
 }
@@ -79,6 +80,7 @@ fn push_shape(fault: ShapeFault, out: &mut RefusalText)
         }
         ShapeFault::Radius => out.push(b"radius"),
         ShapeFault::ZeroNormal => out.push(b"normal"),
+        ShapeFault::Axis => out.push(b"axis"),
     }
 }
 

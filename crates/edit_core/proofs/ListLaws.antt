@@ -2,7 +2,7 @@
 use Rattle.std.proofs.Common.{◌≡◌, List, [], ◌∷◌, ◌++◌, Option, Some, None, false, cond, refl, ap, sym, ◌∙◌, append_assoc, subst}
 use Rattle.std.proofs.lemmas.List.{append-nil}
 use Rattle.tree_forms.specs.declared.Op.{Op}
-use Rattle.tree_forms.specs.declared.Op.TheVariants.{U, N, Minus}
+use Rattle.tree_forms.specs.declared.Op.TheVariants.{U, N, Minus, X}
 use Rattle.tree_forms.specs.Trees.{Tree, Leaf, Join}
 use Rattle.comb_tree.specs.declared.node.ListEntry.{ListEntry}
 use Rattle.comb_tree.specs.Nodes.{Comb, Member}
@@ -61,6 +61,7 @@ product_is (Leaf m) l h = record { head = entry_of U m; rest = []; is = cc; begi
 product_is (Join U a b) l h = cc
 product_is (Join N a b) l h = step N a b l refl (taken_apart (product_of a) (one_entry N b) l h) (product_is a)
 product_is (Join Minus a b) l h = step Minus a b l refl (taken_apart (product_of a) (one_entry Minus b) l h) (product_is a)
+product_is (Join X a b) l h = step X a b l refl (taken_apart (product_of a) (one_entry X b) l h) (product_is a)
 
 -- a union's list: it begins with u, alone it gives the tree, and before a further product it is the union so far
 record IsUnion (t : Tree Member) (l : List ListEntry) : Type 0 where
@@ -110,6 +111,7 @@ union_is (Join U a b) l h =
     union_step a b l parts.first parts.second parts.whole (union_is a parts.first parts.first_is) (product_is b parts.second parts.second_is)
 union_is (Join N a b) l h = of_product (Join N a b) l (product_is (Join N a b) l h)
 union_is (Join Minus a b) l h = of_product (Join Minus a b) l (product_is (Join Minus a b) l h)
+union_is (Join X a b) l h = of_product (Join X a b) l (product_is (Join X a b) l h)
 
 from_u_same : (e : ListEntry) (es : List ListEntry) → e.op ≡ U → from_u (e ∷ es) ≡ e ∷ es
 from_u_same e es u = ap (λ (op : Op). (record e { op = op }) ∷ es) (sym u)
@@ -127,6 +129,7 @@ one_product (Leaf m) l h = h
 one_product (Join U a b) l h = cc
 one_product (Join N a b) l h = h
 one_product (Join Minus a b) l h = h
+one_product (Join X a b) l h = h
 
 closed : (done : Comb) (t : Tree Member) (l s : List ListEntry) → list_of done ≡ Some l → product_of t ≡ Some s → list_of (united done (Some t)) ≡ Some (l ++ s)
 closed None t l s h k = let none : [] ≡ l = cc in one_product t s k ∙ ap (λ (x : List ListEntry). Some (x ++ s)) none
@@ -136,6 +139,7 @@ one_leaf : (op : Op) (t : Tree Member) (e : ListEntry) (s : List ListEntry) → 
 one_leaf U t e s o not_u h = cc
 one_leaf N t e s o not_u h = ap (λ x. both x (Some (entry_of N (member e) ∷ []))) h ∙ ap (λ (op : Op). Some (s ++ (record e { op = op }) ∷ [])) (sym o)
 one_leaf Minus t e s o not_u h = ap (λ x. both x (Some (entry_of Minus (member e) ∷ []))) h ∙ ap (λ (op : Op). Some (s ++ (record e { op = op }) ∷ [])) (sym o)
+one_leaf X t e s o not_u h = ap (λ x. both x (Some (entry_of X (member e) ∷ []))) h ∙ ap (λ (op : Op). Some (s ++ (record e { op = op }) ∷ [])) (sym o)
 
 abbrev Reads : List ListEntry → Type 0
 Reads es = (done : Comb) (t : Tree Member) (l s : List ListEntry) → list_of done ≡ Some l → product_of t ≡ Some s → list_of (tree_from done t es) ≡ Some ((l ++ s) ++ es)
@@ -152,6 +156,10 @@ read_one N e es done t l s below o h k =
     ∙ ap Some (append_assoc (l ++ s) (e ∷ []) es)
 read_one Minus e es done t l s below o h k =
     below done (Join Minus t (Leaf (member e))) l (s ++ e ∷ []) h (one_leaf Minus t e s o refl k)
+    ∙ ap (λ (x : List ListEntry). Some (x ++ es)) (sym (append_assoc l s (e ∷ [])))
+    ∙ ap Some (append_assoc (l ++ s) (e ∷ []) es)
+read_one X e es done t l s below o h k =
+    below done (Join X t (Leaf (member e))) l (s ++ e ∷ []) h (one_leaf X t e s o refl k)
     ∙ ap (λ (x : List ListEntry). Some (x ++ es)) (sym (append_assoc l s (e ∷ [])))
     ∙ ap Some (append_assoc (l ++ s) (e ∷ []) es)
 

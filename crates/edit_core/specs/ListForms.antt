@@ -1,7 +1,7 @@
 -- The list of a tree, read off the tree.
 use Rattle.std.specs.Prelude.{List, [], ◌∷◌, ◌++◌, Option, Some, None}
 use Rattle.tree_forms.specs.declared.Op.{Op}
-use Rattle.tree_forms.specs.declared.Op.TheVariants.{U, N, Minus}
+use Rattle.tree_forms.specs.declared.Op.TheVariants.{U, N, Minus, X}
 use Rattle.tree_forms.specs.Trees.{Tree, Leaf, Join}
 use Rattle.comb_tree.specs.declared.node.ListEntry.{ListEntry}
 use Rattle.comb_tree.specs.Nodes.{Comb, Member}
@@ -26,6 +26,7 @@ product_of (Leaf m) = Some (entry_of U m ∷ [])
 product_of (Join U l r) = None
 product_of (Join N l r) = both (product_of l) (one_entry N r)
 product_of (Join Minus l r) = both (product_of l) (one_entry Minus r)
+product_of (Join X l r) = both (product_of l) (one_entry X r)
 
 -- the list of a union of products, taken from the left
 abbrev pub union_list : Tree Member → Option (List ListEntry)
@@ -33,6 +34,7 @@ union_list (Leaf m) = product_of (Leaf m)
 union_list (Join U l r) = both (union_list l) (product_of r)
 union_list (Join N l r) = product_of (Join N l r)
 union_list (Join Minus l r) = product_of (Join Minus l r)
+union_list (Join X l r) = product_of (Join X l r)
 
 -- the list of a tree, where it has one
 abbrev pub list_of : Comb → Option (List ListEntry)

@@ -18,7 +18,7 @@ use Rattle.tcl_words.proofs.Fine.{fine_words}
 use Rattle.tcl_words.proofs.Scan.{Piece, scanned}
 use Rattle.tcl_words.proofs.Written.{Again, Good, GoodPiece, read_again}
 use Rattle.tree_forms.specs.declared.Op.{Op}
-use Rattle.tree_forms.specs.declared.Op.TheVariants.{U, N, Minus}
+use Rattle.tree_forms.specs.declared.Op.TheVariants.{U, N, Minus, X}
 use Rattle.comb_tree.specs.Changes.{names_of}
 use Rattle.comb_tree.specs.declared.node.ListEntry.{ListEntry}
 use Rattle.word_values.specs.Atoms.{all_atoms, atoms_in}
@@ -49,6 +49,7 @@ operator_good : (op : Op) → IsAtomWord (operator_word op)
 operator_good U = (omega arith, (refl, refl, tt))
 operator_good N = (omega arith, (refl, refl, tt))
 operator_good Minus = (omega arith, (refl, refl, tt))
+operator_good X = (omega arith, (refl, refl, tt))
 
 members_good : (members : List Member) → AreMembers members → AllByRecursion IsAtomWord (member_words members)
 members_good [] are = tt
@@ -221,6 +222,7 @@ operator_again : (op : Op) → operator_of (operator_word op) ≡ Some op
 operator_again U = refl
 operator_again N = refl
 operator_again Minus = refl
+operator_again X = refl
 
 entries_again : (members : List Member) → entries_of (member_words members) ≡ Some (map new_entry members)
 entries_again [] = refl

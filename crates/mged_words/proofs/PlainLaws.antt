@@ -20,14 +20,14 @@ use Rattle.mged_words.specs.Commands.{unless_refused, name_fault, names_fault, m
 use Rattle.word_values.specs.Matrices.{placement_read, identity}
 use Rattle.mged_words.specs.Readable.{ArePlain, ArePlainPairs, IsPlain, IsPlainRefusal, IsReadable}
 use Rattle.plane_geom.specs.declared.fault.ShapeFault.{ShapeFault}
-use Rattle.plane_geom.specs.declared.fault.ShapeFault.TheVariants.{Flat, NotPlanar, NotConvex, Radius, ZeroNormal}
+use Rattle.plane_geom.specs.declared.fault.ShapeFault.TheVariants.{Flat, NotPlanar, NotConvex, Radius, ZeroNormal, Axis}
 use Rattle.solid_set.specs.declared.solid.Solid.{Solid}
 use Rattle.word_values.specs.declared.solid.SolidKind.{SolidKind}
 use Rattle.word_values.specs.Solids.{kind_of, number_count, solid_made, vector_at}
 use Rattle.command_set.specs.Refusals.{shape_text}
 use Rattle.lattice_core.specs.declared.view.View as views
 use Rattle.lattice_core.specs.declared.view.ViewFault.{ViewFault}
-use Rattle.lattice_core.specs.declared.view.ViewFault.TheVariants.{Pixels, Side, Cell, World}
+use Rattle.lattice_core.specs.declared.view.ViewFault.TheVariants.{Pixels, Side, Cell, Direction, World}
 use Rattle.lattice_core.specs.Views.{view_fault}
 use Rattle.std.specs.Option.{option_map}
 use Rattle.mged_words.proofs.ViewLines.{seen_whole}
@@ -72,6 +72,7 @@ plain_view : (fault : ViewFault) → IsPlainRefusal (View fault)
 plain_view Pixels = record { one_line = computed 10 (codes "view pixels") refl; other = refl }
 plain_view Side = record { one_line = computed 10 (codes "view side") refl; other = refl }
 plain_view Cell = record { one_line = computed 10 (codes "view cell") refl; other = refl }
+plain_view Direction = record { one_line = computed 10 (codes "view direction") refl; other = refl }
 plain_view World = record { one_line = computed 10 (codes "view world") refl; other = refl }
 
 shape_one_line : (fault : ShapeFault) → Lacks 10 (shape_text fault)
@@ -80,6 +81,7 @@ shape_one_line (NotPlanar face) = lacks_append 10 (codes "planar ") (decimal fac
 shape_one_line (NotConvex face) = lacks_append 10 (codes "convex ") (decimal face) (computed 10 (codes "convex ") refl) (number_lacks face)
 shape_one_line Radius = computed 10 (codes "radius") refl
 shape_one_line ZeroNormal = computed 10 (codes "normal") refl
+shape_one_line Axis = computed 10 (codes "axis") refl
 
 plain_shape : (fault : ShapeFault) → IsPlainRefusal (Shape fault)
 plain_shape fault = record { one_line = lacks_append 10 (codes "shape ") (shape_text fault) (computed 10 (codes "shape ") refl) (shape_one_line fault); other = refl }

@@ -18,7 +18,7 @@ use Rattle.tcl_words.specs.declared.fault.WordFault.{WordFault}
 use Rattle.tcl_words.specs.declared.token.Token.{Token}
 use Rattle.tcl_words.specs.declared.token.Word.{Word}
 use Rattle.tree_forms.specs.declared.Op.{Op}
-use Rattle.tree_forms.specs.declared.Op.TheVariants.{U, N, Minus}
+use Rattle.tree_forms.specs.declared.Op.TheVariants.{U, N, Minus, X}
 use Rattle.comb_tree.specs.declared.node.ListEntry.{ListEntry}
 use Rattle.comb_tree.specs.Changes.{names_of}
 use Rattle.region_attr.specs.Keys.{key_of}
@@ -183,7 +183,8 @@ abbrev pub operator_of : List ℕ → Option Op
 operator_of word =
     if bytes_eq word (codes "u") then Some U
     else (if bytes_eq word (codes "+") then Some N
-    else (if bytes_eq word (codes "-") then Some Minus else None))
+    else (if bytes_eq word (codes "-") then Some Minus
+    else (if bytes_eq word (codes "^") then Some X else None)))
 
 -- a new member as an entry of a list, placed where it was made
 abbrev pub entry_of : Op → List ℕ → ListEntry

@@ -9,7 +9,7 @@ use Rattle.tcl_words.specs.Faults.{is_bad_at}
 use Rattle.word_values.specs.declared.solid.SolidKind.{SolidKind}
 use Rattle.word_values.specs.declared.solid.SolidKind.TheVariants.{Half, Rpp, Arb8, Sphere}
 use Rattle.tree_forms.specs.declared.Op.{Op}
-use Rattle.tree_forms.specs.declared.Op.TheVariants.{U, N, Minus}
+use Rattle.tree_forms.specs.declared.Op.TheVariants.{U, N, Minus, X}
 use Rattle.comb_tree.specs.declared.node.ListEntry.{ListEntry}
 use Rattle.mged_words.specs.Commands.{entry_of}
 
@@ -25,6 +25,7 @@ abbrev pub operator_word : Op → List ℕ
 operator_word U = codes "u"
 operator_word N = codes "+"
 operator_word Minus = codes "-"
+operator_word X = codes "^"
 
 -- a new member of a list, by its operator and its name
 abbrev pub Member : Type 0

@@ -23,6 +23,8 @@ fn operator(word: &[u8]) -> Option<Op>
         Some(Op::N)
     } else if is_word(word, b"-") {
         Some(Op::Minus)
+    } else if is_word(word, b"^") {
+        Some(Op::X)
     } else {
         None
     }

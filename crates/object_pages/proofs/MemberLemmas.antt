@@ -32,6 +32,7 @@ no_name : (o : Op) → node_names (apply o ∷ []) ≡ []
 no_name op.U = refl
 no_name op.N = refl
 no_name op.Minus = refl
+no_name op.X = refl
 
 pub append_none : (l : List Name) → l ++ [] ≡ l
 append_none [] = refl

@@ -5,7 +5,7 @@ use Rattle.name_core.specs.declared.name.Name.{Name}
 use Rattle.name_core.specs.Same.{same_name}
 use Rattle.comb_tree.specs.Changes.{is_among}
 use Rattle.comb_tree.specs.declared.node.CombNode.{CombNode}
-use Rattle.comb_tree.specs.declared.node.CombNode.TheVariants.{Leaf, U, N, Minus}
+use Rattle.comb_tree.specs.declared.node.CombNode.TheVariants.{Leaf, U, N, Minus, X}
 
 -- the name of a leaf
 abbrev pub name_of_node : CombNode → List Name
@@ -13,6 +13,7 @@ name_of_node (Leaf name placement) = name ∷ []
 name_of_node U = []
 name_of_node N = []
 name_of_node Minus = []
+name_of_node X = []
 
 -- the names of the leaves among the nodes, in order
 abbrev pub node_names : List CombNode → List Name

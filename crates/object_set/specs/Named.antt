@@ -16,6 +16,7 @@ HasName (nodes.Leaf name placement) = IsName name
 HasName nodes.U = Unit {0}
 HasName nodes.N = Unit {0}
 HasName nodes.Minus = Unit {0}
+HasName nodes.X = Unit {0}
 
 -- the names of all members are names
 abbrev pub HaveNames : Body → Type 0

@@ -47,6 +47,7 @@ fn step_on(
         MaskNode::U => join_top(stack, Op::U),
         MaskNode::N => join_top(stack, Op::N),
         MaskNode::Minus => join_top(stack, Op::Minus),
+        MaskNode::X => join_top(stack, Op::X),
     }
 }
 

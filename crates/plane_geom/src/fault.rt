@@ -21,6 +21,6 @@ pub enum ShapeFault {
     #[error("zero normal")]
     ZeroNormal,
     /// Not exactly one component of the height differs from 0.
-    #[error("axis")]
+    #[error("height not along one axis")]
     Axis,
 }

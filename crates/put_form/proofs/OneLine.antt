@@ -10,7 +10,7 @@ use Rattle.lattice_core.specs.declared.vector.V3.{V3}
 use Rattle.lattice_core.specs.declared.placement.Placement.{Placement}
 use Rattle.lattice_core.specs.Placements.{matrix_of}
 use Rattle.tree_forms.specs.declared.Op.{Op}
-use Rattle.tree_forms.specs.declared.Op.TheVariants.{U, N, Minus}
+use Rattle.tree_forms.specs.declared.Op.TheVariants.{U, N, Minus, X}
 use Rattle.tree_forms.specs.Trees.{Tree, Leaf, Join, leaves, postfix}
 use Rattle.comb_tree.specs.Nodes.{Comb, Member, leaf, apply, comb_nodes, members}
 use Rattle.region_attr.specs.declared.attr.Attr.{Attr}
@@ -120,6 +120,7 @@ operator_lacks : (op : Op) → Lacks 10 (operator_text op)
 operator_lacks U = computed 10 (codes "u") refl
 operator_lacks N = computed 10 (codes "n") refl
 operator_lacks Minus = computed 10 (codes "-") refl
+operator_lacks X = computed 10 (codes "^") refl
 
 -- a tree whose members' names have none
 node_lacks : (t : Tree Member) → AreNamed (leaves t) → Lacks 10 (node_text t)

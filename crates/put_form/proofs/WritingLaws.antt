@@ -4,7 +4,7 @@ use Rattle.std.specs.Fmt.{signed_decimal}
 use Rattle.std.proofs.Math.Seq.{drop-cons}
 use Rattle.std.proofs.lemmas.List.{reverse-append, reverse-reverse}
 use Rattle.tree_forms.specs.declared.Op.{Op}
-use Rattle.tree_forms.specs.declared.Op.TheVariants.{U, N, Minus}
+use Rattle.tree_forms.specs.declared.Op.TheVariants.{U, N, Minus, X}
 use Rattle.tree_forms.specs.Trees.{Tree, Leaf, Join, postfix}
 use Rattle.comb_tree.specs.Nodes.{Comb, Member, leaf, apply, comb_nodes}
 use Rattle.comb_tree.specs.declared.node.CombNode.{CombNode}
@@ -26,11 +26,13 @@ apply_text : (o : Op) (stack : List Before) → step_text (apply o) stack ≡ co
 apply_text U stack = refl
 apply_text N stack = refl
 apply_text Minus stack = refl
+apply_text X stack = refl
 
 apply_stack : (o : Op) (stack : List Before) → step_stack (apply o) stack ≡ LeftSide ∷ Operator o ∷ stack
 apply_stack U stack = refl
 apply_stack N stack = refl
 apply_stack Minus stack = refl
+apply_stack X stack = refl
 
 -- an operator's node, its right side and its left side
 nodes_back : (left right rest : List CombNode) (n : CombNode) → reverse (left ++ (right ++ n ∷ [])) ++ rest ≡ n ∷ (reverse right ++ (reverse left ++ rest))

@@ -57,12 +57,14 @@ step_text (node.Leaf name placement) stack = reverse (leaf_text name placement) 
 step_text node.U stack = codes "}"
 step_text node.N stack = codes "}"
 step_text node.Minus stack = codes "}"
+step_text node.X stack = codes "}"
 
 abbrev pub step_stack : CombNode → List Before → List Before
 step_stack (node.Leaf name placement) stack = after stack
 step_stack node.U stack = LeftSide ∷ Operator op.U ∷ stack
 step_stack node.N stack = LeftSide ∷ Operator op.N ∷ stack
 step_stack node.Minus stack = LeftSide ∷ Operator op.Minus ∷ stack
+step_stack node.X stack = LeftSide ∷ Operator op.X ∷ stack
 
 -- what nodes add, the last of the tree being the first
 abbrev pub walked : List CombNode → List Before → List ℕ

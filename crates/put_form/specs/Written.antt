@@ -7,7 +7,7 @@ use Rattle.lattice_core.specs.declared.vector.V3.{V3}
 use Rattle.lattice_core.specs.declared.placement.Placement.{Placement}
 use Rattle.lattice_core.specs.Placements.{matrix_of}
 use Rattle.tree_forms.specs.declared.Op.{Op}
-use Rattle.tree_forms.specs.declared.Op.TheVariants.{U, N, Minus}
+use Rattle.tree_forms.specs.declared.Op.TheVariants.{U, N, Minus, X}
 use Rattle.tree_forms.specs.Trees.{Tree, Leaf, Join}
 use Rattle.comb_tree.specs.Nodes.{Comb, Member}
 use Rattle.region_attr.specs.declared.attr.Attr.{Attr}
@@ -64,6 +64,7 @@ abbrev pub operator_text : Op → List ℕ
 operator_text U = codes "u"
 operator_text N = codes "n"
 operator_text Minus = codes "-"
+operator_text X = codes "^"
 
 abbrev pub node_text : Tree Member → List ℕ
 node_text (Leaf m) = codes "l " ++ (m.name ++ matrix_text m.placement)

@@ -73,6 +73,7 @@ fn operator_backwards(op: Op) -> &'static [u8]
         Op::U => b"{ u",
         Op::N => b"{ n",
         Op::Minus => b"{ -",
+        Op::X => b"{ ^",
     }
 }
 
@@ -118,6 +119,7 @@ fn push_node(line: &mut Vec<u8>, stack: &mut Vec<Before>, node: &CombNode) -> Re
         CombNode::U => push_end(line, stack, Op::U),
         CombNode::N => push_end(line, stack, Op::N),
         CombNode::Minus => push_end(line, stack, Op::Minus),
+        CombNode::X => push_end(line, stack, Op::X),
     }
 }
 

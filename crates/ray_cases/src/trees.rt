@@ -26,6 +26,7 @@ fn op_node(op: Op) -> MaskNode
         Op::U => MaskNode::U,
         Op::N => MaskNode::N,
         Op::Minus => MaskNode::Minus,
+        Op::X => MaskNode::X,
     }
 }
 
@@ -59,6 +60,7 @@ fn step_on(alloc: Global, stack: &mut Vec<MaskTree>, word: &[u8]) -> Result<(), 
         b"u" => join_top(alloc, stack, Op::U),
         b"+" => join_top(alloc, stack, Op::N),
         b"-" => join_top(alloc, stack, Op::Minus),
+        b"^" => join_top(alloc, stack, Op::X),
         b"?" => {
             stack.push(one_leaf(alloc, None)?)?;
             Ok(())
@@ -95,6 +97,7 @@ fn put_node(node: &MaskNode, out: &mut Shown) {
         MaskNode::U => out.put(b" u"),
         MaskNode::N => out.put(b" +"),
         MaskNode::Minus => out.put(b" -"),
+        MaskNode::X => out.put(b" ^"),
     }
 }
 

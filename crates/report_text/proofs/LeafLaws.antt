@@ -5,7 +5,7 @@ use Rattle.std.proofs.lemmas.List.{reverse-append, reverse-reverse}
 use Rattle.name_core.specs.declared.name.Name.{Name}
 use Rattle.name_core.specs.NameText.{IsName}
 use Rattle.tree_forms.specs.declared.Op.{Op}
-use Rattle.tree_forms.specs.declared.Op.TheVariants.{U, N, Minus}
+use Rattle.tree_forms.specs.declared.Op.TheVariants.{U, N, Minus, X}
 use Rattle.tree_forms.specs.Trees.{Tree, Leaf, Join, postfix}
 use Rattle.comb_tree.specs.Nodes.{Comb, Member, leaf, apply, comb_nodes}
 use Rattle.comb_tree.specs.declared.node.CombNode.{CombNode}
@@ -29,6 +29,7 @@ found_operator : (o : Op) (nodes : List CombNode) (operators : List Op) → foun
 found_operator U nodes operators = refl
 found_operator N nodes operators = refl
 found_operator Minus nodes operators = refl
+found_operator X nodes operators = refl
 
 -- the leaves of a tree, backwards, take the first operator that is owed
 tree_found : (t : Tree Member) (rest : List CombNode) (op : Op) (operators : List Op) → found_in (reverse (postfix leaf apply t) ++ rest) (op ∷ operators) ≡ reverse (listed_from op t) ++ found_in rest operators
@@ -73,6 +74,7 @@ operator_lacks : (op : Op) → Lacks 10 (operator_text op)
 operator_lacks U = computed 10 (codes "u") refl
 operator_lacks N = computed 10 (codes "+") refl
 operator_lacks Minus = computed 10 (codes "-") refl
+operator_lacks X = computed 10 (codes "^") refl
 
 blanks_lack : (n : ℕ) → Lacks 10 (replicate n 32)
 blanks_lack zero = tt

@@ -2,7 +2,7 @@
 use Rattle.std.specs.Prelude.{ℕ, zero, suc, ◌+◌, ◌*◌, List, [], ◌∷◌, ◌++◌, flat_map, replicate, Option, None, Some, codes}
 use Rattle.name_core.specs.declared.name.Name.{Name}
 use Rattle.tree_forms.specs.declared.Op.{Op}
-use Rattle.tree_forms.specs.declared.Op.TheVariants.{U, N, Minus}
+use Rattle.tree_forms.specs.declared.Op.TheVariants.{U, N, Minus, X}
 use Rattle.tree_forms.specs.Trees.{Tree, Leaf, Join}
 use Rattle.comb_tree.specs.Nodes.{Comb as CombTree, Member}
 use Rattle.object_set.specs.declared.object.Body.{Body}
@@ -26,6 +26,7 @@ abbrev pub operator_text : Op → List ℕ
 operator_text U = codes "u"
 operator_text N = codes "+"
 operator_text Minus = codes "-"
+operator_text X = codes "^"
 
 -- a leaf, and the operator of the nearest node above it on whose right side it stands
 pub record Listed : Type 0 where

@@ -30,6 +30,7 @@ found_at (nodes.Leaf name placement) operators = record { op = first_operator op
 found_at nodes.U operators = []
 found_at nodes.N operators = []
 found_at nodes.Minus operators = []
+found_at nodes.X operators = []
 
 -- what is owed after a node
 abbrev pub operators_after : CombNode → List Op → List Op
@@ -37,6 +38,7 @@ operators_after (nodes.Leaf name placement) operators = other_operators operator
 operators_after nodes.U operators = ops.U ∷ operators
 operators_after nodes.N operators = ops.N ∷ operators
 operators_after nodes.Minus operators = ops.Minus ∷ operators
+operators_after nodes.X operators = ops.X ∷ operators
 
 -- the leaves of nodes that are gone through
 abbrev pub found_in : List CombNode → List Op → List Listed

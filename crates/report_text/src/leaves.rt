@@ -74,6 +74,7 @@ fn pass_node(found: &mut Vec<Leaf>, operators: &mut Vec<Op>, node: &CombNode) ->
         CombNode::U => owe(operators, Op::U),
         CombNode::N => owe(operators, Op::N),
         CombNode::Minus => owe(operators, Op::Minus),
+        CombNode::X => owe(operators, Op::X),
     }
 }
 

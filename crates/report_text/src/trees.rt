@@ -43,6 +43,7 @@ fn operator_text(op: Op) -> &'static [u8]
         Op::U => b"u",
         Op::N => b"+",
         Op::Minus => b"-",
+        Op::X => b"^",
     }
 }
 

@@ -55,6 +55,7 @@ no_leaf : (o : Op) (name : Name) (placement : Placement) → ¬ (apply o ≡ nod
 no_leaf op.U name placement e = cc
 no_leaf op.N name placement e = cc
 no_leaf op.Minus name placement e = cc
+no_leaf op.X name placement e = cc
 
 -- ---- the start of the last tree: what stands between `front` and the nodes already taken is that many trees
 pub record Wants (front rest : List CombNode) (wanted : ℕ) : Type 0 where
@@ -158,6 +159,7 @@ opens_union t before n found (Join op.U l r ∷ ts) is e parts = record {
 }
 opens_union t before n found (Join op.N l r ∷ ts) is e parts = let same = (last_opened [] before n (Join op.N l r) ts e).1 in cc
 opens_union t before n found (Join op.Minus l r ∷ ts) is e parts = let same = (last_opened [] before n (Join op.Minus l r) ts e).1 in cc
+opens_union t before n found (Join op.X l r ∷ ts) is e parts = let same = (last_opened [] before n (Join op.X l r) ts e).1 in cc
 
 pub united_union : (t : Tree Member) (before : List CombNode) (n : CombNode) (found : List (List CombNode)) → n ≡ node.U → HasUnited t (before ++ n ∷ []) found → HasUnited t before found
 united_union t before n found is h = opens_union t before n found h.trees is h.nodes_are h.parts_are
@@ -167,6 +169,7 @@ one_part (Leaf m) differs = refl
 one_part (Join op.U l r) differs = absurd (differs refl)
 one_part (Join op.N l r) differs = refl
 one_part (Join op.Minus l r) differs = refl
+one_part (Join op.X l r) differs = refl
 
 finds_part : (t : Tree Member) (rest before tree last : List CombNode) (n : CombNode) (found : List (List CombNode)) (start : ℕ) (trees : List (Tree Member)) → ¬ (n ≡ node.U) → rest ≡ last ++ n ∷ [] → IsBefore rest start
     → before ≡ take start rest → tree ≡ drop start rest → rest ≡ forest trees → map tree_nodes (united_parts t) ≡ map tree_nodes (parts_below trees) ++ found → HasUnited t before (tree ∷ found)

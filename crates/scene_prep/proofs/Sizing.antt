@@ -25,6 +25,7 @@ op_size : (directory : Entries) (o : Op) → node_size directory (apply o) ≡ 0
 op_size directory op.U = refl
 op_size directory op.N = refl
 op_size directory op.Minus = refl
+op_size directory op.X = refl
 
 pub one_size : (directory : Entries) (node : CombNode) → nodes_size directory (node ∷ []) ≡ node_size directory node
 one_size directory node = omega arith
@@ -80,6 +81,7 @@ op_stands : (directory : Entries) (levels : ℕ) (o : Op) → StandsWithin direc
 op_stands directory levels op.U = tt
 op_stands directory levels op.N = tt
 op_stands directory levels op.Minus = tt
+op_stands directory levels op.X = tt
 
 tree_stands : (directory : Entries) (levels : ℕ) (t : Tree Member) → ((m : Member) → Contains (leaves t) m → StandsWithin directory levels (leaf m)) → All (StandsWithin directory levels) (postfix leaf apply t)
 tree_stands directory levels (Leaf member) each = All-cons (StandsWithin directory levels) (leaf member) [] (each member (0, omega arith, refl)) (All-nil (StandsWithin directory levels))

@@ -91,6 +91,7 @@ near_node directory levels (nodes.Leaf name placement) h = h.1
 near_node directory levels nodes.U h = tt
 near_node directory levels nodes.N h = tt
 near_node directory levels nodes.Minus h = tt
+near_node directory levels nodes.X h = tt
 
 pub near_nodes : (directory : Entries) (levels : ℕ) (ns : List CombNode) → All (StandsWithin directory levels) ns → All IsNearNode ns
 near_nodes directory levels ns h = λ k d lt. near_node directory levels (get_or ns k d) (h k d lt)

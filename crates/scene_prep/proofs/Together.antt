@@ -2,7 +2,7 @@
 use Rattle.std.proofs.Common.{◌≡◌, ◌∙◌, ◌+◌, ℕ, zero, suc, List, [], ◌∷◌, ◌++◌, map, refl, ap, sym, Bool, true, false, ◌||◌}
 use Rattle.std.specs.Prelude.{None, Some, Option, cond}
 use Rattle.std.specs.List.{list_any}
-use Rattle.tree_forms.specs.declared.Op.TheVariants.{U, N, Minus}
+use Rattle.tree_forms.specs.declared.Op.TheVariants.{U, N, Minus, X}
 use Rattle.tree_forms.specs.Trees.{Tree, Leaf, Join, holds_by, joined}
 use Rattle.lattice_core.specs.declared.placement.Placement.{Placement}
 use Rattle.name_core.specs.declared.name.Name.{Name}
@@ -82,6 +82,7 @@ of_united expand values (Join U l r) =
     ∙ ap (λ b. holds values (expanded_tree expand l) || b) (of_united expand values r)
 of_united expand values (Join N l r) = or_false (holds values (expanded_tree expand (Join N l r)))
 of_united expand values (Join Minus l r) = or_false (holds values (expanded_tree expand (Join Minus l r)))
+of_united expand values (Join X l r) = or_false (holds values (expanded_tree expand (Join X l r)))
 
 of_choice : (expand : Name → Expanded) (below : Name → List NamedRegion) → AreTogether expand below → (values : PlacedSolid → Bool) (attr : Attr) (tree : Tree Member) (marked : Bool)
     → some_holds values (cond marked (whole_region expand attr tree ∷ []) (regions_united expand below 1 (united_parts tree))) ≡ holds values (expanded_tree expand tree)

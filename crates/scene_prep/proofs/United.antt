@@ -5,7 +5,7 @@ use Rattle.std.specs.Option.{option_map}
 use Rattle.std.proofs.lemmas.Bool.{ne_eqb}
 use Rattle.std.proofs.lemmas.Bool.Decides.{Decides-eqb}
 use Rattle.std.proofs.lemmas.List.{append-nil, get_or_append_left, get_or-append_right}
-use Rattle.tree_forms.specs.declared.Op.TheVariants.{U, N, Minus}
+use Rattle.tree_forms.specs.declared.Op.TheVariants.{U, N, Minus, X}
 use Rattle.tree_forms.specs.Trees.{Tree, Leaf, Join, postfix}
 use Rattle.comb_tree.proofs.Reading.{comb_back}
 use Rattle.name_core.specs.declared.name.Name.{Name}
@@ -41,10 +41,10 @@ pub record IsPartOf (directory : Entries) (comb : Name) (part : Part) : Type 0 w
   pub numbered : IsNumbered directory comb tree part.number
 
 -- ---- lists
-pub all_left : {X : Type 0} (P : X → Type 0) (xs ys : List X) → All P (xs ++ ys) → All P xs
+pub all_left : {A : Type 0} (P : A → Type 0) (xs ys : List A) → All P (xs ++ ys) → All P xs
 all_left P xs ys h = λ k d lt. subst P (get_or_append_left xs ys d k lt) (h k d (omega (arith, length-append xs ys, lt)))
 
-pub all_right : {X : Type 0} (P : X → Type 0) (xs ys : List X) → All P (xs ++ ys) → All P ys
+pub all_right : {A : Type 0} (P : A → Type 0) (xs ys : List A) → All P (xs ++ ys) → All P ys
 all_right P xs ys h = λ k d lt.
     let less : length xs + k - length xs ≡ k = omega arith in
     subst P (get_or-append_right xs ys (length xs) (length xs + k) d refl (omega arith) ∙ ap (λ n. get_or ys n d) less) (h (length xs + k) d (omega (arith, length-append xs ys, lt)))
@@ -66,6 +66,7 @@ each_united P (Join U l r) h =
     (each_united P r (all_left P (postfix leaf apply r) (apply U ∷ []) right))
 each_united P (Join N l r) h = (h, tt)
 each_united P (Join Minus l r) h = (h, tt)
+each_united P (Join X l r) h = (h, tt)
 
 -- ---- one part
 abbrev pub number_of : ℕ → Tree Member → ℕ

@@ -4,7 +4,7 @@ use Rattle.std.specs.Prelude.{None, Some, Option, cond, sum_by, Contains}
 use Rattle.std.proofs.lemmas.List.{map-append}
 use Rattle.std.proofs.lemmas.List.Elements.{Contains-append_left, Contains-append_right}
 use Rattle.std.proofs.lemmas.List.Sums.{sum_by-append}
-use Rattle.tree_forms.specs.declared.Op.TheVariants.{U, N, Minus}
+use Rattle.tree_forms.specs.declared.Op.TheVariants.{U, N, Minus, X}
 use Rattle.tree_forms.specs.Trees.{Tree, Leaf, Join, leaves}
 use Rattle.name_core.specs.declared.name.Name.{Name}
 use Rattle.region_attr.specs.declared.attr.Attr.{Attr}
@@ -72,6 +72,7 @@ each_part P (Leaf member) h = (h, tt)
 each_part P (Join U l r) h = parts-append P (united_parts l) (united_parts r) (each_part P l h.0) (each_part P r h.1)
 each_part P (Join N l r) h = (h, tt)
 each_part P (Join Minus l r) h = (h, tt)
+each_part P (Join X l r) h = (h, tt)
 
 parts_same : (directory : Entries) (n m number : ℕ) (parts : List (Tree Member)) → EachPart (AreSame directory n m) parts
     → regions_united (expanded_within n directory) (regions_within n directory) number parts ≡ regions_united (expanded_within m directory) (regions_within m directory) number parts

@@ -3,7 +3,7 @@ use Rattle.std.proofs.Common.{◌≡◌, ◌∙◌, ◌+◌, ◌≤◌, ℕ, zer
 use Rattle.std.specs.Prelude.{None, Some, Option, cond, sum_by}
 use Rattle.std.proofs.lemmas.List.Sums.{sum_by-append}
 use Rattle.std.specs.Option.{option_map}
-use Rattle.tree_forms.specs.declared.Op.TheVariants.{U, N, Minus}
+use Rattle.tree_forms.specs.declared.Op.TheVariants.{U, N, Minus, X}
 use Rattle.tree_forms.specs.Trees.{Tree, Leaf, Join, leaves}
 use Rattle.lattice_core.specs.declared.placement.Placement.{Placement}
 use Rattle.name_core.specs.declared.name.Name.{Name}
@@ -25,7 +25,7 @@ total regions = sum_by (λ region. length (leaves region.tree)) regions
 abbrev pub tree_size : (Name → ℕ) → Tree Member → ℕ
 tree_size size t = sum_by (λ member. size member.name) (leaves t)
 
-pub sum_first : {X : Type 0} (f : X → ℕ) (x : X) (xs : List X) → sum_by f (x ∷ xs) ≡ f x + sum_by f xs
+pub sum_first : {A : Type 0} (f : A → ℕ) (x : A) (xs : List A) → sum_by f (x ∷ xs) ≡ f x + sum_by f xs
 sum_first f x xs =
     let one : sum_by f (x ∷ []) ≡ f x = omega arith in
     sum_by-append f (x ∷ []) xs ∙ ap (λ n. n + sum_by f xs) one
@@ -56,6 +56,7 @@ of_united size (Leaf member) = omega arith
 of_united size (Join U l r) = omega (arith, sum_by-append (tree_size size) (united_parts l) (united_parts r), sum_by-append (λ (member : Member). size member.name) (leaves l) (leaves r), of_united size l, of_united size r)
 of_united size (Join N l r) = omega arith
 of_united size (Join Minus l r) = omega arith
+of_united size (Join X l r) = omega arith
 
 of_parts : (levels : ℕ) (directory : Entries) (number : ℕ) (parts : List (Tree Member)) → ((name : Name) → total (regions_within levels directory name) ≤ size_within levels directory name)
     → total (regions_united (expanded_within levels directory) (regions_within levels directory) number parts) ≤ sum_by (tree_size (size_within levels directory)) parts

@@ -95,12 +95,14 @@ module _ (directory : Entries) (by : Placement) where
   node_solids node.U = []
   node_solids node.N = []
   node_solids node.Minus = []
+  node_solids node.X = []
 
   abbrev node_masks : ℕ → CombNode → List MaskNode
   node_masks first (node.Leaf name placement) = mask_nodes (numbered first (member_tree name placement))
   node_masks first node.U = mask.U ∷ []
   node_masks first node.N = mask.N ∷ []
   node_masks first node.Minus = mask.Minus ∷ []
+  node_masks first node.X = mask.X ∷ []
 
   abbrev forest_solids : List CombNode → List PlacedSolid
   forest_solids [] = []
@@ -130,11 +132,13 @@ module _ (directory : Entries) (by : Placement) where
   op_solids op.U = refl
   op_solids op.N = refl
   op_solids op.Minus = refl
+  op_solids op.X = refl
 
   op_masks : (first : ℕ) (o : Op) → node_masks first (apply o) ≡ masks.apply o ∷ []
   op_masks first op.U = refl
   op_masks first op.N = refl
   op_masks first op.Minus = refl
+  op_masks first op.X = refl
 
   abbrev whole_tree : Tree Member → Expanded
   whole_tree t = placed_tree by (expanded_tree (expanded directory) t)
@@ -187,6 +191,7 @@ module _ (directory : Entries) (by : Placement) where
   one_written old new node.U w = (w.nodes, w.solids ∙ sym (append_none (map instance_of old.solids.items)))
   one_written old new node.N w = (w.nodes, w.solids ∙ sym (append_none (map instance_of old.solids.items)))
   one_written old new node.Minus w = (w.nodes, w.solids ∙ sym (append_none (map instance_of old.solids.items)))
+  one_written old new node.X w = (w.nodes, w.solids ∙ sym (append_none (map instance_of old.solids.items)))
 
   pub more_written : (old mid new : Expansion) (nodes : List CombNode) (n : CombNode) → HasWritten old mid nodes → WritesNode directory by mid new n → HasWritten old new (nodes ++ n ∷ [])
   more_written old mid new nodes n h w =
@@ -224,6 +229,7 @@ module _ (directory : Entries) (by : Placement) where
   node_within node.U = omega arith
   node_within node.N = omega arith
   node_within node.Minus = omega arith
+  node_within node.X = omega arith
 
   forest_within : (ns : List CombNode) → length (forest_solids ns) ≤ nodes_size directory ns
   forest_within [] = omega arith

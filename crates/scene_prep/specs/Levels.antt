@@ -5,7 +5,7 @@ use Rattle.lattice_core.specs.declared.placement.Placement.{Placement}
 use Rattle.lattice_core.specs.Limits.{IsWithin}
 use Rattle.name_core.specs.declared.name.Name.{Name}
 use Rattle.comb_tree.specs.declared.node.CombNode.{CombNode}
-use Rattle.comb_tree.specs.declared.node.CombNode.TheVariants.{Leaf, U, N, Minus}
+use Rattle.comb_tree.specs.declared.node.CombNode.TheVariants.{Leaf, U, N, Minus, X}
 use Rattle.directory.specs.Walks.{Entries, IsWalk, combinations, most_depth}
 use Rattle.scene_prep.specs.Sizes.{size_of_name, told_size}
 
@@ -19,6 +19,7 @@ StandsWithin directory levels (Leaf name placement) = IsShallow directory levels
 StandsWithin directory levels U = Unit {0}
 StandsWithin directory levels N = Unit {0}
 StandsWithin directory levels Minus = Unit {0}
+StandsWithin directory levels X = Unit {0}
 
 -- the placement of something below which so many combinations lie at most, each of those above adding at most COORD to its shift
 pub record IsPlacedAbove (levels : ℕ) (by : Placement) : Type 0 where
@@ -31,6 +32,7 @@ node_size directory (Leaf name placement) = size_of_name directory name
 node_size directory U = 0
 node_size directory N = 0
 node_size directory Minus = 0
+node_size directory X = 0
 
 abbrev pub nodes_size : Entries → List CombNode → ℕ
 nodes_size directory nodes = sum_by (node_size directory) nodes

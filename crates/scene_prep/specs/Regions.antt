@@ -1,6 +1,6 @@
 -- The regions of a list of names.
 use Rattle.std.specs.Prelude.{ℕ, zero, suc, ◌+◌, List, [], ◌∷◌, ◌++◌, map, flat_map, cond, Option, Some, None}
-use Rattle.tree_forms.specs.declared.Op.TheVariants.{U, N, Minus}
+use Rattle.tree_forms.specs.declared.Op.TheVariants.{U, N, Minus, X}
 use Rattle.tree_forms.specs.Trees.{Tree, Leaf, Join}
 use Rattle.name_core.specs.declared.name.Name.{Name}
 use Rattle.region_attr.specs.declared.attr.Attr.{Attr}
@@ -73,6 +73,7 @@ united_parts (Leaf a) = Leaf a ∷ []
 united_parts (Join U l r) = united_parts l ++ united_parts r
 united_parts (Join N l r) = Join N l r ∷ []
 united_parts (Join Minus l r) = Join Minus l r ∷ []
+united_parts (Join X l r) = Join X l r ∷ []
 
 -- a leaf gives the regions of its member, placed; a node is one region, and the nodes are numbered from the left
 abbrev pub regions_united : (Name → Expanded) → (Name → List NamedRegion) → ℕ → List (Tree Member) → List NamedRegion

@@ -192,6 +192,7 @@ IsNearNode (nodes.Leaf name placement) = IsWithin COORD placement.shift
 IsNearNode nodes.U = Unit {0}
 IsNearNode nodes.N = Unit {0}
 IsNearNode nodes.Minus = Unit {0}
+IsNearNode nodes.X = Unit {0}
 
 pub record IsNearLeaf (nodes : List CombNode) : Type 0 where
   pub member : Member

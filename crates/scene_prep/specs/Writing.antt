@@ -2,7 +2,7 @@
 use Rattle.std.specs.Prelude.{◌≡◌, [], ◌∷◌, ◌++◌, map, vec_len}
 use Rattle.lattice_core.specs.declared.placement.Placement.{Placement}
 use Rattle.comb_tree.specs.declared.node.CombNode.{CombNode}
-use Rattle.comb_tree.specs.declared.node.CombNode.TheVariants.{Leaf, U, N, Minus}
+use Rattle.comb_tree.specs.declared.node.CombNode.TheVariants.{Leaf, U, N, Minus, X}
 use Rattle.directory.specs.Walks.{Entries}
 use Rattle.bool_weave.specs.Masks.{mask_nodes}
 use Rattle.bool_weave.specs.declared.mask.MaskNode.{MaskNode}
@@ -28,3 +28,4 @@ WritesNode directory by old new (Leaf name placement) = Writes old new (placed_t
 WritesNode directory by old new U = WritesOne old new mask.U
 WritesNode directory by old new N = WritesOne old new mask.N
 WritesNode directory by old new Minus = WritesOne old new mask.Minus
+WritesNode directory by old new X = WritesOne old new mask.X

@@ -83,6 +83,7 @@ fn expand_node(
         CombNode::U => out.push_node(MaskNode::U),
         CombNode::N => out.push_node(MaskNode::N),
         CombNode::Minus => out.push_node(MaskNode::Minus),
+        CombNode::X => out.push_node(MaskNode::X),
     }
 }
 

@@ -6,7 +6,7 @@ use Rattle.transcript.proofs.LineLaws.{lacks_append}
 use Rattle.transcript.proofs.TranscriptLaws.{computed}
 use Rattle.name_core.specs.declared.name.Name.{Name}
 use Rattle.tree_forms.specs.declared.Op.{Op}
-use Rattle.tree_forms.specs.declared.Op.TheVariants.{U, N, Minus}
+use Rattle.tree_forms.specs.declared.Op.TheVariants.{U, N, Minus, X}
 use Rattle.tree_forms.specs.Trees.{Tree, Leaf, Join, leaves}
 use Rattle.comb_tree.specs.Nodes.{Comb as CombTree, Member, members}
 use Rattle.object_set.specs.declared.object.Body.{Body}
@@ -68,6 +68,7 @@ operator_lacks : (op : Op) → Lacks 10 (operator_text op)
 operator_lacks U = computed 10 (codes "u") refl
 operator_lacks N = computed 10 (codes "+") refl
 operator_lacks Minus = computed 10 (codes "-") refl
+operator_lacks X = computed 10 (codes "^") refl
 
 leaf_lacks : (es : Entries) (level : ℕ) (leaf : Listed) → Lacks 10 leaf.name → Lacks 10 (leaf_line es level leaf)
 leaf_lacks es level leaf h =

@@ -7,7 +7,7 @@ use Rattle.std.proofs.lemmas.Option.{slice_get_within}
 use Rattle.lattice_core.specs.declared.ray.Ray.{Ray}
 use Rattle.surd_order.specs.declared.position.Seg.{Seg}
 use Rattle.solid_set.specs.Segments.{segment_of}
-use Rattle.tree_forms.specs.declared.Op.TheVariants.{U, N, Minus}
+use Rattle.tree_forms.specs.declared.Op.TheVariants.{U, N, Minus, X}
 use Rattle.tree_forms.specs.Trees.{Leaf, Join, leaves}
 use Rattle.bool_weave.specs.declared.woven.Woven.{Woven}
 use Rattle.bool_weave.specs.Masks.{Mask, leaf_value, mask_holds}
@@ -29,6 +29,9 @@ nothing (Join U l r) values h =
     ∙ nothing r values (λ leaf there. h leaf (has_append_right (leaves l) (leaves r) leaf there))
 nothing (Join N l r) values h = ap (λ b. b && mask_holds r values) (nothing l values (λ leaf there. h leaf (has_append_left (leaves l) (leaves r) leaf there)))
 nothing (Join Minus l r) values h = ap (λ b. b && not (mask_holds r values)) (nothing l values (λ leaf there. h leaf (has_append_left (leaves l) (leaves r) leaf there)))
+nothing (Join X l r) values h =
+    ap (λ b. (b && not (mask_holds r values)) || (not b && mask_holds r values)) (nothing l values (λ leaf there. h leaf (has_append_left (leaves l) (leaves r) leaf there)))
+    ∙ nothing r values (λ leaf there. h leaf (has_append_right (leaves l) (leaves r) leaf there))
 
 -- an instance without a segment spans nothing
 other_number : (n m : ℕ) (o : Option Seg) (ws : List Woven) (interval : Interval) → n ≢ m → spans (woven_if n o ++ ws) interval m ≡ spans ws interval m
@@ -117,12 +120,12 @@ marked_more n [] = refl
 marked_more n (true ∷ ms) = let e : n + 1 ≡ suc n = omega arith in ap (λ k. k ∷ marked_from (n + 1 + 1) ms) e ∙ ap (λ l. suc n ∷ l) (marked_more (n + 1) ms)
 marked_more n (false ∷ ms) = marked_more (n + 1) ms
 
-kept_at : {X : Type 0} (ms : List Bool) (xs : List X) (d : X) → length ms ≡ length xs → kept ms xs ≡ map (λ n. get_or xs n d) (marked_from 0 ms)
+kept_at : {A : Type 0} (ms : List Bool) (xs : List A) (d : A) → length ms ≡ length xs → kept ms xs ≡ map (λ n. get_or xs n d) (marked_from 0 ms)
 kept_at [] xs d e = refl
 kept_at (m ∷ ms) [] d e = absurd (omega (arith, e))
-kept_at {X = X} (true ∷ ms) (x ∷ xs) d e =
+kept_at {A = A} (true ∷ ms) (x ∷ xs) d e =
     ap (λ l. x ∷ l) (kept_at ms xs d (omega (arith, e)) ∙ sym (map_twice (λ n. get_or (x ∷ xs) n d) (λ k. suc k) (marked_from 0 ms)) ∙ ap (map (λ n. get_or (x ∷ xs) n d)) (sym (marked_more 0 ms)))
-kept_at {X = X} (false ∷ ms) (x ∷ xs) d e =
+kept_at {A = A} (false ∷ ms) (x ∷ xs) d e =
     kept_at ms xs d (omega (arith, e)) ∙ sym (map_twice (λ n. get_or (x ∷ xs) n d) (λ k. suc k) (marked_from 0 ms)) ∙ ap (map (λ n. get_or (x ∷ xs) n d)) (sym (marked_more 0 ms))
 
 pub marked_below : (ms : List Bool) (n k : ℕ) → Has (marked_from n ms) k → k < n + length ms

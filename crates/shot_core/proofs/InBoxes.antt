@@ -19,7 +19,7 @@ use Rattle.solid_set.specs.Laws.{TellsInside}
 use Rattle.solid_set.specs.Segments.{segment_of}
 use Rattle.solid_set.proofs.Enclosed.{enclosed}
 use Rattle.solid_set.proofs.SurfaceLaws.{segment_tells}
-use Rattle.tree_forms.specs.declared.Op.TheVariants.{U, N, Minus}
+use Rattle.tree_forms.specs.declared.Op.TheVariants.{U, N, Minus, X}
 use Rattle.tree_forms.specs.Trees.{Leaf, Join, leaves}
 use Rattle.bool_weave.specs.declared.woven.Woven.{Woven}
 use Rattle.bool_weave.specs.Cuts.{cuts_of}
@@ -64,6 +64,14 @@ module _ (boxes : List Box3) (values : ℕ → Bool) (v : V3) (w : ℤ) (some : 
       )
   tree_has (Join Minus l r) each holds =
       tree_has l (λ i there. each i (has_append_left (leaves l) (leaves r) (Some i) there)) (and_parts (mask_holds l values) (not (mask_holds r values)) holds).0
+  tree_has (Join X l r) each holds =
+      let hull = are_hull_and_meet.hull (tree_box boxes l) (tree_box boxes r) in
+      elim (or_cases (mask_holds l values && not (mask_holds r values)) (not (mask_holds l values) && mask_holds r values) holds) [
+        | inl left ↦
+            hull.first v w some (tree_has l (λ i there. each i (has_append_left (leaves l) (leaves r) (Some i) there)) (and_parts (mask_holds l values) (not (mask_holds r values)) left).0)
+        | inr right ↦
+            hull.second v w some (tree_has r (λ i there. each i (has_append_right (leaves l) (leaves r) (Some i) there)) (and_parts (not (mask_holds l values)) (mask_holds r values) right).1)
+      ]
 
 -- an instance has a segment that a fraction lies strictly inside
 pub record IsAround (ray : Ray) (p q : ℤ) (one : Instance) : Type 0 where
@@ -140,7 +148,7 @@ inside_covered seg interval p q a b c d covered after before =
       elim (between (Frac p q) seg.end interval.end before) [ inl early ↦ early | inr late ↦ absurd (not.1 late) ],
     )
 
-pub same_some : {X : Type 0} (x y : X) → Some x ≡ Some y → x ≡ y
+pub same_some : {A : Type 0} (x y : A) → Some x ≡ Some y → x ≡ y
 same_some x y e = cc
 
 -- the instances of all regions, those of one region among them, and what is woven of them

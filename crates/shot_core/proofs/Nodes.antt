@@ -5,7 +5,7 @@ use Rattle.std.proofs.lemmas.List.Elements.{filter-append}
 use Rattle.lattice_core.specs.declared.boxes.Box3.{Box3}
 use Rattle.lattice_core.specs.declared.boxes.Box3.TheVariants.{Empty}
 use Rattle.tree_forms.specs.declared.Op.{Op}
-use Rattle.tree_forms.specs.declared.Op.TheVariants.{U, N, Minus}
+use Rattle.tree_forms.specs.declared.Op.TheVariants.{U, N, Minus, X}
 use Rattle.tree_forms.specs.Trees.{Leaf, Join, leaves}
 use Rattle.tree_forms.specs.Stacks.{run}
 use Rattle.tree_forms.proofs.Running.{run_all}
@@ -40,6 +40,7 @@ no_leaf : (op : Op) → length (filter is_leaf (apply op ∷ [])) ≡ 0
 no_leaf U = refl
 no_leaf N = refl
 no_leaf Minus = refl
+no_leaf X = refl
 
 pub leaves_counted : (t : Mask) → length (filter is_leaf (mask_nodes t)) ≡ length (leaves t)
 leaves_counted (Leaf None) = refl

@@ -11,7 +11,7 @@ use Rattle.surd_order.specs.declared.position.Seg.{Seg}
 use Rattle.surd_order.specs.Order.{Precedes, SamePlace, IsPlace}
 use Rattle.surd_order.proofs.LawProofs.{outcome}
 use Rattle.surd_order.proofs.OrderLaws.{asymmetric, between, same_refl, same_symm, same_trans, transitive}
-use Rattle.tree_forms.specs.declared.Op.TheVariants.{U, N, Minus}
+use Rattle.tree_forms.specs.declared.Op.TheVariants.{U, N, Minus, X}
 use Rattle.tree_forms.specs.Trees.{Leaf, Join, leaves}
 use Rattle.solid_set.specs.HitPlaces.{surface_places, IsAtOneOf, IsHitPlace, LiesBetweenEnds, EndsAreHitPlaces}
 use Rattle.solid_set.specs.Segments.{segment_of}
@@ -134,6 +134,13 @@ tree_iff (Join Minus l r) values says each =
     and_iff (mask_holds l values) (not (mask_holds r values)) (TreeHolds l says) (¬ (TreeHolds r says))
     (tree_iff l values says (λ i there. each i (has_append_left (leaves l) (leaves r) (Some i) there)))
     (not_iff (mask_holds r values) (TreeHolds r says) (tree_iff r values says (λ i there. each i (has_append_right (leaves l) (leaves r) (Some i) there))))
+tree_iff (Join X l r) values says each =
+    let left = tree_iff l values says (λ i there. each i (has_append_left (leaves l) (leaves r) (Some i) there)) in
+    let right = tree_iff r values says (λ i there. each i (has_append_right (leaves l) (leaves r) (Some i) there)) in
+    or_iff (mask_holds l values && not (mask_holds r values)) (not (mask_holds l values) && mask_holds r values)
+    (TreeHolds l says × ¬ (TreeHolds r says)) (¬ (TreeHolds l says) × TreeHolds r says)
+    (and_iff (mask_holds l values) (not (mask_holds r values)) (TreeHolds l says) (¬ (TreeHolds r says)) left (not_iff (mask_holds r values) (TreeHolds r says) right))
+    (and_iff (not (mask_holds l values)) (mask_holds r values) (¬ (TreeHolds l says)) (TreeHolds r says) (not_iff (mask_holds l values) (TreeHolds l says) left) right)
 
 -- an instance that has a segment is woven in
 woven_has : (ray : Ray) (n : ℕ) (xs : List Instance) (i m : ℕ) (one : Instance) (seg : Seg) → m ≡ n + i → slice_get xs i ≡ Some one → segment_of one.surface ray ≡ Some seg
@@ -168,21 +175,21 @@ spans_from (v ∷ vs) interval w m is has covered = elim has [
     second false b e = e
 
 -- lists by membership
-pub has_mapped : {X Y : Type 0} (f : X → Y) (xs : List X) (y : Y) → Has (map f xs) y → (x : X) × Has xs x × (f x ≡ y)
+pub has_mapped : {A Y : Type 0} (f : A → Y) (xs : List A) (y : Y) → Has (map f xs) y → (x : A) × Has xs x × (f x ≡ y)
 has_mapped f [] y has = absurd has
 has_mapped f (x ∷ xs) y has = elim has [ inl e ↦ (x, inl refl, e) | inr more ↦ let m = has_mapped f xs y more in (m.0, inr m.1, m.2) ]
 
-mapped_has : {X Y : Type 0} (f : X → Y) (xs : List X) (x : X) → Has xs x → Has (map f xs) (f x)
+mapped_has : {A Y : Type 0} (f : A → Y) (xs : List A) (x : A) → Has xs x → Has (map f xs) (f x)
 mapped_has f [] x has = absurd has
 mapped_has f (y ∷ ys) x has = elim has [ inl e ↦ inl (ap f e) | inr more ↦ inr (mapped_has f ys x more) ]
 
-pub any_from : {X : Type 0} (P : X → Type 0) (xs : List X) (x : X) → Has xs x → P x → Any P xs
+pub any_from : {A : Type 0} (P : A → Type 0) (xs : List A) (x : A) → Has xs x → P x → Any P xs
 any_from P xs x has p = let c = contains_from_has xs x has in (c.0, x, c.1, c.2, p)
 
-pub any_to : {X : Type 0} (P : X → Type 0) (xs : List X) → Any P xs → (x : X) × Has xs x × P x
+pub any_to : {A : Type 0} (P : A → Type 0) (xs : List A) → Any P xs → (x : A) × Has xs x × P x
 any_to P xs any = (any.1, has_at xs any.1 any.1 any.0 any.2 any.3, any.4)
 
-all_to : {X : Type 0} (P : X → Type 0) (xs : List X) (x : X) → All P xs → Has xs x → P x
+all_to : {A : Type 0} (P : A → Type 0) (xs : List A) (x : A) → All P xs → Has xs x → P x
 all_to P xs x all has = let c = contains_from_has xs x has in subst P c.2 (all c.0 x c.1)
 
 -- the ray of a scene, and a point of it that is no hit

@@ -18,6 +18,7 @@ node_input node.Never = fed.u8 1
 node_input node.U = fed.u8 2
 node_input node.N = fed.u8 3
 node_input node.Minus = fed.u8 4
+node_input node.X = fed.u8 5
 
 abbrev pub instance_input : Instance → HashWrites
 instance_input i = hashed_surfaces.hash_input-value.it i.surface ++ hashed_boxes.hash_input-value.it i.bounds

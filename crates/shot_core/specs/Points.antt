@@ -9,7 +9,7 @@ use Rattle.surd_order.specs.declared.position.Pos.{Pos}
 use Rattle.surd_order.specs.declared.position.Pos.TheVariants.{Frac}
 use Rattle.surd_order.specs.Order.{Precedes, SamePlace}
 use Rattle.surd_order.specs.Spelling.{IsSpelled}
-use Rattle.tree_forms.specs.declared.Op.TheVariants.{U, N, Minus}
+use Rattle.tree_forms.specs.declared.Op.TheVariants.{U, N, Minus, X}
 use Rattle.tree_forms.specs.Trees.{Leaf, Join}
 use Rattle.solid_set.specs.HitPlaces.{surface_places, IsAtOneOf}
 use Rattle.solid_set.specs.Segments.{ray_start, ray_end}
@@ -34,6 +34,7 @@ TreeHolds (Leaf (Some i)) says = says i
 TreeHolds (Join U left right) says = TreeHolds left says ⊎ TreeHolds right says
 TreeHolds (Join N left right) says = TreeHolds left says × TreeHolds right says
 TreeHolds (Join Minus left right) says = TreeHolds left says × ¬ (TreeHolds right says)
+TreeHolds (Join X left right) says = (TreeHolds left says × ¬ (TreeHolds right says)) ⊎ (¬ (TreeHolds left says) × TreeHolds right says)
 
 -- there is such an instance, and the point of the ray at the fraction p / q lies inside of it
 abbrev pub IsInInstance : Option Instance → Ray → ℤ → ℤ → Type 0

@@ -25,6 +25,7 @@ is_leaf node.Never = true
 is_leaf node.U = false
 is_leaf node.N = false
 is_leaf node.Minus = false
+is_leaf node.X = false
 
 -- each number is at least the one before it
 abbrev pub NeverFalls : List ℕ → Type 0

@@ -9,7 +9,7 @@ use Rattle.lattice_core.specs.declared.boxes.Box3.TheVariants.{Empty, Span}
 use Rattle.lattice_core.specs.Spans.{hull_span, meet_span}
 use Rattle.lattice_core.specs.Boxes.{IsHull, IsMeet, IsTidy}
 use Rattle.tree_forms.specs.declared.Op.{Op}
-use Rattle.tree_forms.specs.declared.Op.TheVariants.{U, N, Minus}
+use Rattle.tree_forms.specs.declared.Op.TheVariants.{U, N, Minus, X}
 use Rattle.tree_forms.specs.Trees.{fold}
 use Rattle.bool_weave.specs.Masks.{Mask}
 
@@ -44,11 +44,12 @@ abbrev pub leaf_box : List Box3 → Option ℕ → Box3
 leaf_box boxes None = Empty
 leaf_box boxes (Some i) = slice_index_or boxes i Empty
 
--- of a union the hull, of an intersection the meet, of a difference the box of its left side
+-- of a union and of an exclusive union the hull, of an intersection the meet, of a difference the box of its left side
 abbrev pub joined_box : Op → Box3 → Box3 → Box3
 joined_box U left right = hull_of left right
 joined_box N left right = meet_of left right
 joined_box Minus left right = left
+joined_box X left right = hull_of left right
 
 -- the box of a tree, from the boxes of its instances
 abbrev pub tree_box : List Box3 → Mask → Box3

@@ -21,6 +21,7 @@ fn feed_node<H: Hasher>(node: &MaskNode, state: &mut H)
         MaskNode::U => state.write_u8(2),
         MaskNode::N => state.write_u8(3),
         MaskNode::Minus => state.write_u8(4),
+        MaskNode::X => state.write_u8(5),
     }
 }
 

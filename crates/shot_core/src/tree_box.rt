@@ -27,7 +27,7 @@ fn joined_box(op: Op, left: &Box3, right: &Box3) -> Box3
     ensures { result ≡ joined_box op left.now right.now }
 {
     match op {
-        Op::U => hull(left, right),
+        Op::U | Op::X => hull(left, right),
         Op::N => meet(left, right),
         Op::Minus => *left,
     }
@@ -61,6 +61,7 @@ fn step_on(stack: &mut Vec<Box3>, node: MaskNode, solids: &[Placed]) -> Result<(
         MaskNode::U => join_top(stack, Op::U),
         MaskNode::N => join_top(stack, Op::N),
         MaskNode::Minus => join_top(stack, Op::Minus),
+        MaskNode::X => join_top(stack, Op::X),
     }
 }
 

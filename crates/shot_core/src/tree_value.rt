@@ -46,6 +46,7 @@ fn step_on(stack: &mut Vec<bool>, node: MaskNode, values: &[bool]) -> Result<(),
         MaskNode::U => join_top(stack, Op::U),
         MaskNode::N => join_top(stack, Op::N),
         MaskNode::Minus => join_top(stack, Op::Minus),
+        MaskNode::X => join_top(stack, Op::X),
     }
 }
 

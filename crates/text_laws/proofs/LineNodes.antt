@@ -18,7 +18,7 @@ use Rattle.lattice_core.proofs.Placing.{one_shift}
 use Rattle.name_core.specs.NameText.{read_name}
 use Rattle.name_core.proofs.NameLaws.{accepted}
 use Rattle.tree_forms.specs.declared.Op.{Op}
-use Rattle.tree_forms.specs.declared.Op.TheVariants.{U, N, Minus}
+use Rattle.tree_forms.specs.declared.Op.TheVariants.{U, N, Minus, X}
 use Rattle.tree_forms.specs.Trees.{Tree, Leaf, Join, leaves, map_leaves}
 use Rattle.comb_tree.specs.Nodes.{Comb, Member}
 use Rattle.tcl_words.specs.Pieces.{pieces, written_after}
@@ -151,6 +151,7 @@ operator_good : (op : Op) (g : ℕ) → GoodPiece AtomKind (operator_text op) g
 operator_good U g = word_good (codes "u") g refl
 operator_good N g = word_good (codes "n") g refl
 operator_good Minus g = word_good (codes "-") g refl
+operator_good X g = word_good (codes "^") g refl
 
 some_leaves : (t : Tree Member) → 0 < length (leaves t)
 some_leaves (Leaf m) = omega arith
@@ -242,6 +243,7 @@ node_given (Leaf m) = leaf_given m.name (is_still m.placement) (matrix_of m.plac
 node_given (Join U l r) = ap₂ (joined_by (Some U)) (node_given l) (node_given r)
 node_given (Join N l r) = ap₂ (joined_by (Some N)) (node_given l) (node_given r)
 node_given (Join Minus l r) = ap₂ (joined_by (Some Minus)) (node_given l) (node_given r)
+node_given (Join X l r) = ap₂ (joined_by (Some X)) (node_given l) (node_given r)
 
 tree_spelled : (t : Tree Member) → tree_in (node_words t) ≡ Some (Some (map_leaves given_of t))
 tree_spelled (Leaf m) = ap (option_map (λ (g : Tree Given). Some g)) (node_given (Leaf m))

@@ -39,6 +39,7 @@ number_in other node.Never = other
 number_in other node.U = other
 number_in other node.N = other
 number_in other node.Minus = other
+number_in other node.X = other
 
 leaf_decides : (n m : ℕ) → Decides (nodes.eq-value.it (node.Leaf n) (node.Leaf m)) (node.Leaf n ≡ node.Leaf m)
 unfolding number_in
@@ -50,26 +51,37 @@ node_decides (node.Leaf n) node.Never = (λ h. cc, λ e. cc)
 node_decides (node.Leaf n) node.U = (λ h. cc, λ e. cc)
 node_decides (node.Leaf n) node.N = (λ h. cc, λ e. cc)
 node_decides (node.Leaf n) node.Minus = (λ h. cc, λ e. cc)
+node_decides (node.Leaf n) node.X = (λ h. cc, λ e. cc)
 node_decides node.Never (node.Leaf m) = (λ h. cc, λ e. cc)
 node_decides node.Never node.Never = (λ h. cc, λ e. cc)
 node_decides node.Never node.U = (λ h. cc, λ e. cc)
 node_decides node.Never node.N = (λ h. cc, λ e. cc)
 node_decides node.Never node.Minus = (λ h. cc, λ e. cc)
+node_decides node.Never node.X = (λ h. cc, λ e. cc)
 node_decides node.U (node.Leaf m) = (λ h. cc, λ e. cc)
 node_decides node.U node.Never = (λ h. cc, λ e. cc)
 node_decides node.U node.U = (λ h. cc, λ e. cc)
 node_decides node.U node.N = (λ h. cc, λ e. cc)
 node_decides node.U node.Minus = (λ h. cc, λ e. cc)
+node_decides node.U node.X = (λ h. cc, λ e. cc)
 node_decides node.N (node.Leaf m) = (λ h. cc, λ e. cc)
 node_decides node.N node.Never = (λ h. cc, λ e. cc)
 node_decides node.N node.U = (λ h. cc, λ e. cc)
 node_decides node.N node.N = (λ h. cc, λ e. cc)
 node_decides node.N node.Minus = (λ h. cc, λ e. cc)
+node_decides node.N node.X = (λ h. cc, λ e. cc)
 node_decides node.Minus (node.Leaf m) = (λ h. cc, λ e. cc)
 node_decides node.Minus node.Never = (λ h. cc, λ e. cc)
 node_decides node.Minus node.U = (λ h. cc, λ e. cc)
 node_decides node.Minus node.N = (λ h. cc, λ e. cc)
 node_decides node.Minus node.Minus = (λ h. cc, λ e. cc)
+node_decides node.Minus node.X = (λ h. cc, λ e. cc)
+node_decides node.X (node.Leaf m) = (λ h. cc, λ e. cc)
+node_decides node.X node.Never = (λ h. cc, λ e. cc)
+node_decides node.X node.U = (λ h. cc, λ e. cc)
+node_decides node.X node.N = (λ h. cc, λ e. cc)
+node_decides node.X node.Minus = (λ h. cc, λ e. cc)
+node_decides node.X node.X = (λ h. cc, λ e. cc)
 
 list_decides : {A : Type 0} {E : A → A → Bool} → ((a b : A) → Decides (E a b) (a ≡ b)) → (xs ys : List A) → Decides (pointwise E xs ys) (xs ≡ ys)
 list_decides each xs ys = slice_eq-Decides each xs ys _ refl

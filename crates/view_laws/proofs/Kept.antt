@@ -9,7 +9,7 @@ use Rattle.lattice_core.specs.declared.vector.V3.{V3}
 use Rattle.lattice_core.specs.Boxes.{HasPoint}
 use Rattle.lattice_core.specs.Rays.{scaled_point}
 use Rattle.lattice_core.specs.Views.{pixel_ray}
-use Rattle.tree_forms.specs.declared.Op.TheVariants.{U, N, Minus}
+use Rattle.tree_forms.specs.declared.Op.TheVariants.{U, N, Minus, X}
 use Rattle.tree_forms.specs.Trees.{Leaf, Join, leaves}
 use Rattle.solid_set.specs.Surfaces.{IsInside}
 use Rattle.solid_set.proofs.Enclosed.{enclosed}
@@ -44,6 +44,10 @@ module _ (boxes : List Box3) (says : ℕ → Type 0) (v : V3) (w : ℤ) (some : 
         tree_has r (λ i there. each i (has_append_right (leaves l) (leaves r) (Some i) there)) holds.1,
       )
   tree_has (Join Minus l r) each holds = tree_has l (λ i there. each i (has_append_left (leaves l) (leaves r) (Some i) there)) holds.0
+  tree_has (Join X l r) each (inl holds) =
+      (are_hull_and_meet.hull (tree_box boxes l) (tree_box boxes r)).first v w some (tree_has l (λ i there. each i (has_append_left (leaves l) (leaves r) (Some i) there)) holds.0)
+  tree_has (Join X l r) each (inr holds) =
+      (are_hull_and_meet.hull (tree_box boxes l) (tree_box boxes r)).second v w some (tree_has r (λ i there. each i (has_append_right (leaves l) (leaves r) (Some i) there)) holds.1)
 
 record IsAt (xs : List Instance) (i : ℕ) : Type 0 where
   one : Instance

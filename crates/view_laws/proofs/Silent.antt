@@ -8,7 +8,7 @@ use Rattle.std.proofs.lemmas.List.Elements.{All-nil, All-cons, All-weaker}
 use Rattle.lattice_core.specs.declared.ray.Ray.{Ray}
 use Rattle.surd_order.specs.declared.position.Pos.{Pos}
 use Rattle.surd_order.specs.declared.position.Pos.TheVariants.{Frac}
-use Rattle.tree_forms.specs.declared.Op.TheVariants.{U, N, Minus}
+use Rattle.tree_forms.specs.declared.Op.TheVariants.{U, N, Minus, X}
 use Rattle.tree_forms.specs.Trees.{Leaf, Join, leaves}
 use Rattle.solid_set.specs.HitPlaces.{surface_places, IsAtOneOf}
 use Rattle.bool_weave.specs.Behind.{covers_behind}
@@ -73,6 +73,13 @@ holds_alike (Join Minus l r) f g count below alike =
     let a = holds_alike l f g count (all_left (λ leaf. IfSome leaf (λ i. i < count)) (leaves l) (leaves r) below) alike in
     let b = holds_alike r f g count (all_right (λ leaf. IfSome leaf (λ i. i < count)) (leaves l) (leaves r) below) alike in
     (λ h. (a.0 h.0, λ y. h.1 (b.1 y)), λ h. (a.1 h.0, λ y. h.1 (b.0 y)))
+holds_alike (Join X l r) f g count below alike =
+    let a = holds_alike l f g count (all_left (λ leaf. IfSome leaf (λ i. i < count)) (leaves l) (leaves r) below) alike in
+    let b = holds_alike r f g count (all_right (λ leaf. IfSome leaf (λ i. i < count)) (leaves l) (leaves r) below) alike in
+    (
+      λ h. elim h [ inl x ↦ inl (a.0 x.0, λ y. x.1 (b.1 y)) | inr x ↦ inr (λ y. x.0 (a.1 y), b.0 x.1) ],
+      λ h. elim h [ inl x ↦ inl (a.1 x.0, λ y. x.1 (b.0 y)) | inr x ↦ inr (λ y. x.0 (a.0 y), b.1 x.1) ],
+    )
 
 one_more : (o : Option ℕ) (count more : ℕ) → IfSome o (λ i. i < count) → IfSome o (λ i. i < count + more)
 one_more None count more h = h
@@ -81,7 +88,7 @@ one_more (Some i) count more h = omega (arith, h)
 below_more : (t : Mask) (count more : ℕ) → HasLeavesBelow count t → HasLeavesBelow (count + more) t
 below_more t count more below = All-weaker (λ o. IfSome o (λ i. i < count)) (λ o. IfSome o (λ i. i < count + more)) (λ o h. one_more o count more h) (leaves t) below
 
-empty_of : {X Y : Type 0} (f : X → Y) (xs : List X) → [] ≡ map f xs → xs ≡ []
+empty_of : {A Y : Type 0} (f : A → Y) (xs : List A) → [] ≡ map f xs → xs ≡ []
 empty_of f [] e = refl
 empty_of f (x ∷ xs) e = absurd cc
 

@@ -6,7 +6,7 @@ use Rattle.std.specs.Option.{option_map}
 use Rattle.lattice_core.specs.declared.placement.Placement.{Placement}
 use Rattle.name_core.specs.NameText.{read_name}
 use Rattle.tree_forms.specs.declared.Op.{Op}
-use Rattle.tree_forms.specs.declared.Op.TheVariants.{U, N, Minus}
+use Rattle.tree_forms.specs.declared.Op.TheVariants.{U, N, Minus, X}
 use Rattle.tree_forms.specs.Trees.{Tree, Leaf, Join, leaves, map_leaves}
 use Rattle.comb_tree.specs.Nodes.{Comb, Member}
 use Rattle.word_values.specs.Atoms.{view_number}
@@ -25,7 +25,8 @@ operator_of word =
     if bytes_eq word (codes "u") then Some U
     else (if bytes_eq word (codes "n") then Some N
     else (if bytes_eq word (codes "+") then Some N
-    else (if bytes_eq word (codes "-") then Some Minus else None)))
+    else (if bytes_eq word (codes "-") then Some Minus
+    else (if bytes_eq word (codes "^") then Some X else None))))
 
 abbrev pub is_leaf_word : List ℕ → Bool
 is_leaf_word word = bytes_eq word (codes "l")

@@ -116,6 +116,8 @@ fn operator_of(word: &[u8]) -> Option<Op>
         Some(Op::N)
     } else if is_word(word, b"-") {
         Some(Op::Minus)
+    } else if is_word(word, b"^") {
+        Some(Op::X)
     } else {
         None
     }

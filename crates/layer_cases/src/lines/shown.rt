@@ -39,6 +39,7 @@ fn operator_word(op: Op) -> &'static [u8] {
         Op::U => b" u",
         Op::N => b" +",
         Op::Minus => b" -",
+        Op::X => b" ^",
     }
 }
 

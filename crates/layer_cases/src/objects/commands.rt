@@ -23,6 +23,7 @@ fn view_of(word: &str) -> Option<ViewFault> {
         "Pixels" => Some(ViewFault::Pixels),
         "Side" => Some(ViewFault::Side),
         "Cell" => Some(ViewFault::Cell),
+        "Direction" => Some(ViewFault::Direction),
         "World" => Some(ViewFault::World),
         _ => None,
     }
@@ -44,6 +45,7 @@ fn shape_of(word: &str, face: &[u8]) -> Result<ShapeFault, CaseFault> {
         "NotConvex" => Ok(ShapeFault::NotConvex(face_of(face)?)),
         "Radius" => Ok(ShapeFault::Radius),
         "ZeroNormal" => Ok(ShapeFault::ZeroNormal),
+        "Axis" => Ok(ShapeFault::Axis),
         _ => Err(CaseFault::Line),
     }
 }

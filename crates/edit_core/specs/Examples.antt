@@ -1,7 +1,7 @@
 -- What the definitions come to at small directories, proved by computation. A name is one byte.
 use Rattle.std.specs.Prelude.{◌≡◌, ℕ, List, [], ◌∷◌, Some, None, Ok, Err, true, false, refl}
 use Rattle.tree_forms.specs.declared.Op.{Op}
-use Rattle.tree_forms.specs.declared.Op.TheVariants.{U, N, Minus}
+use Rattle.tree_forms.specs.declared.Op.TheVariants.{U, N, Minus, X}
 use Rattle.tree_forms.specs.Trees.{Tree, Leaf, Join}
 use Rattle.name_core.specs.declared.name.Name.{Name}
 use Rattle.lattice_core.specs.declared.placement.Placement.{Placement}
@@ -90,6 +90,15 @@ a_group_is_made p = refl
 it_becomes_a_region : (p : Placement) → edited (holding ((named 4, comb group_attr (Some (at p 1))) ∷ [])) (Region (named 4) (entry p Minus 2 ∷ []))
     ≡ Ok (holding ((named 4, comb (record group_attr { region = true }) (Some (Join Minus (at p 1) (at p 2)))) ∷ []))
 it_becomes_a_region p = refl
+
+-- a list that begins with an exclusive union continues the last product, and is read as u where the tree is empty
+an_exclusive_union_continues : (p : Placement) → edited (holding ((named 4, comb group_attr (Some (Join U (at p 1) (at p 2)))) ∷ [])) (Region (named 4) (entry p X 3 ∷ []))
+    ≡ Ok (holding ((named 4, comb (record group_attr { region = true }) (Some (Join U (at p 1) (Join X (at p 2) (at p 3))))) ∷ []))
+an_exclusive_union_continues p = refl
+
+an_exclusive_union_begins : (p : Placement) → edited (holding ((named 4, comb group_attr None) ∷ [])) (Region (named 4) (entry p X 1 ∷ []))
+    ≡ Ok (holding ((named 4, comb (record group_attr { region = true }) (Some (at p 1))) ∷ []))
+an_exclusive_union_begins p = refl
 
 a_region_stays_one : (p : Placement) → edited (holding ((named 4, comb region_attr None) ∷ [])) (Group (named 4) (entry p U 1 ∷ entry p U 2 ∷ []))
     ≡ Ok (holding ((named 4, comb region_attr (Some (Join U (at p 1) (at p 2)))) ∷ []))

@@ -4,7 +4,7 @@ use Rattle.lattice_core.specs.declared.ray.Dir.{Dir}
 use Rattle.lattice_core.specs.declared.ray.Dir.TheVariants.{MinusX, PlusX, PlusY, MinusZ}
 use Rattle.lattice_core.specs.declared.view.View as views
 use Rattle.plane_geom.specs.declared.fault.ShapeFault.TheVariants.{Flat, NotPlanar, NotConvex, Radius, ZeroNormal}
-use Rattle.tree_forms.specs.declared.Op.TheVariants.{U, Minus}
+use Rattle.tree_forms.specs.declared.Op.TheVariants.{U, Minus, X}
 use Rattle.solid_set.specs.declared.solid.Solid.TheVariants as solids
 use Rattle.transcript.specs.Merge.{entry}
 use Rattle.command_set.specs.declared.command.Command.TheVariants.{Bad, Edit, Query, Shoot}
@@ -69,6 +69,9 @@ a_shot_at_nothing = refl
 -- a region
 pub a_region : command_of (codes "r a.r u s1 u s2 - s3") ≡ Edit (Region (codes "a.r") (entry_of U (codes "s1") ∷ entry_of U (codes "s2") ∷ entry_of Minus (codes "s3") ∷ []))
 a_region = refl
+
+pub a_region_of_exclusive_unions : command_of (codes "r a.r ^ s1 ^ s2") ≡ Edit (Region (codes "a.r") (entry_of X (codes "s1") ∷ entry_of X (codes "s2") ∷ []))
+a_region_of_exclusive_unions = refl
 
 pub operator_without_member : command_of (codes "r s u") ≡ Bad Syntax
 operator_without_member = refl
@@ -542,3 +545,6 @@ a_line = refl
 
 pub line_of_a_region : line_of (codes "r") (codes "a" ∷ member_words ((U, codes "b") ∷ (Minus, codes "c") ∷ [])) ≡ codes "r a u b - c"
 line_of_a_region = refl
+
+pub line_of_an_exclusive_union : line_of (codes "r") (codes "a" ∷ member_words ((U, codes "b") ∷ (X, codes "c") ∷ [])) ≡ codes "r a u b ^ c"
+line_of_an_exclusive_union = refl

@@ -1,6 +1,6 @@
 -- Small commands, and what the definitions make of them, each proved by computing.
 use Rattle.std.specs.Prelude.{◌≡◌, refl, ℕ, pos, negsuc, List, [], ◌∷◌, None, Some, Result, Ok, Err, codes, true}
-use Rattle.tree_forms.specs.declared.Op.TheVariants.{Minus}
+use Rattle.tree_forms.specs.declared.Op.TheVariants.{Minus, X}
 use Rattle.tree_forms.specs.Trees.{Leaf, Join}
 use Rattle.tcl_words.specs.Tokens.{tokens_of}
 use Rattle.tcl_words.specs.TopWords.{top_words}
@@ -107,6 +107,16 @@ a_combination : put (codes "put c comb tree {- {l a} {l b}} region { yes } rgb {
       },
     )
 a_combination = refl
+
+an_exclusive_union : put (codes "put c comb tree {^ {l a} {l b}}")
+    ≡ Ok (
+      codes "c",
+      record {
+        body = bodies.Comb group_attr (Some (Join X (Leaf (record { name = codes "a"; placement = identity })) (Leaf (record { name = codes "b"; placement = identity }))));
+        kept = [];
+      },
+    )
+an_exclusive_union = refl
 
 an_empty_tree : put (codes "put c comb tree {}") ≡ Ok (codes "c", record { body = bodies.Comb group_attr None; kept = [] })
 an_empty_tree = refl

@@ -9,7 +9,7 @@ use Rattle.object_set.specs.declared.object.Body.TheVariants.{Solid, Comb}
 use Rattle.overlap_list.specs.declared.hit.Hit.{Hit}
 use Rattle.shot_core.specs.Regions.{RegionBody, Region}
 use Rattle.shot_core.specs.declared.shot.Lit.{Lit}
-use Rattle.tree_forms.specs.declared.Op.TheVariants.{U, N, Minus}
+use Rattle.tree_forms.specs.declared.Op.TheVariants.{U, N, Minus, X}
 use Rattle.tree_forms.specs.Trees.{Tree, Leaf, Join}
 use Rattle.lattice_core.specs.declared.placement.Placement.{Placement}
 use Rattle.comb_tree.specs.Nodes.{Member}
@@ -83,11 +83,15 @@ module _ (solid : AnySolid) (p : Placement) where
   models =
       (codes "s", record { body = Solid solid; kept = [] })
       ∷ (codes "a", record { body = Comb region_attr (Some (Join Minus (member (codes "s")) (Join U (member (codes "b")) (member (codes "x"))))); kept = [] })
-      ∷ (codes "b", record { body = Comb group_attr (Some (Join N (member (codes "s")) (member (codes "s")))); kept = [] }) ∷ []
+      ∷ (codes "b", record { body = Comb group_attr (Some (Join N (member (codes "s")) (member (codes "s")))); kept = [] })
+      ∷ (codes "e", record { body = Comb region_attr (Some (Join X (member (codes "s")) (Join X (member (codes "x")) (member (codes "s"))))); kept = [] }) ∷ []
 
   -- a leaf on the left side of a node has the operator from above
   a_listing : listings models (codes "a" ∷ codes "s" ∷ []) ≡ codes "a/R" ∷ codes "  u s" ∷ codes "  - b/" ∷ codes "    u s" ∷ codes "    + s" ∷ codes "  u x?" ∷ codes "s" ∷ []
   a_listing = refl
+
+  a_listing_of_exclusive_unions : listings models (codes "e" ∷ []) ≡ codes "e/R" ∷ codes "  u s" ∷ codes "  ^ x?" ∷ codes "  ^ s" ∷ []
+  a_listing_of_exclusive_unions = refl
 
   no_lines_of_a_missing_name : written_lines models (codes "x" ∷ []) ≡ []
   no_lines_of_a_missing_name = refl

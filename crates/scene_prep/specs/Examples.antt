@@ -2,7 +2,7 @@
 use Rattle.std.specs.Prelude.{◌≡◌, ◌^◌, ◌-◌, refl, ℕ, pos, negsuc, List, [], ◌∷◌, map, length, codes, true, Some, None}
 use Rattle.std.specs.Fmt.{digits}
 use Rattle.std.proofs.Common.{lit<}
-use Rattle.tree_forms.specs.declared.Op.TheVariants.{U, N, Minus}
+use Rattle.tree_forms.specs.declared.Op.TheVariants.{U, N, Minus, X}
 use Rattle.tree_forms.specs.Trees.{Tree, Leaf, Join}
 use Rattle.name_core.specs.declared.name.Name.{Name}
 use Rattle.lattice_core.specs.declared.placement.Placement.{Placement}
@@ -120,6 +120,12 @@ module _ (v w : AnySolid) (p q : Placement) where
       ≡ plain (a ∷ s ∷ []) (group_attr ∷ []) (put v (p ∷ [])) ∷ node (a ∷ []) 1 (group_attr ∷ []) (Join Minus (put w (p ∷ [])) (put v (q ∷ []))) ∷ []
   unfolding regions_of_name
   a_plain_combination = refl
+
+  -- an exclusive union is one region too
+  a_node_of_an_exclusive_union : regions_of (solid s v ∷ solid t w ∷ comb a group_attr (Join U (at p s) (Join X (at p t) (at q s))) ∷ []) (a ∷ [])
+      ≡ plain (a ∷ s ∷ []) (group_attr ∷ []) (put v (p ∷ [])) ∷ node (a ∷ []) 1 (group_attr ∷ []) (Join X (put w (p ∷ [])) (put v (q ∷ []))) ∷ []
+  unfolding regions_of_name
+  a_node_of_an_exclusive_union = refl
 
   -- the regions of members that are region combinations keep their numbers
   a_region_in_a_plain_one : regions_of (solid s v ∷ comb b (record region_attr { id = 7 }) (at p s) ∷ comb a group_attr (Join U (at q b) (at q b)) ∷ []) (a ∷ [])

@@ -94,6 +94,12 @@ union_less : lit_of (region 1 0 (Join U (leaf 0) (Join Minus (leaf 1) (leaf 2)))
 unfolding place_cmp
 union_less = refl
 
+-- of two boxes what exactly one of them has: it begins anew where the first box ends
+exclusive : lit_of (region 1 0 (Join X (leaf 0) (leaf 1)) (first_box ∷ box (pos 5) (pos 15) (pos 0) (pos 10) (pos 0) (pos 10) ∷ []) ∷ []) (ray (negsuc 4) (pos 5) (pos 5))
+    ≡ lit 0 (whole 5) (whole 10) 0 1 255 ∷ lit 0 (whole 15) (whole 20) 0 2 255 ∷ []
+unfolding place_cmp
+exclusive = refl
+
 -- the same as two regions: the second one's instances are numbered after the first one's
 two_regions : lit_of (single 1 0 first_box ∷ region 2 0 (Join Minus (leaf 0) (leaf 1)) (box (pos 20) (pos 30) (pos 0) (pos 10) (pos 0) (pos 10) ∷ box (pos 5) (pos 25) (pos 0) (pos 10) (pos 0) (pos 10) ∷ []) ∷ []) (ray (negsuc 4) (pos 5) (pos 5))
     ≡ lit 0 (whole 5) (whole 15) 0 1 255 ∷ lit 1 (whole 30) (whole 35) 2 2 255 ∷ []
@@ -143,6 +149,9 @@ box_of_an_intersection = refl
 box_of_a_difference : tree_box two_boxes (Join Minus (leaf 0) (leaf 1)) ≡ span (pos 0) (pos 10) (pos 0) (pos 10) (pos 0) (pos 10)
 box_of_a_difference = refl
 
+box_of_an_exclusive_union : tree_box two_boxes (Join X (leaf 0) (leaf 1)) ≡ span (pos 0) (pos 30) (pos 0) (pos 25) (pos 0) (pos 10)
+box_of_an_exclusive_union = refl
+
 box_beside_a_missing_member : tree_box two_boxes (Join U (Leaf None) (leaf 1)) ≡ span (pos 20) (pos 30) (pos 5) (pos 25) (pos 0) (pos 10)
 box_beside_a_missing_member = refl
 
@@ -170,6 +179,10 @@ kept_between_columns = refl
 -- a difference is kept by the box of what is left of it, not of what is taken away
 not_kept_for_what_is_taken_away : kept_for (region 1 0 (Join Minus (leaf 0) (leaf 1)) (first_box ∷ second_box ∷ []) ∷ []) two_tiles 1 ≡ []
 not_kept_for_what_is_taken_away = refl
+
+-- an exclusive union is kept by both boxes
+kept_for_the_other_side : kept_for (region 1 0 (Join X (leaf 0) (leaf 1)) (first_box ∷ second_box ∷ []) ∷ []) two_tiles 1 ≡ region 1 0 (Join X (leaf 0) (leaf 1)) (first_box ∷ second_box ∷ []) ∷ []
+kept_for_the_other_side = refl
 
 -- boxes that touch may overlap, a third one far away does not
 candidates_touch : candidates_of (single 1 0 first_box ∷ single 2 0 (box (pos 10) (pos 20) (pos 0) (pos 10) (pos 0) (pos 10)) ∷ single 3 0 second_box ∷ [])
@@ -202,6 +215,14 @@ less_a_missing_member says here = (here, λ none. none)
 
 of_a_missing_member : (says : ℕ → Type 0) → ¬ (TreeHolds (Join Minus (Leaf None) (leaf 0)) says)
 of_a_missing_member says = λ holds. holds.0
+
+-- an exclusive union with a missing member is the other one, and never holds where both are
+beside_a_missing_member : (says : ℕ → Type 0) → says 0 → TreeHolds (Join X (Leaf None) (leaf 0)) says
+beside_a_missing_member says here = inr (λ none. none, here)
+
+where_both_are : (says : ℕ → Type 0) → says 0 → says 1 → ¬ (TreeHolds (Join X (leaf 0) (leaf 1)) says)
+where_both_are says here there (inl holds) = holds.1 there
+where_both_are says here there (inr holds) = holds.0 here
 
 -- instances in the order of their numbers, each with its region's number
 owned_instances : owned_from 3 (overlapping 0) ≡ (3, first_box) ∷ (4, box (pos 5) (pos 15) (pos 0) (pos 10) (pos 0) (pos 10)) ∷ []

@@ -1,6 +1,6 @@
 -- Small texts of trees, and what the definitions make of them, each proved by computing.
 use Rattle.std.specs.Prelude.{◌≡◌, refl, ℕ, List, None, Some, Result, Ok, Err, codes}
-use Rattle.tree_forms.specs.declared.Op.TheVariants.{U, N, Minus}
+use Rattle.tree_forms.specs.declared.Op.TheVariants.{U, N, Minus, X}
 use Rattle.tree_forms.specs.Trees.{Tree, Leaf, Join}
 use Rattle.comb_tree.specs.Nodes.{Comb, Member}
 use Rattle.tcl_words.specs.Tokens.{tokens_of}
@@ -37,6 +37,16 @@ a_difference = refl
 
 both_intersections : tree (codes "n {l a} {+ {l b} {l c}}") ≡ Ok (Some (Join N (member (codes "a")) (Join N (member (codes "b")) (member (codes "c")))))
 both_intersections = refl
+
+-- an exclusive union of a leaf and of one
+two_exclusive_unions : tree (codes "^ {l a} {^ {l b} {l c}}") ≡ Ok (Some (Join X (member (codes "a")) (Join X (member (codes "b")) (member (codes "c")))))
+two_exclusive_unions = refl
+
+an_exclusive_union_of_one : tree (codes "^ {l a}") ≡ Err Form
+an_exclusive_union_of_one = refl
+
+an_exclusive_union_of_none : tree (codes "^") ≡ Err Form
+an_exclusive_union_of_none = refl
 
 -- a group of one atom counts as that atom
 grouped_atoms : tree (codes "{u} {{l} {a}} {l {b}}") ≡ Ok (Some (Join U (member (codes "a")) (member (codes "b"))))

@@ -190,7 +190,7 @@ class Maker:
         members = list(dict.fromkeys(members)) if self.often(0.7) else members
         name = self.new_name(COMBS) if self.often(0.8) else self.comb_name()
         if self.often(0.6):
-            ops = self.rng.choices("uuu--+", k=5)
+            ops = self.rng.choices("uuu--+^", k=5)
         self.members.setdefault(name, []).extend(members)
         if set(ops) == {"u"}:
             return f"g {name} " + " ".join(members)

@@ -75,14 +75,14 @@ def node(maker, leaves):
     if leaves == 1:
         return f"l {maker.name()}" + (" {%s}" % maker.matrix(maker.grid).strip("{}") if maker.often(0.3) else "")
     left = leaves - 1 if maker.often(0.5) else maker.rng.randint(1, leaves - 1)
-    op = "u" if maker.often(0.4) else maker.rng.choice("un+-")
+    op = "u" if maker.often(0.4) else maker.rng.choice("un+-^")
     return f"{op} {{{node(maker, left)}}} {{{node(maker, leaves - left)}}}"
 
 
 def great_tree(rng, names):
     """A tree of about as many leaves as one may have, or groups as may be open, deep at one side."""
     inner, leaves = rng.choice(names), rng.choice((2, 90, 4_095, 4_096, 4_096, 4_097, 4_100))
-    op, other = rng.choice("un+-"), rng.choice(names)
+    op, other = rng.choice("un+-^"), rng.choice(names)
     if rng.random() < 0.5:
         return f"{{{f'{op} {{' * (leaves - 1)}l {inner}{f'}} {{l {other}}}' * (leaves - 1)}}}"
     return f"{{{f'{op} {{l {other}}} {{' * (leaves - 1)}l {inner}{'}' * leaves}"

@@ -69,8 +69,8 @@ def box_of_node(op, left, right):
     if op == "-" or right is None:
         return left if op != "+" else None
     if left is None:
-        return right if op == "u" else None
-    return left.with_all_of(right) if op == "u" else left.common(right)
+        return right if op in ("u", "^") else None
+    return left.with_all_of(right) if op in ("u", "^") else left.common(right)
 
 
 def body_of(region):

@@ -12,7 +12,7 @@ from .texts import ANY_NUMBER, read_attr_set, read_put, read_title
 from .words import atom, counts_as_atom, name_at, number, number_at, read_words, text_from
 from .written import text_of, written_lines_of
 
-OPERATORS = (b"u", b"+", b"-")
+OPERATORS = (b"u", b"+", b"-", b"^")
 
 FAULTS_OF_FORM = ("type", "attr", "tree", "name group")  # of the text form, all of which are `syntax` in a script
 

@@ -166,4 +166,4 @@ def first_overlaps(regions, ray):
 
 
 def joined(op, left, right):
-    return {"u": left | right, "+": left & right, "-": left & ~right}[op]
+    return {"u": left | right, "+": left & right, "-": left & ~right, "^": left ^ right}[op]

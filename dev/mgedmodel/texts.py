@@ -13,7 +13,7 @@ from .words import atom, counts_as_atom, is_text, name, number, text_from
 
 ANY_NUMBER = 999_999_999
 AXES = ("A", "B", "C")
-OPERATORS = {b"u": "u", b"n": "+", b"+": "+", b"-": "-"}
+OPERATORS = {b"u": "u", b"n": "+", b"+": "+", b"-": "-", b"^": "^"}
 
 # The keys of each type of solid with their counts of numbers, and what makes the solid of the lists of numbers.
 SOLIDS = {

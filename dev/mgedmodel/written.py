@@ -4,7 +4,7 @@ from .directory import Comb
 from .solids import IDENTITY, group
 from .trees import fold
 
-SPELLED = {"u": "u", "+": "n", "-": "-"}
+SPELLED = {"u": "u", "+": "n", "-": "-", "^": "^"}
 
 
 def text_of(directory):

@@ -37,4 +37,5 @@ pub mod LowestHits
 pub mod Seeing
 pub mod TilePicking
 pub mod Reaching
+pub mod NearFirst
 mod PointExamples

@@ -6,6 +6,7 @@ pub mod FirstShots
 pub mod Pruned
 pub mod Candidates
 pub mod FirstSteps
+pub mod NearFirst
 pub mod Laws
 pub mod Points
 pub mod OverlapPoints

@@ -6,6 +6,7 @@ ghost use Rattle.surd_order.specs.Range.{IsInRange};
 ghost use Rattle.surd_order.specs.Order.{Precedes};
 ghost use Rattle.surd_order.specs.declared.position.Pos.TheVariants.{Frac};
 ghost use Rattle.shot_core.specs.FirstShots.{IsOrderOf};
+ghost use Rattle.shot_core.specs.NearFirst.{AreNears, IsNearestFirst};
 ghost use Rattle.shot_core.specs.RegionBoxes.{ahead_rising, ahead_falling, near_side};
 ghost use Rattle.shot_core.specs.FirstSteps.{side_of, IsBeforeSide, BeginsBehind, IsPassed};
 
@@ -128,7 +129,7 @@ struct Near {
 
 /// Where each region's box begins along a direction.
 fn nears_of(alloc: Global, scene: &Scene, dir: Dir) -> Result<Vec<Near>, Memory>
-    ensures { IfOk result (λ v. IsOrderOf (length scene.now) (map (λ n. n.region) v.items)) }
+    ensures { IfOk result (λ v. AreNears dir scene.now (length scene.now) v.items) }
 {
     let origin = V3 { x: 0, y: 0, z: 0 };
     let regions = scene.regions();
@@ -153,9 +154,11 @@ fn regions_of(alloc: Global, nears: &[Near]) -> Result<Vec<u32>, Memory>
     Ok(numbers)
 }
 
-/// The numbers of a scene's regions in the order in which their boxes begin along a direction, the nearest first.
+/// The numbers of a scene's regions in the order in which their boxes begin along a direction, the nearest first. Those whose
+/// boxes have no side there, or no points, come before all others, and of boxes that begin at one place the lower number first.
 pub fn near_order(alloc: Global, scene: &Scene, dir: Dir) -> Result<Vec<u32>, Memory>
-    ensures { IfOk result (λ v. IsOrderOf (length scene.now) v.items) }
+    ensures order { IfOk result (λ v. IsOrderOf (length scene.now) v.items) }
+    ensures nearest { IfOk result (λ v. IsNearestFirst dir scene.now v.items) }
 {
     let mut nears = nears_of(alloc, scene, dir)?;
     nears.sort_unstable();

@@ -1,7 +1,5 @@
-use Rattle.std.proofs.Common.{map}
-use Rattle.shot_core.specs.declared.near.Near.{Near}
-use Rattle.shot_core.specs.FirstShots.{IsOrderOf}
+use Rattle.shot_core.specs.NearFirst.{AreNears}
 use Rattle.shot_core.proofs.near.nears_of.Given as goal
 
 abbrev pub invariant-loop-i : goal.invariant-loop-i
-invariant-loop-i l = IsOrderOf l.i (map (λ (n : Near). n.region) l.nears.items)
+invariant-loop-i l = AreNears l.dir l.scene l.i l.nears.items

@@ -390,7 +390,7 @@ impl Values {
                     return None;
                 }
             }
-            op @ (b"u" | b"n" | b"+" | b"-") => {
+            op @ (b"u" | b"n" | b"+" | b"-" | b"^") => {
                 tree.push(Node::Op(if op == b"+" { b'n' } else { op[0] }));
                 for _ in 0..2 {
                     inside.enter()?;
@@ -773,7 +773,7 @@ fn tree_of(words: &[&str], directory: &mut Directory) -> Vec<Node> {
             unions += usize::from(!product.is_empty());
             products.append(&mut product);
         } else {
-            product.insert(0, Node::Op(if op == "+" { b'n' } else { b'-' }));
+            product.insert(0, Node::Op(match op { "+" => b'n', "-" | "^" => op.as_bytes()[0], _ => stop(1, "an operator that is none") }));
         }
         product.push(leaf);
     }

@@ -1,5 +1,5 @@
 //! Trees over numbered leaves, as their nodes in postfix order: a leaf is its number, or `?` where it is always false, and
-//! an operator is `u`, `+` or `-`.
+//! an operator is `u`, `+`, `-` or `^`.
 
 ghost use Rattle.std.specs.Prelude.{◌≡◌};
 ghost use Rattle.bool_weave.specs.Masks.{leaf, apply};

@@ -1,5 +1,6 @@
 -- Shots of small scenes, proved by computation.
-use Rattle.std.specs.Prelude.{◌≡◌, refl, inl, ℕ, ℤ, pos, negsuc, true, false, List, [], ◌∷◌, Some, None}
+use Rattle.std.specs.Prelude.{◌≡◌, refl, ℕ, ℤ, pos, negsuc, true, false, List, [], ◌∷◌, Some, None}
+use Rattle.std.proofs.Common.{inl, inr}
 use Rattle.lattice_core.specs.declared.boxes.Side.TheVariants.{Open, At}
 use Rattle.lattice_core.specs.declared.boxes.Box3.{Box3}
 use Rattle.lattice_core.specs.declared.boxes.Box3.TheVariants.{Empty, Span}
@@ -246,7 +247,7 @@ one_instance_woven = refl
 begins_along_the_axis : begins_at PlusX (Some (single 1 0 (box (pos 20) (pos 30) (pos 5) (pos 25) (pos 0) (pos 10)))) ≡ At (pos 20)
 begins_along_the_axis = refl
 
-begins_against_the_axis : begins_at MinusX (Some (single 1 0 (box (pos 20) (pos 30) (pos 5) (pos 25) (pos 0) (pos 10)))) ≡ At (negsuc 28)
+begins_against_the_axis : begins_at MinusX (Some (single 1 0 (box (pos 20) (pos 30) (pos 5) (pos 25) (pos 0) (pos 10)))) ≡ At (negsuc 29)
 begins_against_the_axis = refl
 
 -- a half-space has no side there, and goes before each that has one, also where its number is higher

@@ -27,9 +27,10 @@ fn joined_box(op: Op, left: &Box3, right: &Box3) -> Box3
     ensures { result ≡ joined_box op left.now right.now }
 {
     match op {
-        Op::U | Op::X => hull(left, right),
+        Op::U => hull(left, right),
         Op::N => meet(left, right),
         Op::Minus => *left,
+        Op::X => hull(left, right),
     }
 }
 

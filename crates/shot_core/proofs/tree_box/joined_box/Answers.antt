@@ -15,3 +15,9 @@ returns-in-N c =
     meet_alike c.meet.result (meet_of c.args.left.now c.args.right.now) c.args.left.now c.args.right.now c.meet.ensures.meet c.meet.ensures.tidy
     (are_hull_and_meet.meet c.args.left.now c.args.right.now) (are_hull_and_meet.meet_tidy c.args.left.now c.args.right.now)
     ∙ ap (λ op. joined_box op c.args.left.now c.args.right.now) (sym c.in-N.is)
+
+pub returns-in-X : goal.returns-in-X
+returns-in-X c =
+    hull_alike c.hull-in-X.result (hull_of c.args.left.now c.args.right.now) c.args.left.now c.args.right.now c.hull-in-X.ensures.hull c.hull-in-X.ensures.tidy
+    (are_hull_and_meet.hull c.args.left.now c.args.right.now) (are_hull_and_meet.hull_tidy c.args.left.now c.args.right.now)
+    ∙ ap (λ op. joined_box op c.args.left.now c.args.right.now) (sym c.in-X.is)

@@ -75,8 +75,7 @@ holds_alike (Join Minus l r) f g count below alike =
     (λ h. (a.0 h.0, λ y. h.1 (b.1 y)), λ h. (a.1 h.0, λ y. h.1 (b.0 y)))
 holds_alike (Join X l r) f g count below alike =
     let a = holds_alike l f g count (all_left (λ leaf. IfSome leaf (λ i. i < count)) (leaves l) (leaves r) below) alike in
-    let b = holds_alike r f g count (all_right (λ leaf. IfSome leaf (λ i. i < count)) (leaves l) (leaves r) below) alike in
-    (
+    let b = holds_alike r f g count (all_right (λ leaf. IfSome leaf (λ i. i < count)) (leaves l) (leaves r) below) alike in (
       λ h. elim h [ inl x ↦ inl (a.0 x.0, λ y. x.1 (b.1 y)) | inr x ↦ inr (λ y. x.0 (a.1 y), b.0 x.1) ],
       λ h. elim h [ inl x ↦ inl (a.1 x.0, λ y. x.1 (b.0 y)) | inr x ↦ inr (λ y. x.0 (a.0 y), b.1 x.1) ],
     )

@@ -28,7 +28,7 @@ first_seen_up_to far regions ray = first_of regions (lit_up_to far regions ray)
 abbrev pub first_seen : List Region → Ray → Option Lit
 first_seen regions ray = first_seen_up_to ray_length regions ray
 
--- each number below a count, in whatever order
+-- each number below a count and no other, in whatever order, once or more often
 pub record IsOrderOf (count : ℕ) (order : List ℕ) : Type 0 where
   pub below : All (λ n. n < count) order
   pub all : (n : ℕ) → n < count → Contains order n

@@ -145,7 +145,7 @@ impl PrepRegion {
         self.size
     }
 
-    /// The box of the tree: of a union the hull, of an intersection the meet, of a difference that of the left side. A leaf
+    /// The box of the tree: of a union and of an exclusive union the hull, of an intersection the meet, of a difference that of the left side. A leaf
     /// that is always false has none.
     pub fn bounds(&self) -> Box3
         ensures { result ≡ tree_box (boxes_of self.now.instances) self.now.tree }

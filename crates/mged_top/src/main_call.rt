@@ -99,8 +99,8 @@ pub fn replay_mged<R: Threads + Sync, S: Source, K: Sink, F: Shelf>(
 /// to the sink and the files to the shelf. `words` are those after the program's name: `--load NAME`, `--demo N`,
 /// `--replay NAME` and `--workers N`, or none. With `--demo N` the model and the script are those that the number makes, and
 /// nothing is read from the source. With `--replay NAME` it is the call of `replay_mged`. With `--workers N` the tiles of a
-/// picture or check may be shot by so many threads, from 1 to 16, and else by 4; no clause speaks of how many. The first of
-/// the words, the load file, the script and the order file that is refused ends the call with its status.
+/// picture or check are shot by so many threads, from 1 to 16, and else by 4, while its session goes on; no clause speaks of
+/// how many. The first of the words, the load file, the script and the order file that is refused ends the call with its status.
 pub fn mged_main<
     R: AllocGlobal + Threads + Wait + Sync,
     S: Source,

@@ -10,7 +10,7 @@ pub enum Key {
     Demo,
     /// `--replay NAME`: the file that names the order of the run.
     Replay,
-    /// `--workers N`: how many threads may shoot the tiles of one picture or check.
+    /// `--workers N`: how many threads shoot the tiles of one picture or check while its session goes on.
     Workers,
 }
 
@@ -32,6 +32,7 @@ pub struct Options {
     pub model: Model,
     /// The file that names the order of the run, where one is asked for.
     pub replay: Option<Name>,
-    /// How many threads may shoot the tiles of one picture or check: from 1 to 16, and 4 where the words do not say.
+    /// How many threads shoot the tiles of one picture or check while its session goes on: from 1 to 16, and 4 where the
+    /// words do not say.
     pub workers: u8,
 }

@@ -176,9 +176,9 @@ fn history_order(alloc: Global, entries: &[Entry<Command>]) -> Result<Vec<u8>, M
 }
 
 /// Runs all sessions of a script at the same time, from a directory. Each session runs its own commands in sequence, and
-/// all share one history of versions, whose order the transcript prints. The tiles of each picture and check may be shot by
-/// `workers` threads, from 1 to 16. In one order of the history, and with memory for all, the answers are the same, however
-/// many these are.
+/// all share one history of versions, whose order the transcript prints. The tiles of each picture and check are shot by
+/// `workers` threads, from 1 to 16, beside that of its session, which helps them when it gathers. In one order of the history,
+/// and with memory for all, the answers are the same, however many these are.
 pub fn run_at_once<R: Threads + Wait + Sync, G: Gate + Sync>(
     rt: &R,
     alloc: Global,

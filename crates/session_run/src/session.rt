@@ -457,9 +457,10 @@ impl Session {
     }
 
     /// Runs all commands in sequence, each as an entry of the history. It takes no memory for the list of answers.
-    /// At most so many threads as there are workers shoot the tiles of a picture or a check, this one among them; when the later
-    /// tiles of a large check begin, some may still be at an earlier one. The gate is told after each accepted edit, and before
-    /// each tile that is shot.
+    /// So many threads as there are workers shoot the tiles of a picture or a check while this one goes on with the edits behind
+    /// it, and this one helps them when it gathers. The later tiles of a large check are shot by as many, this one among them, when
+    /// some of those that serve may still be at an earlier one. The gate is told after each accepted edit, and before each tile
+    /// that is shot.
     pub fn run<R: Threads + Wait + Sync, G: Gate + Sync>(
         self,
         rt: &R,
@@ -599,7 +600,7 @@ fn serve_all<'a, R: Threads + Wait + Sync, G: Gate + Sync>(
     );
 }
 
-/// Runs a session while the other workers serve the pool.
+/// Runs a session while as many threads as there are workers serve the pool. Where none can be had, nobody serves it.
 fn run_served<'a, R: Threads + Wait + Sync, G: Gate + Sync>(
     session: Session,
     rt: &R,
@@ -617,10 +618,9 @@ fn run_served<'a, R: Threads + Wait + Sync, G: Gate + Sync>(
     ensures ran { HasRun table.now.told.state session.own session.commands pass.old pass.new result }
 {
     let mut waiting = Some(session);
-    let others = workers - 1;
     let (_served, answers) = thread::join_mut(
         rt,
-        &mut || serve_all(rt, alloc, pool, others),
+        &mut || serve_all(rt, alloc, pool, workers),
         &mut || -> Items<Answer>
             requires table { pass.now.table ≡ table.now.id }
             requires ready { IsReady waiting pass.now }

@@ -96,7 +96,7 @@ impl Gate for SessionsMeet {
     }
 }
 
-/// Holds each beginning of the tiles 0 and 1 until the other one was begun.
+/// Holds each beginning of the tiles 0 and 1 until the other one was begun, and the commit of version 5 until both were.
 #[derive(Drop)]
 pub(crate) struct WorkersMeet {
     first: AtomicU32,
@@ -129,6 +129,10 @@ impl Gate for WorkersMeet {
             GateEvent::TileBegin { tile: 1, .. } => {
                 count(&self.second);
                 self.holds.hold(&self.first, 1);
+            }
+            GateEvent::Committed { version: 5, .. } => {
+                self.holds.hold(&self.first, 1);
+                self.holds.hold(&self.second, 1);
             }
             _ => {}
         }

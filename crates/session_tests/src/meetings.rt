@@ -94,36 +94,50 @@ fn two_workers_shoot_the_tiles_of_one_picture_at_once(rt: HostRuntime) -> Result
     Ok(())
 }
 
+/// The session's own thread is held meanwhile, so that both are threads beside it.
 #[test]
-fn an_edit_is_committed_while_the_picture_before_it_is_shot(rt: HostRuntime) -> Result<(), Fail> {
-    let gate = EditMeetsPicture::new();
+fn two_workers_shoot_while_their_session_is_at_an_edit(rt: HostRuntime) -> Result<(), Fail> {
+    let gate = WorkersMeet::new();
     let ended = run_script(&rt, &["--workers", "2"], PICTURE_AND_EDIT, &gate)?;
     assert!(rt; gate.have_met());
     assert_eq!(rt; ended.status, Status::Done);
-    assert!(rt;
-        ended.sink.bytes().ends_with(
-            b"\n1.5 ok v4 1\npicture p.ppm 32 16 tiles 2 shot 2 reused 0\n1.6 ok v5 0\n".as_slice()
-        )
-    );
-    let [file] = ended.shelf.puts() else {
-        return Err(Fail::new("not one file"));
-    };
-    assert!(rt; is_white(file.bytes.items(), 25, 10) == Some(true));
+    Ok(())
+}
+
+#[test]
+fn an_edit_is_committed_while_the_picture_before_it_is_shot(rt: HostRuntime) -> Result<(), Fail> {
+    for workers in ["1", "2"] {
+        let gate = EditMeetsPicture::new();
+        let ended = run_script(&rt, &["--workers", workers], PICTURE_AND_EDIT, &gate)?;
+        assert!(rt; gate.have_met(), "with --workers {workers}");
+        assert_eq!(rt; ended.status, Status::Done);
+        assert!(rt;
+            ended.sink.bytes().ends_with(
+                b"\n1.5 ok v4 1\npicture p.ppm 32 16 tiles 2 shot 2 reused 0\n1.6 ok v5 0\n".as_slice()
+            )
+        );
+        let [file] = ended.shelf.puts() else {
+            return Err(Fail::new("not one file"));
+        };
+        assert!(rt; is_white(file.bytes.items(), 25, 10) == Some(true));
+    }
     Ok(())
 }
 
 #[test]
 fn an_edit_is_committed_while_the_check_before_it_is_shot(rt: HostRuntime) -> Result<(), Fail> {
-    let gate = EditMeetsPicture::new();
-    let ended = run_script(&rt, &["--workers", "2"], CHECK_AND_EDIT, &gate)?;
-    assert!(rt; gate.have_met());
-    assert_eq!(rt; ended.status, Status::Done);
-    assert!(rt;
-        ended
-            .sink
-            .bytes()
-            .ends_with(b"\n1.5 ok v4 0\n1.6 ok v5 0\n".as_slice())
-    );
+    for workers in ["1", "2"] {
+        let gate = EditMeetsPicture::new();
+        let ended = run_script(&rt, &["--workers", workers], CHECK_AND_EDIT, &gate)?;
+        assert!(rt; gate.have_met(), "with --workers {workers}");
+        assert_eq!(rt; ended.status, Status::Done);
+        assert!(rt;
+            ended
+                .sink
+                .bytes()
+                .ends_with(b"\n1.5 ok v4 0\n1.6 ok v5 0\n".as_slice())
+        );
+    }
     Ok(())
 }
 

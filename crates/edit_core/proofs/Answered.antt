@@ -83,12 +83,16 @@ within dir a o there weight names = record {
   ];
 }
 
+pub less_sound : (dir : Entries) (a : Name) (o : Parts) → IsSound dir → IsSome (object_of dir a) → comb_weight (Some o) ≤ comb_weight (object_of dir a)
+    → ((x : Name) → Contains (members_of (Some o)) x → Contains (members_of (object_of dir a)) x) → IsSound (replaced dir a o)
+less_sound dir a o sound there weight names =
+    let distinct : IsDistinct same_name (keys_of (replaced dir a o)) = subst (λ (ks : List Name). IsDistinct same_name ks) (sym (keys-set_value (same_name a) dir o)) sound.distinct in
+    within_sound dir (replaced dir a o) (within dir a o there weight names) sound (omega (arith, sound.small, length-replaced dir a o)) distinct
+
 pub less_fault : (dir : Entries) (a : Name) (o : Parts) → IsSound dir → IsSome (object_of dir a) → comb_weight (Some o) ≤ comb_weight (object_of dir a)
     → ((x : Name) → Contains (members_of (Some o)) x → Contains (members_of (object_of dir a)) x) → replace_fault dir a o ≡ None
 less_fault dir a o sound there weight names =
-    let distinct : IsDistinct same_name (keys_of (replaced dir a o)) = subst (λ (ks : List Name). IsDistinct same_name ks) (sym (keys-set_value (same_name a) dir o)) sound.distinct in
-    let after : IsSound (replaced dir a o) = within_sound dir (replaced dir a o) (within dir a o there weight names) sound (omega (arith, sound.small, length-replaced dir a o)) distinct in
-    sym (replace_rest dir a o (some_true (object_of dir a) there)) ∙ sound_judged (replaced dir a o) a after
+    sym (replace_rest dir a o (some_true (object_of dir a) there)) ∙ sound_judged (replaced dir a o) a (less_sound dir a o sound there weight names)
 
 pub exchanges : (d new : Listing) (name : Name) (object : Parts) (r : Result (Unit {0}) DirFault) → replace_fault d.objects name object ≡ None
     → Follows d.objects (replace_fault d.objects name object) (replaced d.objects name object) r new.objects → of_directory.Tells (replaced d.objects name object) name r → new.title ≡ d.title

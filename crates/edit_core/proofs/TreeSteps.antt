@@ -129,12 +129,12 @@ pull : (b : Bool) (e : ListEntry) (less : List ListEntry) → map member (cond b
 pull true e less = refl
 pull false e less = refl
 
-fewer : (gone : Name → Bool) (l : List ListEntry) (a : Name) → Contains (named (map member (without gone l))) a → Contains (named (map member l)) a
+pub fewer : (gone : Name → Bool) (l : List ListEntry) (a : Name) → Contains (named (map member (without gone l))) a → Contains (named (map member l)) a
 fewer gone [] a c = c
 fewer gone (e ∷ es) a c =
     fewer_step (stays gone e) (member e) (map member es) (map member (without gone es)) a (fewer gone es a) (subst (λ (ms : List Member). Contains (named ms) a) (pull (stays gone e) e (without gone es)) c)
 
-names_listed : (t : Comb) (l : List ListEntry) → t ≡ tree_of_list l → names_in t ≡ named (map member l)
+pub names_listed : (t : Comb) (l : List ListEntry) → t ≡ tree_of_list l → names_in t ≡ named (map member l)
 names_listed t l e = ap names_in e ∙ ap named (members_of_list l)
 
 length_filter_step : (b : Bool) (e : ListEntry) (less : List ListEntry) (n : ℕ) → length less ≤ n → length (cond b (e ∷ less) less) ≤ n + 1
@@ -173,7 +173,7 @@ map_leaves_of : (f : Member → Member) (t : Tree Member) → leaves (map_leaves
 map_leaves_of f (Leaf m) = refl
 map_leaves_of f (Join op l r) = ap (λ (xs : List Member). xs ++ leaves (map_leaves f r)) (map_leaves_of f l) ∙ ap (λ (xs : List Member). map f (leaves l) ++ xs) (map_leaves_of f r) ∙ sym (map-append f (leaves l) (leaves r))
 
-members_of : (f : Member → Member) (t : Comb) → members (map_members f t) ≡ map f (members t)
+pub members_of : (f : Member → Member) (t : Comb) → members (map_members f t) ≡ map f (members t)
 members_of f None = refl
 members_of f (Some t) = map_leaves_of f t
 
@@ -185,7 +185,7 @@ name_placed : (b : Bool) (by : Placement) (m : Member) → (cond b (record m { p
 name_placed true by m = refl
 name_placed false by m = refl
 
-names_placed : (name : Name) (by : Placement) (ms : List Member) → named (map (placed name by) ms) ≡ named ms
+pub names_placed : (name : Name) (by : Placement) (ms : List Member) → named (map (placed name by) ms) ≡ named ms
 names_placed name by [] = refl
 names_placed name by (m ∷ ms) = ap (λ (n : Name). n ∷ named (map (placed name by) ms)) (name_placed (same_name m.name name) by m) ∙ ap (λ (ns : List Name). m.name ∷ ns) (names_placed name by ms)
 

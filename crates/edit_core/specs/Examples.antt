@@ -1,5 +1,6 @@
 -- What the definitions come to at small directories, proved by computation. A name is one byte.
-use Rattle.std.specs.Prelude.{◌≡◌, ℕ, List, [], ◌∷◌, Some, None, Ok, Err, true, false, refl}
+use Rattle.std.specs.Prelude.{◌≡◌, ℕ, zero, suc, List, [], ◌∷◌, Some, None, Ok, Err, true, false, refl}
+use Rattle.std.proofs.Common.{lit<}
 use Rattle.tree_forms.specs.declared.Op.{Op}
 use Rattle.tree_forms.specs.declared.Op.TheVariants.{U, N, Minus, X}
 use Rattle.tree_forms.specs.Trees.{Tree, Leaf, Join}
@@ -16,10 +17,11 @@ use Rattle.object_set.specs.Objects.{Parts}
 use Rattle.command_set.specs.declared.command.Edit.TheVariants.{Make, Region, Group, Remove, Kill, RenameAll, Place, Title, Keep}
 use Rattle.command_set.specs.declared.command.Command.TheVariants.{Bad, Edit as IsEdit, Query as IsQuery}
 use Rattle.command_set.specs.declared.command.Query.TheVariants.{Names}
-use Rattle.command_set.specs.declared.refusal.Refusal.TheVariants.{Syntax, Exists, Missing, NotComb, NotList, Absent, Heads, Cycle}
+use Rattle.command_set.specs.declared.refusal.Refusal.TheVariants.{Syntax, Exists, Missing, NotComb, NotList, Absent, Heads, Cycle, Deep}
 use Rattle.directory.specs.Listing.{Listing}
 use Rattle.directory.specs.Walks.{Entries}
 use Rattle.edit_core.specs.Refused.{edited}
+use Rattle.edit_core.specs.Verdicts.{ClosesCycle}
 use Rattle.edit_core.specs.Modelling.{next, commits, reply, is_look}
 
 abbrev named : ℕ → Name
@@ -129,8 +131,27 @@ references_stay : (p : Placement) (s : AnySolid) → edited (holding ((named 4, 
 references_stay p s = refl
 
 -- ---- cycles and depth
-a_cycle_of_three : (p : Placement) → edited (holding ((named 1, comb group_attr (Some (at p 2))) ∷ (named 2, comb group_attr (Some (at p 3))) ∷ [])) (Group (named 3) (entry p U 1 ∷ [])) ≡ Err (Cycle (named 3))
+abbrev two_of_three : Placement → Listing
+two_of_three p = holding ((named 1, comb group_attr (Some (at p 2))) ∷ (named 2, comb group_attr (Some (at p 3))) ∷ [])
+
+a_cycle_of_three : (p : Placement) → edited (two_of_three p) (Group (named 3) (entry p U 1 ∷ [])) ≡ Err (Cycle (named 3))
 a_cycle_of_three p = refl
+
+-- by the walk 3, 1, 2, 3
+its_walk : (p : Placement) → ClosesCycle (two_of_three p) (Group (named 3) (entry p U 1 ∷ [])) (named 3)
+its_walk p = record { late = refl; is = refl; cycle = (named 1 ∷ named 2 ∷ [], ((0, lit< tt, refl), ((0, lit< tt, refl), ((0, lit< tt, refl), (tt, tt))))) }
+
+-- so many combinations, from this name on, each with the next name as its member
+abbrev chain : Placement → ℕ → ℕ → Entries
+chain p zero k = []
+chain p (suc n) k = (named k, comb group_attr (Some (at p (suc k)))) ∷ chain p n (suc k)
+
+-- the lowest of sixteen has a missing member; where that becomes a combination, the highest lies 17 deep
+seventeen_deep : (p : Placement) → edited (holding (chain p 16 1)) (Group (named 17) (entry p U 99 ∷ [])) ≡ Err (Deep 17)
+seventeen_deep p = refl
+
+sixteen_deep : (p : Placement) → edited (holding (chain p 15 1)) (Group (named 16) (entry p U 17 ∷ [])) ≡ Ok (holding (chain p 16 1))
+sixteen_deep p = refl
 
 renamed_into_itself : (p : Placement) → edited (holding ((named 1, comb group_attr (Some (at p 2))) ∷ [])) (RenameAll (named 1) (named 2)) ≡ Err (Cycle (named 2))
 renamed_into_itself p = refl

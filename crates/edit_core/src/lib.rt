@@ -10,5 +10,5 @@ mod objects;
 mod trees;
 
 pub use applying::apply;
-pub use law::{list_laws, machine_laws};
+pub use law::{list_laws, machine_laws, refusal_laws};
 pub use modeller::Modeller;

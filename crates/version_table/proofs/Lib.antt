@@ -1,4 +1,5 @@
 pub mod Totals
 pub mod Places
+pub mod Claims
 pub mod Moves
 pub mod Runs

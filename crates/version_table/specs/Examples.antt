@@ -1,6 +1,6 @@
 -- Small runs, places, passes and views, proved by computation.
-use Rattle.std.specs.Prelude.{◌≡◌, ◌+◌, ◌<◌, refl, ℕ, zero, suc, Bool, true, false, List, [], ◌∷◌, Some}
-use Rattle.std.proofs.Common.{arith, subst, lit≤}
+use Rattle.std.specs.Prelude.{◌≡◌, ◌+◌, ◌<◌, refl, ℕ, zero, suc, Bool, true, false, List, [], ◌∷◌, length, Some}
+use Rattle.std.proofs.Common.{◌∙◌, ap, arith, subst, lit≤}
 use Rattle.std.proofs.lemmas.Bool.Decides.{nat_tests}
 use mathlib.Core.Option.{some, none}
 use Rattle.atomic_table.specs.Seated.{TableId}
@@ -8,9 +8,10 @@ use Rattle.version_table.specs.declared.rule.Noted.{Noted}
 use Rattle.version_table.specs.declared.rule.View.{View}
 use Rattle.version_table.specs.Run.{note_of, state_after, commits_in, Told, told_of}
 use Rattle.version_table.specs.Places.{IsRising, merged, places_from, times, total}
-use Rattle.version_table.specs.Steps.{longer, view_of}
+use Rattle.version_table.specs.Steps.{longer, idle_view, joined, with_turn}
 use Rattle.version_table.specs.Passes.{handed_over, pass_of, taken_over, together}
 use Rattle.version_table.specs.History.{Each, IsSound, claims_of, home_of}
+use Rattle.version_table.specs.Claims.{AllMatch, claim_of}
 
 -- a machine of numbers
 data Command : Type 0 where
@@ -93,10 +94,10 @@ out : home_of 1 told (a ∷ b ∷ []) ≡ none
 out = refl
 
 abbrev one : View Command
-one = view_of (a ∷ []) false 1 (0 ∷ [])
+one = idle_view 1 (a ∷ []) 1 (claim_of 1 0 ∷ [])
 
 abbrev two : View Command
-two = view_of (a ∷ b ∷ []) false 0 (1 ∷ [])
+two = idle_view 2 (a ∷ b ∷ []) 0 (claim_of 2 1 ∷ [])
 
 each_of_two : (P : View Command → Type 0) → P one → P two → Each P (one ∷ two ∷ [])
 each_of_two P of_one of_two zero v at = let same : one ≡ v = cc in subst P same of_one
@@ -117,6 +118,7 @@ sound = record {
   seen = each_of_two _ (b ∷ [], refl) ([], refl);
   met = each_of_two _ tt tt;
   once = once;
+  matched = each_of_two _ ((a, refl, refl), tt) ((b, refl, refl), tt);
   own = each_of_two _ (claims_below 0) (claims_below 1);
   rising = each_of_two _ (tt, tt) (tt, tt);
   claimed = refl;
@@ -124,6 +126,7 @@ sound = record {
   turns = refl;
   whole = each_of_two _ (λ e. cc) (λ e. cc);
   armed = each_of_two _ (λ e. cc) (λ e. cc);
+  carrier = each_of_two _ refl refl;
   small = lit≤ tt;
   room = refl;
 }
@@ -131,3 +134,34 @@ sound = record {
 -- nobody has the turn
 turn_of_nobody : IsSound 3 1 (a ∷ b ∷ []) (one ∷ two ∷ []) → ⊥
 turn_of_nobody sound = omega (arith, sound.turns)
+
+-- the second entry is one of session 2, and no pass may claim it for session 1
+abbrev of_another : View Command
+of_another = idle_view 2 (a ∷ b ∷ []) 0 (claim_of 1 1 ∷ [])
+
+claim_of_another_session : IsSound 3 0 (a ∷ b ∷ []) (one ∷ of_another ∷ []) → ⊥
+claim_of_another_session sound =
+    let found = (sound.matched 1 of_another refl).0 in
+    let same : b ≡ found.0 = let e : some b ≡ some found.0 = found.1 in cc in
+    omega (arith, ap (λ (e : Noted Command). e.session) same ∙ found.2)
+
+-- after a join one pass has claims of two sessions, in the order of the history
+claims_of_two_sessions : (joined two one).claims ≡ claim_of 1 0 ∷ claim_of 2 1 ∷ []
+claims_of_two_sessions = refl
+
+both_match : AllMatch (a ∷ b ∷ []) (joined two one).claims
+both_match = ((a, refl, refl), ((b, refl, refl), tt))
+
+-- the first pass has the turn, and the second one has the slot
+abbrev with_slot : View Command
+with_slot = record { session = 2; seen = a ∷ b ∷ []; holds = false; carries = 0 ∷ []; left = 0; claims = claim_of 2 1 ∷ []; met = [] }
+
+slot_of_another : IsSound 3 1 (a ∷ b ∷ []) (with_turn (a ∷ b ∷ []) one ∷ with_slot ∷ []) → ⊥
+slot_of_another sound = omega (arith, ap length (sound.carrier 1 with_slot refl))
+
+-- the pass that has the turn has not the slot
+abbrev without_slot : View Command
+without_slot = record { session = 1; seen = a ∷ b ∷ []; holds = true; carries = []; left = 1; claims = claim_of 1 0 ∷ []; met = [] }
+
+slot_of_nobody : IsSound 3 1 (a ∷ b ∷ []) (without_slot ∷ two ∷ []) → ⊥
+slot_of_nobody sound = omega (arith, ap length (sound.carrier 0 without_slot refl))

@@ -1,5 +1,5 @@
 -- There is one history, to which passes add entries, each in its turn. The book of the history lies in the slot, and only the pass that has the turn writes to it.
-use Rattle.std.specs.Prelude.{◌≡◌, ◌+◌, ◌<◌, ◌^◌, ℕ, zero, suc, Bool, true, cond, List, [], ◌∷◌, length, Some}
+use Rattle.std.specs.Prelude.{◌≡◌, ◌+◌, ◌<◌, ◌^◌, ℕ, zero, suc, true, cond, List, [], ◌∷◌, length, Some}
 use Rattle.std.specs.Prelude as std
 use mathlib.Core.Option.{Option, some, none}
 use mathlib.Core.List.{IsPrefix}
@@ -7,6 +7,7 @@ use lib.ListN.{get_elem?}
 use Rattle.atomic_table.specs.Table.{State}
 use Rattle.version_table.specs.declared.rule.View.{View}
 use Rattle.version_table.specs.declared.rule.Noted.{Noted}
+use Rattle.version_table.specs.Claims.{places_of, AllMatch}
 use Rattle.version_table.specs.Places.{total, times, IsRising}
 use Rattle.version_table.specs.Run.{Told, BookView}
 
@@ -32,24 +33,26 @@ module _ {C : Type 0} where
   claim_count v = length v.claims
 
   abbrev pub claims_of : ℕ → View C → ℕ
-  claims_of k v = times k v.claims
+  claims_of k v = times k (places_of v.claims)
 
-  -- The rule, which holds between any two steps. Its fourth part is `home_of`.
+  -- The rule, which holds between any two steps.
   pub record IsSound (calls turn : ℕ) (history : List (Noted C)) (views : List (View C)) : Type 0 where
     -- 1. What a pass has seen begins the history, and what the passes that were joined to it had seen begins that.
     pub seen : Each (λ v. IsPrefix v.seen history) views
     pub met : Each (λ v. AllBegin v.met v.seen) views
-    -- 2. Each entry is claimed by one pass, once. A pass claims entries that it has seen, in the order of the history. So there are as many claims as entries.
-    -- A claim is a place; its session is that of the entry there. That a pass's entries have its session, `Adds` says.
+    -- 2. Each entry is claimed by one pass, once, and the claim names the session that the entry has. A pass claims entries that it has seen, in the order of the history. There are as many claims as entries.
     pub once : (k : ℕ) → k < length history → total (claims_of k) views ≡ 1
+    pub matched : Each (λ v. AllMatch history v.claims) views
     pub own : Each (λ v. (k : ℕ) → 0 < claims_of k v → k < length v.seen) views
-    pub rising : Each (λ v. IsRising v.claims) views
+    pub rising : Each (λ v. IsRising (places_of v.claims)) views
     pub claimed : total claim_count views ≡ length history
     -- 3. The turn is 1 where a pass has it, and 0 where none has. No two have it. The one that has it has seen the whole history, and has a call left or a claim.
     pub one_turn : turn < 2
     pub turns : total holding views ≡ turn
     pub whole : Each (λ v. v.holds ≡ true → v.seen ≡ history) views
     pub armed : Each (λ v. v.holds ≡ true → 0 < v.left + claim_count v) views
+    -- 4. The pass that has the turn has the slot, which is number 0, and no other pass has a slot. Where none has the turn, the slot is at home with the book of the history, which `home_of` says.
+    pub carrier : Each (λ v. v.carries ≡ cond v.holds (0 ∷ []) []) views
     -- 5. The entries and the calls left in all passes are together the calls that `open` was given.
     pub small : calls < 2 ^ 32
     pub room : length history + total calls_left views ≡ calls
@@ -58,8 +61,7 @@ module _ {S C : Type 0} where
   abbrev pub book_of : Told S → List (Noted C) → BookView S C
   book_of told history = record { told = told; entries = history }
 
-  -- 4. Where the turn is free, the slot is at home and the book of the history is in it. Where a pass has the turn, the slot is out.
-  -- The steps say with whom: `TookTurn` hands it to the pass that took the turn, `give` requires it of that pass, and a pass that is idle (`IsIdle`) has none.
+  -- Part 4 of the rule, for the table: where the turn is free, the slot is at home, and the book of the history is in it. Where a pass has the turn, the slot is out, and by `carrier` with that pass.
   -- outer option: whether the slot is at home; inner: what it holds
   abbrev pub home_of : ℕ → Told S → List (Noted C) → Option (std.Option (BookView S C))
   home_of zero told history = some (Some (book_of told history))

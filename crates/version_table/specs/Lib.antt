@@ -1,3 +1,4 @@
+pub mod Claims
 pub mod Entries
 pub mod Examples
 pub mod History

@@ -11,13 +11,21 @@ pub struct Noted<C> {
     pub memory: bool,
 }
 
-/// What a seat knows: the history that it has seen, whether it has the turn, its calls left, the places of its own
-/// entries, and what the two passes had seen that were joined last. No value of it is made.
+/// An entry that is claimed as one's own: its session, and its place in the history. No value of it is made.
+pub struct Claim {
+    pub session: u8,
+    pub place: u64,
+}
+
+/// What a seat knows: its session, the history that it has seen, whether it has the turn, the slots that it carries, its
+/// calls left, its claims, and what the two passes had seen that were joined last. No value of it is made.
 pub struct View<C> {
+    pub session: u8,
     pub seen: LinkedList<Noted<C>>,
     pub holds: bool,
+    pub carries: LinkedList<u64>,
     pub left: u64,
-    pub claims: LinkedList<u64>,
+    pub claims: LinkedList<Claim>,
     pub met: LinkedList<LinkedList<Noted<C>>>,
 }
 
@@ -99,14 +107,18 @@ impl<M: Machine> Play<Option<Book<M>>, View<M::Command>> for Give {
     ghost then = { Gives };
 }
 
-/// How many calls a new seat takes over. Each split picks it.
+/// The session of a new seat, and how many calls it takes over. Each split picks both.
 pub trait Handing {
     ghost use Rattle.std.specs.Prelude.{ℕ};
+
+    ghost session: { ℕ };
 
     ghost calls: { ℕ };
 }
 
 impl Handing for Brand {
+    ghost session = { 0 };
+
     ghost calls = { 0 };
 }
 
@@ -119,7 +131,7 @@ impl<C, E: Handing> Split<View<C>> for Cut<E> {
 
     ghost left = { kept_part E.calls };
 
-    ghost right = { given_part E.calls };
+    ghost right = { given_part E.session E.calls };
 }
 
 pub struct Glue;

@@ -2,7 +2,7 @@
 ghost use Rattle.std.specs.Prelude.{◌≡◌, ◌<◌, ◌+◌, ◌-◌, ◌++◌, ◌∷◌, [], true, false, Some, None, length};
 ghost use Rattle.std.specs.Arc.{arc_value};
 ghost use Rattle.version_table.specs.History.{book_of};
-ghost use Rattle.version_table.specs.Steps.{IsIdle, IsTokenOf, TookTurn, view_of};
+ghost use Rattle.version_table.specs.Steps.{IsIdle, IsTokenOf, TookTurn, with_entry, at_rest};
 ghost use Rattle.version_table.specs.Run.{note_of};
 
 use crate::book::Book;
@@ -75,8 +75,9 @@ fn count<M: Machine, E: Adding<M::Command>>(
     requires entry { E.entry ≡ Some (note_of session (arc_value command.now) memory) }
     requires own { IsTokenOf table.now.table_id token.old }
     requires turn { (token.old.me.0.holds ≡ true) × (0 < token.old.me.0.left) }
+    requires session { token.old.me.0.session ≡ session }
     ensures own { IsTokenOf table.now.table_id token.new × (token.new.id ≡ token.old.id) }
-    ensures counted { token.new.me ≡ (view_of (token.old.me.0.seen ++ note_of session (arc_value command.now) memory ∷ []) true (token.old.me.0.left - 1) (token.old.me.0.claims ++ length token.old.me.0.seen ∷ []), token.old.me.1) }
+    ensures counted { token.new.me ≡ (with_entry (note_of session (arc_value command.now) memory) token.old.me.0, token.old.me.1) }
 {
     table.fetch_add::<Count<(M, E)>>(token, 0, 1)
 }
@@ -90,8 +91,9 @@ pub(crate) fn count_entry<M: Machine>(
 )
     requires own { IsTokenOf table.now.table_id token.old }
     requires turn { (token.old.me.0.holds ≡ true) × (0 < token.old.me.0.left) }
+    requires session { token.old.me.0.session ≡ session }
     ensures own { IsTokenOf table.now.table_id token.new × (token.new.id ≡ token.old.id) }
-    ensures counted { token.new.me ≡ (view_of (token.old.me.0.seen ++ note_of session (arc_value command.now) memory ∷ []) true (token.old.me.0.left - 1) (token.old.me.0.claims ++ length token.old.me.0.seen ∷ []), token.old.me.1) }
+    ensures counted { token.new.me ≡ (with_entry (note_of session (arc_value command.now) memory) token.old.me.0, token.old.me.1) }
 {
     let _ = count::<M, Brand>(table, token, session, command, memory);
 }
@@ -114,7 +116,7 @@ fn give<M: Machine>(table: &Shared<M>, token: &mut Token<M>)
     requires own { IsTokenOf table.now.table_id token.old }
     requires turn { (token.old.me.0.holds ≡ true) × (token.old.me.1 ≡ (0, Some (book_of table.now.key token.old.me.0.seen)) ∷ []) }
     ensures own { IsTokenOf table.now.table_id token.new × (token.new.id ≡ token.old.id) }
-    ensures gave { token.new.me ≡ (view_of token.old.me.0.seen false token.old.me.0.left token.old.me.0.claims, []) }
+    ensures gave { token.new.me ≡ (at_rest token.old.me.0, []) }
 {
     table.store::<Give>(token, 1, 0);
 }
@@ -125,7 +127,7 @@ pub(crate) fn end_turn<M: Machine>(table: &Shared<M>, token: &mut Token<M>, book
     requires turn { (token.old.me.0.holds ≡ true) × (token.old.me.1 ≡ (0, None) ∷ []) }
     requires book { book ≡ book_of table.now.key token.old.me.0.seen }
     ensures own { IsTokenOf table.now.table_id token.new × (token.new.id ≡ token.old.id) }
-    ensures gave { token.new.me ≡ (view_of token.old.me.0.seen false token.old.me.0.left token.old.me.0.claims, []) }
+    ensures gave { token.new.me ≡ (at_rest token.old.me.0, []) }
 {
     slot_back(table, token, book);
     give(table, token);

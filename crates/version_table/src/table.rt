@@ -2,9 +2,10 @@ ghost use Rattle.std.specs.Prelude.{◌≡◌, ◌≤◌, ◌<◌, ◌+◌, ◌-
 ghost use Rattle.std.specs.Arc.{arc_value};
 ghost use mathlib.Core.List.{IsPrefix};
 ghost use Rattle.version_table.specs.Entries.{noted};
+ghost use Rattle.version_table.specs.Claims.{places_of};
 ghost use Rattle.version_table.specs.History.{AllBegin};
 ghost use Rattle.version_table.specs.Places.{places_from, IsRising};
-ghost use Rattle.version_table.specs.Steps.{IsIdle, IsTokenOf, view_of, kept_part, given_part, joined};
+ghost use Rattle.version_table.specs.Steps.{IsIdle, IsTokenOf, at_rest, kept_part, given_part, joined};
 ghost use Rattle.version_table.specs.Passes.{Adds, IsEdit, pass_of, handed_over, taken_over, together};
 ghost use Rattle.version_table.specs.Run.{told_of, note_of, state_after, commits_in};
 
@@ -65,14 +66,16 @@ pub struct Pass<M: Machine> {
 }
 
 impl<M: Machine> Model for Pass<M> {
+    ghost use Rattle.std.specs.Prelude.{◌≡◌};
+    ghost use Rattle.version_table.specs.Claims.{places_of};
     ghost use Rattle.version_table.specs.Steps.{IsIdle};
     ghost use Rattle.version_table.specs.Passes.{PassView, pass_of};
 
     ghost Value = { PassView M.Command };
 
-    ghost view = { λ p. pass_of p.token.table_id p.session p.token.me.0.seen p.token.me.0.claims p.token.me.0.left };
+    ghost view = { λ p. pass_of p.token.table_id p.session p.token.me.0.seen (places_of p.token.me.0.claims) p.token.me.0.left };
 
-    ghost invariant = { λ p. IsIdle p.token.me };
+    ghost invariant = { λ p. IsIdle p.token.me × (p.token.me.0.session ≡ p.session) };
 }
 
 impl<M: Machine> VersionTable<M> {
@@ -102,7 +105,7 @@ impl<M: Machine> VersionTable<M> {
         ensures keeps { pass.new ≡ handed_over calls pass.old }
         ensures given { result ≡ taken_over session calls pass.old }
     {
-        let token = split_token(&self.table.shared, &mut pass.token, calls);
+        let token = split_token(&self.table.shared, &mut pass.token, session, calls);
         Pass { session, token }
     }
 
@@ -197,26 +200,38 @@ impl<M: Machine> VersionTable<M> {
     }
 }
 
-fn split_by<M: Machine, E: Handing>(table: &Shared<M>, token: &mut Token<M>, calls: u32) -> Token<M>
+fn split_by<M: Machine, E: Handing>(
+    table: &Shared<M>,
+    token: &mut Token<M>,
+    session: u8,
+    calls: u32,
+) -> Token<M>
+    requires session { E.session ≡ session }
     requires calls { E.calls ≡ calls }
     requires own { IsTokenOf table.now.table_id token.old }
     requires idle { IsIdle token.old.me }
     requires room { calls ≤ token.old.me.0.left }
     ensures kept { IsTokenOf table.now.table_id token.new × (token.new.me ≡ (kept_part calls token.old.me.0, [])) }
-    ensures given { IsTokenOf table.now.table_id result × (result.me ≡ (given_part calls token.old.me.0, [])) }
+    ensures given { IsTokenOf table.now.table_id result × (result.me ≡ (given_part session calls token.old.me.0, [])) }
 {
+    let _ = session;
     let _ = calls;
     table.split_seat::<Cut<E>>(token)
 }
 
-fn split_token<M: Machine>(table: &Shared<M>, token: &mut Token<M>, calls: u32) -> Token<M>
+fn split_token<M: Machine>(
+    table: &Shared<M>,
+    token: &mut Token<M>,
+    session: u8,
+    calls: u32,
+) -> Token<M>
     requires own { IsTokenOf table.now.table_id token.old }
     requires idle { IsIdle token.old.me }
     requires room { calls ≤ token.old.me.0.left }
     ensures kept { IsTokenOf table.now.table_id token.new × (token.new.me ≡ (kept_part calls token.old.me.0, [])) }
-    ensures given { IsTokenOf table.now.table_id result × (result.me ≡ (given_part calls token.old.me.0, [])) }
+    ensures given { IsTokenOf table.now.table_id result × (result.me ≡ (given_part session calls token.old.me.0, [])) }
 {
-    split_by::<M, Brand>(table, token, calls)
+    split_by::<M, Brand>(table, token, session, calls)
 }
 
 // The second load of a join. It changes nothing but `met`, and tells what holds of the two passes as one.
@@ -224,9 +239,9 @@ fn learn<M: Machine>(table: &Shared<M>, token: &mut Token<M>)
     requires own { IsTokenOf table.now.table_id token.old }
     requires idle { IsIdle token.old.me }
     ensures own { IsTokenOf table.now.table_id token.new }
-    ensures same { token.new.me ≡ (view_of token.old.me.0.seen false token.old.me.0.left token.old.me.0.claims, []) }
+    ensures same { token.new.me ≡ (at_rest token.old.me.0, []) }
     ensures begins { AllBegin token.old.me.0.met token.old.me.0.seen }
-    ensures rising { IsRising token.old.me.0.claims }
+    ensures rising { IsRising (places_of token.old.me.0.claims) }
 {
     let _ = table.load::<Learn>(token, 0);
 }

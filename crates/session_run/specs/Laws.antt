@@ -1,5 +1,5 @@
 -- What a reader may conclude of any run by the rules of the core.
-use Rattle.std.specs.Prelude.{◌≡◌, ◌≤◌, ◌+◌, ◌&&◌, not, ℕ, List, [], ◌∷◌, ◌++◌, map, is_some, if◌then◌else◌}
+use Rattle.std.specs.Prelude.{◌≡◌, ◌≤◌, ◌+◌, ◌&&◌, not, ℕ, List, [], ◌∷◌, ◌++◌, map, take, is_some, if◌then◌else◌}
 use Rattle.outside_core.specs.declared.traits.File.{File}
 use Rattle.transcript.specs.Merge.{Entry, lane}
 use Rattle.transcript.specs.Run.{Answer, Book, Marked, State, answered, book_after, run_of, stepped}
@@ -35,3 +35,14 @@ AnswersAtPlaces =
     (start : State Listing OwnState) (before later : List (Entry (Marked Command))) (e : Entry (Marked Command))
     → run_of core_rules start (before ++ e ∷ later)
     ≡ run_of core_rules start before ++ answered core_rules (state_after start before) e ∷ run_of core_rules (stepped core_rules (state_after start before) e) later
+
+-- the directory and the version at a place of a run, which so many of its commands have made: each answer shows the version at the place after its command
+abbrev pub book_at_place : State Listing OwnState → List (Entry (Marked Command)) → ℕ → Book Listing
+book_at_place start entries place = (state_after start (take place entries)).book
+
+-- at any two places of one run that have one version, whatever its first book and version, the directory is the same
+abbrev pub OneDirectory : Type 0
+OneDirectory =
+    (start : State Listing OwnState) (entries : List (Entry (Marked Command))) (one other : ℕ)
+    → (book_at_place start entries one).version ≡ (book_at_place start entries other).version
+    → (book_at_place start entries one).directory ≡ (book_at_place start entries other).directory

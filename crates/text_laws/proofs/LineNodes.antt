@@ -24,6 +24,8 @@ use Rattle.comb_tree.specs.Nodes.{Comb, Member}
 use Rattle.tcl_words.specs.Pieces.{pieces, written_after}
 use Rattle.tcl_words.specs.declared.token.Kind.TheVariants.{Open, Close, Atom as AtomKind}
 use Rattle.tcl_words.specs.declared.token.Token.{Token}
+use Rattle.std.proofs.lemmas.Bool.Decides.{nat_tests}
+use Rattle.tcl_words.specs.Faults.{is_bad_at}
 use Rattle.tcl_words.proofs.Scan.{Piece}
 use Rattle.tcl_words.proofs.Written.{GoodPiece}
 use Rattle.word_values.specs.Atoms.{view_number}
@@ -147,11 +149,15 @@ group_stretch false ns g small some few = (
   stretch_append (atoms ns) (closing ∷ []) (g + 1) (g + 1) g (numbers_stretch ns (g + 1) small (omega arith)) (close_good (g + 1) (omega arith), omega (arith, some), omega arith),
 )
 
+-- no name has a caret, and a word may
+caret_good : (g : ℕ) → is_bad_at 94 g ≡ false
+caret_good g = grind (arith, nat_tests)
+
 operator_good : (op : Op) (g : ℕ) → GoodPiece AtomKind (operator_text op) g
 operator_good U g = word_good (codes "u") g refl
 operator_good N g = word_good (codes "n") g refl
 operator_good Minus g = word_good (codes "-") g refl
-operator_good X g = word_good (codes "^") g refl
+operator_good X g = (omega arith, (refl, caret_good g, tt))
 
 some_leaves : (t : Tree Member) → 0 < length (leaves t)
 some_leaves (Leaf m) = omega arith

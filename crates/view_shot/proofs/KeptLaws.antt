@@ -114,6 +114,6 @@ module _ {E V : Type 0} where
       ap keys_of put ∙ taken_keys most_kept ((key, value) ∷ old) ∙ ap (λ l. take most_kept (key ∷ l)) are ∙ sym (ap (λ b. cond b (put_in kept key) kept) small)
   kept_is (Err e) key value old new kept put are small = tt
 
-pub on_ok : {A E P : Type 0} (r : Result A E) → P → OnOk r P
-on_ok (Ok x) p = p
-on_ok (Err e) p = tt
+pub on_err : {A E P : Type 0} (r : Result A E) → P → OnErr r P
+on_err (Ok x) p = tt
+on_err (Err e) p = p

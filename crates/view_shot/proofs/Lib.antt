@@ -1,5 +1,6 @@
 pub mod KeptLaws
 pub mod TileLaws
+pub mod StopLaws
 pub mod Led
 pub mod PictureLaws
 pub mod CheckLaws

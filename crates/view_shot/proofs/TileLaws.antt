@@ -106,7 +106,7 @@ module _ (name : ℕ → TileName) where
     fresh_past kept (Some n ∷ rest) i from lt h = fresh_past kept rest i (from + 1) (omega (arith, lt)) h
 
 -- the first of what is left of a list
-there : {X : Type 0} (xs : List X) (i : ℕ) (x : X) (rest : List X) → drop i xs ≡ x ∷ rest → slice_get xs i ≡ Some x
+pub there : {X : Type 0} (xs : List X) (i : ℕ) (x : X) (rest : List X) → drop i xs ≡ x ∷ rest → slice_get xs i ≡ Some x
 there [] zero x rest h = absurd cc
 there [] (suc i) x rest h = absurd cc
 there (y ∷ ys) zero x rest h = let same : y ≡ x = cc in ap Some same

@@ -1,5 +1,5 @@
 -- Tiles that are kept, by their names, the last used first: what a picture reuses of them, what it shoots, and what is kept after it.
-use Rattle.std.specs.Prelude.{ℕ, Bool, not, List, [], ◌∷◌, ◌++◌, filter, map, take}
+use Rattle.std.specs.Prelude.{◌≡◌, ◌≤◌, ◌<◌, ◌⊎◌, ℕ, Bool, not, List, [], ◌∷◌, ◌++◌, filter, map, take, length}
 use Rattle.std.specs.List.{list_any, range_with_len}
 use Rattle.lattice_core.specs.declared.view.View.{View}
 use Rattle.lattice_core.specs.Tiles.{tiles_of}
@@ -46,3 +46,16 @@ in_turn step kept (name ∷ names) = in_turn step (step kept name) names
 -- were shot are put in, but for the ones whose bodies have a size over 128.
 abbrev pub after_picture : List TileName → List TileName → List TileName
 after_picture kept names = in_turn put_in (in_turn moved kept (reused kept names)) (filter is_small_name (shot kept names))
+
+-- the first so many of these tiles went to the front, one after the other
+abbrev pub AreMovedInPart : List TileName → List TileName → List TileName → Type 0
+AreMovedInPart kept names left = (n : ℕ) × (n ≤ length names) × (left ≡ in_turn moved kept (take n names))
+
+-- the first so many of these tiles were put in, one after the other, but not all
+abbrev pub ArePutInPart : List TileName → List TileName → List TileName → Type 0
+ArePutInPart kept names left = (n : ℕ) × (n < length names) × (left ≡ in_turn put_in kept (take n names))
+
+-- What is kept where the memory for a picture of these tiles ran out: some of the reused ones went to the front, in the order of
+-- the tiles; or all of them did, and then some of those that are to be put in were, in their order, but not the last.
+abbrev pub IsPartWay : List TileName → List TileName → List TileName → Type 0
+IsPartWay kept names left = AreMovedInPart kept (reused kept names) left ⊎ ArePutInPart (in_turn moved kept (reused kept names)) (filter is_small_name (shot kept names)) left

@@ -72,6 +72,11 @@ abbrev pub HasPut : View → ℕ → Option NamedTile → List NamedTile → ℕ
 HasPut view tile (Some reused) shot next next' kept kept' old new = IsPut view tile reused old new × (next' ≡ next) × (kept' ≡ kept)
 HasPut view tile None shot next next' kept kept' old new = (one : NamedTile) × (slice_get shot next ≡ Some one) × IsPut view tile one old new × (next' ≡ suc next) × (kept' ≡ with_small kept one.key)
 
+-- there was no memory to keep the tile of this number: it is the next of those that were shot, and small, and all is kept as before
+abbrev pub IsNotKept : Option NamedTile → List NamedTile → ℕ → List TileName → List TileName → Type 0
+IsNotKept (Some reused) shot next kept kept' = ⊥
+IsNotKept None shot next kept kept' = (one : NamedTile) × (slice_get shot next ≡ Some one) × (is_small_name one.key ≡ true) × (kept' ≡ kept)
+
 -- the report of a tile, or none where the view's has more pairs than a report may have
 abbrev pub IsTileReport : List Region → View → ℕ → Option (List Pair) → Type 0
 IsTileReport scene view tile None = IsTooMany (length (tile_report scene view tile)) TooMany

@@ -1,5 +1,5 @@
 //! Pictures and checks in flight: their tiles are posted to a pool, and gathered later.
-ghost use Rattle.std.specs.Prelude.{◌≡◌, ◌≤◌, ◌<◌, IfOk, IfErr, OnOk, All, length, map, vec_len};
+ghost use Rattle.std.specs.Prelude.{◌≡◌, ◌≤◌, ◌<◌, IfOk, IfErr, OnErr, OnOk, All, length, map, vec_len};
 ghost use Rattle.std.specs.Arc.{arc_value};
 ghost use Rattle.lattice_core.specs.Views.{IsChecked};
 ghost use Rattle.lattice_core.specs.Tiles.{tiles_of};
@@ -9,7 +9,7 @@ ghost use Rattle.outside_core.specs.declared.gate.GateEvent.TheVariants.{TileBeg
 ghost use Rattle.tile_shot.specs.Pixels.{view_bytes};
 ghost use Rattle.tile_shot.specs.Reports.{view_report};
 ghost use Rattle.view_shot.specs.Flights.{HasPairs, IsOfCheck, IsOfPicture, IsTile, of_check_prop, of_picture_prop, pieces_of, posted_of};
-ghost use Rattle.view_shot.specs.Kept.{after_picture, tile_names};
+ghost use Rattle.view_shot.specs.Kept.{IsPartWay, after_picture, tile_names};
 ghost use Rattle.view_shot.specs.Steps.{if_kept};
 ghost use Rattle.view_shot.specs.declared.work.Shot.TheVariants.{Pairs as PairsShot, Tile as IsTileShot};
 
@@ -145,7 +145,8 @@ fn into_tiles(alloc: Global, shots: Vec<Shot>) -> Result<Vec<SharedTile>, Memory
 }
 
 /// The pixels of a view that is in flight, row by row from the top, as `shoot_view` gives them, by the plan with which it was
-/// posted. The calling thread shoots the tiles that no thread of the pool has shot. After want of memory anything may be kept.
+/// posted. The calling thread shoots the tiles that no thread of the pool has shot. Where there is no memory, so much is kept as
+/// after `shoot_view`.
 pub fn gather_view<'a, G: Gate + Sync>(
     pool: &TilePool<FlightJob<'a, G>>,
     alloc: Global,
@@ -155,6 +156,7 @@ pub fn gather_view<'a, G: Gate + Sync>(
     requires { flight.plan.names.items ≡ map (if_kept kept.old) (tile_names (arc_value flight.scene) flight.view) }
     ensures pixels { IfOk result (λ picture. picture.items ≡ view_bytes (arc_value flight.entry.scene) flight.entry.view) }
     ensures kept { OnOk result (kept.new ≡ after_picture kept.old (tile_names (arc_value flight.entry.scene) flight.entry.view)) }
+    ensures memory { OnErr result (IsPartWay kept.old (tile_names (arc_value flight.entry.scene) flight.entry.view) kept.new) }
 {
     let PictureFlight {
         scene,

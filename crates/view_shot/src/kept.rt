@@ -1,5 +1,6 @@
 //! The tiles that a session keeps.
-ghost use Rattle.std.specs.Prelude.{◌≡◌, ◌↔◌, [], IfOk, IsTrue, OnOk, true, false};
+ghost use Rattle.std.specs.Prelude.{◌≡◌, ◌↔◌, [], IfOk, IsTrue, OnErr, OnOk, true, false};
+ghost use Rattle.tile_shot.specs.Named.{is_small_name};
 ghost use Rattle.view_shot.specs.Kept.{is_kept, moved};
 ghost use Rattle.view_shot.specs.Steps.{with_small};
 
@@ -111,11 +112,11 @@ impl KeptTiles {
         self.cache.has(name)
     }
 
-    /// The kept tile of this name, which goes to the front.
+    /// The kept tile of this name, which goes to the front, also where there is no memory for a share of it.
     pub(crate) fn reuse(&mut self, name: &TileKey) -> Result<SharedTile, Memory>
         requires { is_kept self.old name.now ≡ true }
         ensures named { IfOk result (λ tile. tile.key ≡ name.now) }
-        ensures moved { OnOk result (self.new ≡ moved self.old name.now) }
+        ensures moved { self.new ≡ moved self.old name.now }
     {
         match self.cache.find(name) {
             Some(tile) => tile.share(),
@@ -123,10 +124,13 @@ impl KeptTiles {
         }
     }
 
-    /// Puts a tile that was shot at the front, where its bodies are small; the last one falls out where 4,096 are kept.
+    /// Puts a tile that was shot at the front, where its bodies are small; the last one falls out where 4,096 are kept. Only one
+    /// with small bodies takes memory, and where there is none all stays.
     pub(crate) fn keep(&mut self, tile: &SharedTile) -> Result<(), Memory>
         requires { is_kept self.old tile.now.key ≡ false }
-        ensures { OnOk result (self.new ≡ with_small self.old tile.now.key) }
+        ensures kept { OnOk result (self.new ≡ with_small self.old tile.now.key) }
+        ensures memory { OnErr result (self.new ≡ self.old) }
+        ensures small { OnErr result (is_small_name tile.now.key ≡ true) }
     {
         let name = tile.tile().key();
         if !name.is_small() {

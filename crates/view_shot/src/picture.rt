@@ -1,13 +1,13 @@
 //! The pixels of a view, put together from its tiles.
-ghost use Rattle.std.specs.Prelude.{◌≡◌, ◌≤◌, ◌<◌, ◌*◌, ◌^◌, ◌++◌, ◌∷◌, [], IfOk, OnOk, length, map, vec_len};
+ghost use Rattle.std.specs.Prelude.{◌≡◌, ◌≤◌, ◌<◌, ◌*◌, ◌^◌, ◌++◌, ◌∷◌, [], IfOk, OnErr, OnOk, length, map, vec_len};
 ghost use Rattle.std.specs.Arc.{arc_value};
 ghost use Rattle.std.specs.Option.{option_map};
 ghost use Rattle.lattice_core.specs.Views.{IsChecked};
 ghost use Rattle.lattice_core.specs.Tiles.{tiles_of};
 ghost use Rattle.ppm_write.specs.Pictures.{IsPictureOf};
 ghost use Rattle.tile_shot.specs.Pixels.{view_bytes};
-ghost use Rattle.view_shot.specs.Kept.{after_picture, in_turn, moved, tile_name, tile_names};
-ghost use Rattle.view_shot.specs.Steps.{AreKept, AreLacking, CanPut, HasPut, IsPut, IsTileOf, found, if_kept, lacking, names_of};
+ghost use Rattle.view_shot.specs.Kept.{AreMovedInPart, IsPartWay, after_picture, in_turn, moved, tile_name, tile_names};
+ghost use Rattle.view_shot.specs.Steps.{AreKept, AreLacking, CanPut, HasPut, IsNotKept, IsPut, IsTileOf, found, if_kept, lacking, names_of};
 
 use crate::executor::{Executor, shoot_tiles};
 use crate::job::TileJob;
@@ -45,7 +45,7 @@ fn black(alloc: Global, view: &View) -> Result<Vec<u8>, Memory>
 fn reuse_one(name: &Option<TileKey>, kept: &mut KeptTiles) -> Result<Option<SharedTile>, Memory>
     requires { AreKept kept.old (found (name.now ∷ [])) }
     ensures named { IfOk result (λ slot. option_map (λ t. t.key) slot ≡ name.now) }
-    ensures moved { OnOk result (kept.new ≡ in_turn moved kept.old (found (name.now ∷ []))) }
+    ensures moved { kept.new ≡ in_turn moved kept.old (found (name.now ∷ [])) }
 {
     match name {
         Some(name) => Ok(Some(kept.reuse(name)?)),
@@ -62,6 +62,7 @@ fn reuse_all(
     requires { AreKept kept.old (found plan.now.names.items) }
     ensures named { IfOk result (λ slots. names_of slots.items ≡ plan.now.names.items) }
     ensures moved { OnOk result (kept.new ≡ in_turn moved kept.old (found plan.now.names.items)) }
+    ensures memory { OnErr result (AreMovedInPart kept.old (found plan.now.names.items) kept.new) }
 {
     let mut slots = Vec::new(alloc);
     for i in 0..plan.names.len() {
@@ -159,7 +160,8 @@ fn put_next(
     requires tile { tile < tiles_of view.now }
     requires picture { IsPictureOf view.now.w view.now.h picture.old.items }
     requires there { CanPut view.now tile slot.now shot.now next.old kept.old }
-    ensures { IfOk result (λ _. HasPut view.now tile slot.now shot.now next.old next.new kept.old kept.new picture.old.items picture.new.items) }
+    ensures put { IfOk result (λ _. HasPut view.now tile slot.now shot.now next.old next.new kept.old kept.new picture.old.items picture.new.items) }
+    ensures memory { OnErr result (IsNotKept slot.now shot.now next.old kept.old kept.new) }
 {
     match slot {
         Some(reused) => {
@@ -190,6 +192,7 @@ pub(crate) fn join_view(
     requires shot { AreLacking scene.now view.now plan.now.names.items shot.now }
     ensures pixels { IfOk result (λ picture. picture.items ≡ view_bytes scene.now view.now) }
     ensures kept { OnOk result (kept.new ≡ after_picture kept.old (tile_names scene.now view.now)) }
+    ensures memory { OnErr result (IsPartWay kept.old (tile_names scene.now view.now) kept.new) }
 {
     pixel_laws();
     let _regions = scene.regions();
@@ -205,7 +208,7 @@ pub(crate) fn join_view(
 
 /// The pixels of a view of a scene, row by row from the top, by a plan of what is kept. The tiles that are kept are reused, and
 /// go to the front in the order of their numbers; the others are shot, and then those with small bodies are put at the front in
-/// the order of their numbers. After want of memory anything may be kept.
+/// the order of their numbers. Where there is no memory, the first so many of these steps were done, and no more is kept.
 pub fn shoot_view<R: Threads + Sync, G: Gate + Sync>(
     executor: &Executor<R, G>,
     alloc: Global,
@@ -218,6 +221,7 @@ pub fn shoot_view<R: Threads + Sync, G: Gate + Sync>(
     requires plan { plan.now.names.items ≡ map (if_kept kept.old) (tile_names (arc_value scene.now) view.now) }
     ensures pixels { IfOk result (λ picture. picture.items ≡ view_bytes (arc_value scene.now) view.now) }
     ensures kept { OnOk result (kept.new ≡ after_picture kept.old (tile_names (arc_value scene.now) view.now)) }
+    ensures memory { OnErr result (IsPartWay kept.old (tile_names (arc_value scene.now) view.now) kept.new) }
 {
     let shot = shoot_lacking(executor, alloc, scene, view, plan)?;
     join_view(alloc, scene, view, plan, &shot, kept)

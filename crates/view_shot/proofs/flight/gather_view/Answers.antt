@@ -3,8 +3,11 @@ use Rattle.std.specs.Arc.{arc_value}
 use Rattle.shot_core.specs.Regions.{Region}
 use Rattle.tile_shot.specs.Named.{NamedTile}
 use Rattle.view_shot.specs.Flights.{pieces_of}
+use Rattle.view_shot.specs.Kept.{tile_names}
 use Rattle.view_shot.specs.Steps.{AreLacking}
 use Rattle.view_shot.proofs.FlightLaws.{are_lacking, are_tiles}
+use Rattle.view_shot.proofs.KeptLaws.{on_err}
+use Rattle.view_shot.proofs.StopLaws.{none_moved}
 use Rattle.view_shot.proofs.flight.gather_view.Goals as goal
 
 pub into_tiles-requires : goal.into_tiles-requires
@@ -20,3 +23,9 @@ join_view-requires-clause-shot g c =
     c.in_ok-shots.ensures.each c.in_ok-tiles.ensures in
     subst (λ (s : List Region). AreLacking s c.args.flight.view c.args.flight.plan.names.items c.deref-2.result.now) (sym c.deref.ensures)
     (subst (λ (l : List NamedTile). AreLacking (arc_value c.args.flight.scene) c.args.flight.view c.args.flight.plan.names.items l) (sym c.deref-2.ensures.value) all)
+
+pub returns-in_err-shots-clause-memory : goal.returns-in_err-shots-clause-memory
+returns-in_err-shots-clause-memory g c = on_err c.from_residual.result (none_moved c.args.kept.now (tile_names (arc_value c.args.flight.scene) c.args.flight.view))
+
+pub returns-in_err-tiles-clause-memory : goal.returns-in_err-tiles-clause-memory
+returns-in_err-tiles-clause-memory g c = on_err c.from_residual-in_err-tiles.result (none_moved c.args.kept.now (tile_names (arc_value c.args.flight.scene) c.args.flight.view))

@@ -7,8 +7,10 @@ use Rattle.ppm_write.specs.Pictures.{IsPictureOf}
 use Rattle.tile_shot.specs.Named.{TileName, is_small_name}
 use Rattle.view_shot.specs.Kept.{in_turn, moved, put_in, tile_name, tile_names}
 use Rattle.view_shot.specs.Steps.{AreKept, found, if_kept, lacking}
+use Rattle.view_shot.proofs.KeptLaws.{on_err}
 use Rattle.view_shot.proofs.Led.{led_more, led_none}
 use Rattle.view_shot.proofs.PictureLaws.{IsLedPicture, IsTileCopied, led_whole, put_bytes}
+use Rattle.view_shot.proofs.StopLaws.{moved_all, part_moved, part_put, one_more, put_more, taken_long, taken_next}
 use Rattle.view_shot.proofs.TileLaws.{IsLeft, can_put, found_kept, gone, kept_after, key_of, left_first, left_last, slot_at, slots_long}
 use Rattle.view_shot.proofs.picture.join_view.Goals as goal
 
@@ -25,6 +27,7 @@ loop-tile-init c =
     record {
       left = subst (λ (k : List TileName). IsLeft name names c.args.shot.now end 0 0 k) (sym c.in_ok-slots.ensures.moved)
           (left_first name c.args.kept.now (found names) (tiles_of c.args.view.now) names c.args.shot.now c.requires.plan keys);
+      so_far = c.in_ok-slots.ensures.moved;
       size = c.in_ok-picture.ensures;
       led = led_none (IsTileCopied c.args.scene.now c.args.view.now) (IsPictureOf c.args.view.now.w c.args.view.now.h) c.in_ok-picture.picture.items c.in_ok-picture.ensures;
     }
@@ -53,11 +56,15 @@ loop-tile-preserved c =
     slots_long name c.args.kept.now (tiles_of c.args.view.now) names c.in_ok-slots.slots.items c.in_ok-slots.ensures.named c.requires.plan in
     let is : drop c.loop-tile.tile names ≡ option_map key_of c.index-slot.result.now ∷ drop (c.loop-tile.tile + 1) names =
     slot_at c.in_ok-slots.slots.items names c.loop-tile.tile c.index-slot.result.now c.in_ok-slots.ensures.named c.index-slot.ensures (omega (arith, long, c.loop-tile-test.true, c.tiles-tile-end.ensures.count)) in
-    let put = c.in_ok-put_next.ensures in
+    let put = c.in_ok-put_next.ensures.put in
     let went = gone name c.args.view.now names c.args.shot.now _ (λ n. refl) c.loop-tile.tile c.loop-tile.next c.put_next.new.next c.loop-tile.kept c.put_next.new.kept c.index-slot.result.now
     (drop (c.loop-tile.tile + 1) names) c.loop-tile.picture.items c.put_next.new.picture.items is refl c.loop-tile.invariant.left put in
     record {
       left = went.left;
+      so_far = put_more name names (in_turn moved c.args.kept.now (found names)) c.loop-tile.tile c.loop-tile.kept c.put_next.new.kept (option_map key_of c.index-slot.result.now)
+          (taken_next names c.loop-tile.tile _ _ is) (taken_long names c.loop-tile.tile _ _ is) c.loop-tile.invariant.so_far
+          (one_more name names c.args.shot.now _ c.args.view.now c.loop-tile.tile c.loop-tile.next c.put_next.new.next c.loop-tile.kept c.put_next.new.kept c.index-slot.result.now
+          (drop (c.loop-tile.tile + 1) names) c.loop-tile.picture.items c.put_next.new.picture.items is c.loop-tile.invariant.left put);
       size = went.is_put.copied.size ∙ c.loop-tile.invariant.size;
       led = led_more (IsTileCopied c.args.scene.now c.args.view.now) (IsPictureOf c.args.view.now.w c.args.view.now.h) c.loop-tile.tile c.loop-tile.picture.items c.put_next.new.picture.items
           c.loop-tile.invariant.led (put_bytes c.args.scene.now c.args.view.now c.loop-tile.tile went.one c.loop-tile.picture.items c.put_next.new.picture.items went.named went.is_put);
@@ -78,3 +85,25 @@ returns-clause-kept c =
     ap (length {A = Option TileName}) c.requires.plan ∙ length-map (tile_names c.args.scene.now c.args.view.now) (if_kept c.args.kept.now) ∙ length-map-range_with_len name 0 (tiles_of c.args.view.now) in
     let none : drop c.loop-tile.tile names ≡ [] = drop_all c.loop-tile.tile names (omega (arith, long, c.loop-tile-test.false, c.loop-tile.auto.tile-end, c.tiles-tile-end.ensures.count)) in
     left_last name names c.args.shot.now _ c.loop-tile.tile c.loop-tile.next c.loop-tile.kept none c.loop-tile.invariant.left ∙ kept_after name c.args.kept.now (tiles_of c.args.view.now) names c.requires.plan
+
+pub returns-in_err-slots-clause-memory : goal.returns-in_err-slots-clause-memory
+returns-in_err-slots-clause-memory c =
+    on_err c.from_residual.result (part_moved c.args.kept.now (tile_names c.args.scene.now c.args.view.now) c.args.plan.now.names.items c.reuse_all.new.kept c.requires.plan c.in_err-slots.ensures.memory)
+
+pub returns-in_err-picture-clause-memory : goal.returns-in_err-picture-clause-memory
+returns-in_err-picture-clause-memory c =
+    on_err c.from_residual-in_err-picture.result
+    (part_moved c.args.kept.now (tile_names c.args.scene.now c.args.view.now) c.args.plan.now.names.items c.reuse_all.new.kept c.requires.plan
+    (moved_all c.args.kept.now (found c.args.plan.now.names.items) c.reuse_all.new.kept c.in_ok-slots.ensures.moved))
+
+pub returns-in_err-put_next-clause-memory : goal.returns-in_err-put_next-clause-memory
+returns-in_err-put_next-clause-memory c =
+    let name : ℕ → TileName = tile_name c.args.scene.now c.args.view.now in
+    let names : List (Option TileName) = c.args.plan.now.names.items in
+    let long : length c.in_ok-slots.slots.items ≡ tiles_of c.args.view.now =
+    slots_long name c.args.kept.now (tiles_of c.args.view.now) names c.in_ok-slots.slots.items c.in_ok-slots.ensures.named c.requires.plan in
+    let is : drop c.loop-tile.tile names ≡ option_map key_of c.index-slot.result.now ∷ drop (c.loop-tile.tile + 1) names =
+    slot_at c.in_ok-slots.slots.items names c.loop-tile.tile c.index-slot.result.now c.in_ok-slots.ensures.named c.index-slot.ensures (omega (arith, long, c.loop-tile-test.true, c.tiles-tile-end.ensures.count)) in
+    on_err c.from_residual-in_err-put_next.result
+    (part_put name c.args.kept.now (tiles_of c.args.view.now) names c.args.shot.now _ c.loop-tile.tile c.loop-tile.next c.loop-tile.kept c.put_next.new.kept c.index-slot.result.now (drop (c.loop-tile.tile + 1) names)
+    c.requires.plan is (taken_long names c.loop-tile.tile _ _ is) c.loop-tile.invariant.left c.loop-tile.invariant.so_far c.in_err-put_next.ensures.memory)

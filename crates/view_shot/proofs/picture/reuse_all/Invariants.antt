@@ -8,4 +8,5 @@ invariant-loop-i l = record {
   named : names_of l.slots.items ≡ take l.i l.plan.names.items;
   kept : AreKept l.kept (found (drop l.i l.plan.names.items));
   moves : in_turn moved l.kept (found (drop l.i l.plan.names.items)) ≡ in_turn moved l.initial.kept (found l.plan.names.items);
+  so_far : l.kept ≡ in_turn moved l.initial.kept (found (take l.i l.plan.names.items));
 }

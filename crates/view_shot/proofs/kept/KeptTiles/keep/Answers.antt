@@ -16,8 +16,8 @@ invariant_of-self-2 c =
     let small : is_small_name c.in_ok-share.field-0 ≡ true = ap is_small_name c.in_ok-share.ensures ∙ sym c.is_small.ensures ∙ c.if-not-is_small.false in
     kept_small c.keep.result c.in_ok-share.field-0 c.in_ok-share-2.field-0 c.self.inside.cache c.keep.new.self c.keep.ensures.kept c.keep.ensures.memory small c.self.invariant
 
-pub returns : goal.returns
-returns c =
+pub returns-clause-kept : goal.returns-clause-kept
+returns-clause-kept c =
     let small : is_small_name c.in_ok-share.field-0 ≡ true = ap is_small_name c.in_ok-share.ensures ∙ sym c.is_small.ensures ∙ c.if-not-is_small.false in
     let named : c.in_ok-share.field-0 ≡ c.args.tile.now.key = c.in_ok-share.ensures ∙ c.key-name.ensures ∙ ap (λ (t : NamedTile). t.key) c.tile.ensures in
     subst (λ (k : TileName). OnOk c.keep.result (keys_of c.keep.new.self ≡ with_small c.args.self.now k)) named

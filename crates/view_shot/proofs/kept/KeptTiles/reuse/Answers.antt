@@ -6,7 +6,7 @@ use Rattle.tile_shot.specs.Same.{same_name}
 use Rattle.tile_shot.specs.Sameness.{name_decides}
 use Rattle.view_shot.specs.Kept.{moved}
 use Rattle.view_shot.specs.Steps.{AreSmall}
-use Rattle.view_shot.proofs.KeptLaws.{moved_keys, on_ok, small_moved}
+use Rattle.view_shot.proofs.KeptLaws.{moved_keys, small_moved}
 use Rattle.view_shot.proofs.kept.KeptTiles.reuse.Goals as goal
 
 pub invariant_of-self : goal.invariant_of-self
@@ -19,4 +19,4 @@ returns-clause-named c =
 
 pub returns-clause-moved : goal.returns-clause-moved
 returns-clause-moved c =
-    on_ok c.share.result (ap keys_of c.find.follows.holds-at-none ∙ moved_keys same_name c.args.name.now c.self.inside.cache ∙ ap (λ k. moved k c.args.name.now) c.self.view_is)
+    ap keys_of c.find.follows.holds-at-none ∙ moved_keys same_name c.args.name.now c.self.inside.cache ∙ ap (λ k. moved k c.args.name.now) c.self.view_is

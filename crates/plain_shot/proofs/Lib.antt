@@ -2,3 +2,4 @@ pub mod Lists
 pub mod Putting
 pub mod Landing
 pub mod Laying
+pub mod Overlapping

@@ -1,9 +1,9 @@
-use Rattle.std.proofs.Common.{◌≡◌, List, length, sym, subst, arith}
+use Rattle.std.proofs.Common.{OnErr, ◌≡◌, List, length, sym, subst, arith}
 use Rattle.std.specs.Arc.{arc_value}
 use Rattle.shot_core.specs.Regions.{Region}
 use Rattle.tile_shot.specs.Named.{NamedTile}
 use Rattle.view_shot.specs.Flights.{pieces_of}
-use Rattle.view_shot.specs.Kept.{tile_names}
+use Rattle.view_shot.specs.Kept.{IsPartWay, tile_names}
 use Rattle.view_shot.specs.Steps.{AreLacking}
 use Rattle.view_shot.proofs.FlightLaws.{are_lacking, are_tiles}
 use Rattle.view_shot.proofs.KeptLaws.{on_err}
@@ -29,3 +29,7 @@ returns-in_err-shots-clause-memory g c = on_err c.from_residual.result (none_mov
 
 pub returns-in_err-tiles-clause-memory : goal.returns-in_err-tiles-clause-memory
 returns-in_err-tiles-clause-memory g c = on_err c.from_residual-in_err-tiles.result (none_moved c.args.kept.now (tile_names (arc_value c.args.flight.scene) c.args.flight.view))
+
+pub returns-clause-memory : goal.returns-clause-memory
+returns-clause-memory g c =
+    subst (λ (s : List Region). OnErr c.join_view.result (IsPartWay c.args.kept.now (tile_names s c.args.flight.view) c.join_view.new.kept)) c.deref.ensures c.join_view.ensures.memory

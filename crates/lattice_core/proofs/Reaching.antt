@@ -61,7 +61,7 @@ falls : (o p x w : ℤ) → IsOnRay p w → IsCoordinate o (negsuc 0) p x w → 
 falls o p x w on e =
     let a : reach_low o (negsuc 0) ≡ o -ℤ FAR = omega (arith, ints, clamps) in
     let b : reach_high o (negsuc 0) ≡ o = omega (arith, ints, clamps) in
-    let wide : (o +ℤ negsuc 1048575) *ℤ w ≡ (o *ℤ w) +ℤ (negsuc 1048575 *ℤ w) = add_mul o (negsuc 1048575) w in (
+    let wide : (o +ℤ (pos 0 -ℤ FAR)) *ℤ w ≡ (o *ℤ w) +ℤ ((pos 0 -ℤ FAR) *ℤ w) = add_mul o (pos 0 -ℤ FAR) w in (
       subst (λ (z : ℤ). (z *ℤ w) ≤ℤ x) (sym a) (omega (arith, ints, e, on.not_ended, wide)),
       subst (λ (z : ℤ). x ≤ℤ (z *ℤ w)) (sym b) (omega (arith, ints, e, on.begun)),
     )
@@ -70,7 +70,7 @@ falls_back : (o x w : ℤ) → pos 0 <ℤ w → Reaches o (negsuc 0) x w → IsO
 falls_back o x w some h =
     let a : reach_low o (negsuc 0) ≡ o -ℤ FAR = omega (arith, ints, clamps) in
     let b : reach_high o (negsuc 0) ≡ o = omega (arith, ints, clamps) in
-    let wide : (o +ℤ negsuc 1048575) *ℤ w ≡ (o *ℤ w) +ℤ (negsuc 1048575 *ℤ w) = add_mul o (negsuc 1048575) w in
+    let wide : (o +ℤ (pos 0 -ℤ FAR)) *ℤ w ≡ (o *ℤ w) +ℤ ((pos 0 -ℤ FAR) *ℤ w) = add_mul o (pos 0 -ℤ FAR) w in
     let from : ((o -ℤ FAR) *ℤ w) ≤ℤ x = subst (λ (z : ℤ). (z *ℤ w) ≤ℤ x) a h.0 in
     let to : x ≤ℤ (o *ℤ w) = subst (λ (z : ℤ). x ≤ℤ (z *ℤ w)) b h.1 in (
       record { positive = some; begun = omega (arith, ints, to); not_ended = omega (arith, ints, from, wide) },

@@ -10,7 +10,7 @@ use crate::extent::Extent;
 use crate::ray::Ray;
 use crate::vector::V3;
 
-/// One side of a box: open, or at a whole coordinate in millimetres, which belongs to the box.
+/// One side of a box: open, or at a whole coordinate in tenths of a millimetre, which belongs to the box.
 #[derive(Clone, Copy, Debug, PartialEq, Eq, Hash)]
 pub enum Side {
     Open,

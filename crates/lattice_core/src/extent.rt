@@ -55,7 +55,7 @@ impl Extent {
     }
 
     /// Whether the extent holds some coordinate of a ray of which the coordinate starts at `origin` and changes by `step` a
-    /// millimetre.
+    /// tenth of a millimetre.
     pub(crate) fn meets_ray(self, origin: i64, step: i64) -> bool
         requires origin { IsAtMost WORLD origin }
         requires step { IsStep step }

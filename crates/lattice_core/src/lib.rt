@@ -1,4 +1,4 @@
-//! The lattice of whole points: vectors, axis directions, rays, views and their tiles, placements and boxes. Lengths are whole millimetres.
+//! The lattice of whole points: vectors, axis directions, rays, views and their tiles, placements and boxes. Lengths are whole tenths of a millimetre.
 #![tactic(auto)]
 
 mod boxes;
@@ -15,7 +15,8 @@ mod view;
 pub use boxes::{Box3, Side, box_meets_ray, boxes_meet, hull, meet, ray_box};
 pub use extent::Extent;
 pub use limit::{
-    COORD, FAR, PICTURE_SIDE, PLACED, REACH, SHIFT, TILE_SIDE, VIEW_NUMBER, WIDE, WORLD, limit_laws,
+    COORD, FAR, HALF_NORMAL, MILLIMETRE, PICTURE_SIDE, PLACED, REACH, SHIFT, TILE_SIDE, VIEW_NUMBER,
+    WIDE, WORLD, limit_laws,
 };
 pub use placement::{MatrixFault, Placement, compose, of_matrix};
 pub use ray::{Dir, Ray};

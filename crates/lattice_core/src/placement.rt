@@ -12,7 +12,7 @@ use crate::turn::Turn;
 use crate::vector::V3;
 use thiserror::Error;
 
-/// A turn, followed by a shift in millimetres.
+/// A turn, followed by a shift in tenths of a millimetre.
 #[derive(Clone, Copy, Debug, PartialEq, Eq, Hash)]
 pub struct Placement {
     pub turn: Turn,

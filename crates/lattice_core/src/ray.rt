@@ -20,7 +20,7 @@ pub enum Dir {
     MinusZ,
 }
 
-/// The half-line from a whole origin, in millimetres, along an axis.
+/// The half-line from a whole origin, in tenths of a millimetre, along an axis.
 #[derive(Clone, Copy, Debug, PartialEq, Eq, Hash)]
 pub struct Ray {
     pub origin: V3,

@@ -6,7 +6,7 @@ ghost use Rattle.lattice_core.specs.Limits.{IsAtMost};
 
 use crate::ray::Dir;
 
-/// A point or a vector with whole components, in millimetres.
+/// A point or a vector with whole components, in tenths of a millimetre.
 #[derive(Clone, Copy, Debug, PartialEq, Eq, Hash)]
 pub struct V3 {
     pub x: i64,

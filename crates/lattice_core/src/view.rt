@@ -14,10 +14,10 @@ use thiserror::Error;
 /// further column one cell across and each further row one cell down. All rays go in the view's direction.
 #[derive(Clone, Copy, Debug, PartialEq, Eq, Hash)]
 pub struct View {
-    /// Where the ray of the pixel at the top left starts, in millimetres.
+    /// Where the ray of the pixel at the top left starts, in tenths of a millimetre.
     pub corner: V3,
     pub dir: Dir,
-    /// How far the rays of neighbouring pixels are apart, in millimetres.
+    /// How far the rays of neighbouring pixels are apart, in tenths of a millimetre.
     pub cell: i64,
     pub w: u32,
     pub h: u32,
@@ -32,7 +32,7 @@ pub enum ViewFault {
     /// It has over `PICTURE_SIDE` columns or rows.
     #[error("view of over 2048 columns or rows")]
     Side,
-    /// Its cell is less than 1 mm.
+    /// Its cell is less than a tenth of a millimetre.
     #[error("cell below 1")]
     Cell,
     /// Its direction is no primitive whole vector. The six directions of a view all are, so no view has this fault: it is

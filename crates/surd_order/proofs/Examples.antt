@@ -1,8 +1,9 @@
 -- Examples of the definitions.
-use Rattle.std.proofs.Common.{◌≡◌, pos, negsuc, refl, arith, inl, inr, true, false, codes}
+use Rattle.std.proofs.Common.{◌≡◌, ◌-◌, pos, negsuc, refl, arith, inl, inr, true, false, codes}
 use Rattle.std.proofs.lemmas.Int.{ints}
 use Rattle.std.proofs.lemmas.Fmt.{decimal_digit, decimal_step}
 use Rattle.surd_order.specs.declared.position.Pos.TheVariants.{Frac, Surd}
+use Rattle.surd_order.specs.declared.range.TheConstants.{WHOLE_LIMIT, SQUARE_LIMIT}
 use Rattle.surd_order.specs.AtMost.{AtMost}
 use Rattle.surd_order.specs.Order.{Precedes, SamePlace}
 use Rattle.surd_order.specs.Range.{IsInRange}
@@ -57,5 +58,5 @@ difference_text = rw (decimal_step 10 (omega arith) (omega arith), decimal_digit
 sum_text : position_text (Surd (pos 0) true 2) ≡ codes "0+sqrt(2)"
 sum_text = rw (decimal_digit 0 (omega arith), decimal_digit 2 (omega arith)) refl
 
-last_in_range : IsInRange (Surd (pos 16777215) true 4294967295)
+last_in_range : IsInRange (Surd (pos (WHOLE_LIMIT - 1)) true (SQUARE_LIMIT - 1))
 last_in_range = record { whole = omega arith; square = omega arith }

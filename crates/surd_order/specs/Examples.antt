@@ -27,7 +27,7 @@ root_of_a_square_taken_away = refl
 root_of_no_square : spelled (Surd (pos 10) false 23) ≡ Surd (pos 10) false 23
 root_of_no_square = refl
 
-end_of_a_ray : spelled (Frac (pos 1048576) (pos 1)) ≡ Frac (pos 1048576) (pos 1)
+end_of_a_ray : spelled (Frac (pos 10485760) (pos 1)) ≡ Frac (pos 10485760) (pos 1)
 end_of_a_ray = refl
 
 -- 5.2 and 5.204..

@@ -2,20 +2,21 @@ use Rattle.std.proofs.Common.{arith, rules, FitsSigned, ◌≡◌, ◌≤◌, �
 use Rattle.std.proofs.lemmas.Int.{ints, to_z-of_z, fits_signed_from_abs}
 use Rattle.std.specs.Int.RustNames.{unsigned_abs}
 use mir.Syntax.{w64, w128}
+use Rattle.surd_order.specs.declared.range.TheConstants.{UNDER_LIMIT, WHOLE_LIMIT}
 use Rattle.surd_order.proofs.Sizes.{product_size}
 use Rattle.surd_order.proofs.order.offset.Goals as goal
 
-far : (c : goal.After-product) → (c.product.result ≡ c.args.a *ℤ c.args.q) × (unsigned_abs (c.args.a *ℤ c.args.q) ≤ 2 ^ 24 * 2 ^ 33)
+far : (c : goal.After-product) → (c.product.result ≡ c.args.a *ℤ c.args.q) × (unsigned_abs (c.args.a *ℤ c.args.q) ≤ WHOLE_LIMIT * unsigned_abs UNDER_LIMIT)
 far c =
     let fa : FitsSigned w64 c.args.a = c.ranges.a in
     let fw : FitsSigned w128 c.args.a = fits_signed_from_abs w128 c.args.a (omega (arith, c.requires.whole)) in
     let fq : FitsSigned w128 c.args.q = c.ranges.q in (
       simp to_z-of_z at c.product.ensures,
-      product_size c.args.a c.args.q (2 ^ 24) (2 ^ 33) (omega (arith, c.requires.whole)) (omega (arith, ints, c.requires.fraction.positive, c.requires.fraction.under)),
+      product_size c.args.a c.args.q WHOLE_LIMIT (unsigned_abs UNDER_LIMIT) (omega (arith, c.requires.whole)) (omega (arith, ints, c.requires.fraction.positive, c.requires.fraction.under)),
     )
 
-small : (c : goal.After-product) → unsigned_abs c.product.result ≤ 2 ^ 24 * 2 ^ 33
-small c = subst (λ (z : ℤ). unsigned_abs z ≤ 2 ^ 24 * 2 ^ 33) (sym (far c).0) (far c).1
+small : (c : goal.After-product) → unsigned_abs c.product.result ≤ WHOLE_LIMIT * unsigned_abs UNDER_LIMIT
+small c = subst (λ (z : ℤ). unsigned_abs z ≤ WHOLE_LIMIT * unsigned_abs UNDER_LIMIT) (sym (far c).0) (far c).1
 
 pub overflow_sub-result : goal.overflow_sub-result
 overflow_sub-result c = omega (arith, ints, small c, c.requires.fraction.over)

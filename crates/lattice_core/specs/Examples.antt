@@ -120,17 +120,17 @@ no_pixels_first = refl
 long_side : view_fault (view_of (vector (pos 0) (pos 0) (pos 0)) MinusZ (pos 0) 1 2049) ≡ Some Side
 long_side = refl
 
-no_cell : view_fault (view_of (vector (pos 524289) (pos 0) (pos 0)) MinusZ (pos 0) 1 1) ≡ Some Cell
+no_cell : view_fault (view_of (vector (pos 5242881) (pos 0) (pos 0)) MinusZ (pos 0) 1 1) ≡ Some Cell
 no_cell = refl
 
-corner_outside : view_fault (view_of (vector (pos 524289) (pos 0) (pos 0)) MinusZ (pos 1) 1 1) ≡ Some World
+corner_outside : view_fault (view_of (vector (pos 5242881) (pos 0) (pos 0)) MinusZ (pos 1) 1 1) ≡ Some World
 corner_outside = refl
 
 -- 524,279 and ten cells of 1 are too far, and nine are not
-last_column_outside : view_fault (view_of (vector (pos 524279) (pos 0) (pos 0)) MinusZ (pos 1) 11 1) ≡ Some World
+last_column_outside : view_fault (view_of (vector (pos 5242871) (pos 0) (pos 0)) MinusZ (pos 1) 11 1) ≡ Some World
 last_column_outside = refl
 
-last_column_inside : view_fault (view_of (vector (pos 524279) (pos 0) (pos 0)) MinusZ (pos 1) 10 1) ≡ None
+last_column_inside : view_fault (view_of (vector (pos 5242871) (pos 0) (pos 0)) MinusZ (pos 1) 10 1) ≡ None
 last_column_inside = refl
 
 -- one pixel has one ray, whatever the cell

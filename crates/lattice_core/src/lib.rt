@@ -15,8 +15,8 @@ mod view;
 pub use boxes::{Box3, Side, box_meets_ray, boxes_meet, hull, meet, ray_box};
 pub use extent::Extent;
 pub use limit::{
-    COORD, FAR, HALF_NORMAL, MILLIMETRE, PICTURE_SIDE, PLACED, REACH, SHIFT, TILE_SIDE, VIEW_NUMBER,
-    WIDE, WORLD, limit_laws,
+    COORD, FAR, HALF_NORMAL, MILLIMETRE, PICTURE_SIDE, PLACED, REACH, SHIFT, TILE_SIDE,
+    VIEW_NUMBER, WIDE, WORLD, limit_laws,
 };
 pub use placement::{MatrixFault, Placement, compose, of_matrix};
 pub use ray::{Dir, Ray};

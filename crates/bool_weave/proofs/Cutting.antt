@@ -1,5 +1,6 @@
 -- Places put among rising places, and the cuts that come of it.
 use Rattle.std.proofs.Common.{◌≡◌, ◌<◌, ◌≤◌, ◌+◌, ◌⊎◌, ℕ, zero, suc, List, [], ◌∷◌, ◌++◌, length, get_or, insert, true, false, flat_map, ap, sym, ◌∙◌, subst, refl, inl, inr, ⊎_elim, arith}
+use Rattle.std.specs.Int.RustNames.{unsigned_abs}
 use Rattle.std.specs.List.Sorted.{IsStrictlySortedBy}
 use Rattle.std.specs.declared.cmp.Ordering.{Ordering}
 use Rattle.std.specs.declared.cmp.Ordering.TheVariants.{Less, Equal, Greater}
@@ -17,7 +18,7 @@ use Rattle.surd_order.proofs.LawProofs.{places_have_one_spelling}
 use Rattle.surd_order.proofs.PlaceOrderLaws.{place_cmp_total, places_are_compared}
 use Rattle.surd_order.proofs.SquareLaws.{gcd_one}
 use Rattle.bool_weave.specs.declared.woven.Woven.{Woven}
-use Rattle.bool_weave.specs.Cuts.{ray_start, ray_end, IsSegment, IsWoven, places_of, AreCuts, put_beside, put_in, in_order, cuts_of}
+use Rattle.bool_weave.specs.Cuts.{ray_length, ray_start, ray_end, IsSegment, IsWoven, places_of, AreCuts, put_beside, put_in, in_order, cuts_of}
 use Rattle.bool_weave.specs.Claims.{is_before}
 use Rattle.bool_weave.proofs.Sorted.{Has, has_at, has_from_contains, contains_from_has, all_has, all_from, same_members, sorted_from_pairs, has_append_left, has_append_right, has_append_cases}
 
@@ -151,7 +152,7 @@ pub start_good : IsGood ray_start
 start_good = record { spelled = (omega arith, gcd_one 0); range = record { over = omega arith; positive = omega arith; under = omega arith } }
 
 pub end_good : IsGood ray_end
-end_good = record { spelled = (omega arith, gcd_one 1048576); range = record { over = omega arith; positive = omega arith; under = omega arith } }
+end_good = record { spelled = (omega arith, gcd_one (unsigned_abs ray_length)); range = record { over = omega arith; positive = omega arith; under = omega arith } }
 
 abbrev ends : Woven → List Pos
 ends w = w.seg.start ∷ w.seg.end ∷ []

@@ -6,7 +6,7 @@ use Rattle.surd_order.specs.PlaceOrder.{place_cmp}
 use Rattle.tree_forms.specs.declared.Op.TheVariants.{U, N, Minus, X}
 use Rattle.tree_forms.specs.Trees.{Leaf, Join}
 use Rattle.bool_weave.specs.declared.woven.Woven.{Woven}
-use Rattle.bool_weave.specs.Cuts.{cuts_of}
+use Rattle.bool_weave.specs.Cuts.{cuts_of, ray_end}
 use Rattle.bool_weave.specs.Masks.{Mask}
 use Rattle.bool_weave.specs.Claims.{claims_of}
 
@@ -17,6 +17,10 @@ whole n = Frac (pos n) (pos 1)
 abbrev from_to : ℕ → ℕ → ℕ → Woven
 from_to instance a b = record { instance = instance; seg = record { start = whole a; start_face = 1; end = whole b; end_face = 2 } }
 
+-- an instance from a whole place to the end of the ray
+abbrev to_the_end : ℕ → ℕ → Woven
+to_the_end instance a = record { instance = instance; seg = record { start = whole a; start_face = 1; end = ray_end; end_face = 2 } }
+
 abbrev leaf : ℕ → Mask
 leaf i = Leaf (Some i)
 
@@ -24,11 +28,11 @@ leaf i = Leaf (Some i)
 abbrev either_alone : Mask
 either_alone = Join U (Join Minus (leaf 0) (leaf 1)) (Join Minus (leaf 1) (leaf 0))
 
-no_segment : cuts_of [] ≡ whole 0 ∷ whole 1048576 ∷ []
+no_segment : cuts_of [] ≡ whole 0 ∷ ray_end ∷ []
 unfolding place_cmp
 no_segment = refl
 
-one_box : cuts_of (from_to 0 5 15 ∷ []) ≡ whole 0 ∷ whole 5 ∷ whole 15 ∷ whole 1048576 ∷ []
+one_box : cuts_of (from_to 0 5 15 ∷ []) ≡ whole 0 ∷ whole 5 ∷ whole 15 ∷ ray_end ∷ []
 unfolding place_cmp
 one_box = refl
 
@@ -37,7 +41,7 @@ unfolding place_cmp
 claims_of_one_box = refl
 
 -- the second box begins where the first ends: one cut, and both are claimed by the union
-touching_boxes : cuts_of (from_to 0 5 15 ∷ from_to 1 15 25 ∷ []) ≡ whole 0 ∷ whole 5 ∷ whole 15 ∷ whole 25 ∷ whole 1048576 ∷ []
+touching_boxes : cuts_of (from_to 0 5 15 ∷ from_to 1 15 25 ∷ []) ≡ whole 0 ∷ whole 5 ∷ whole 15 ∷ whole 25 ∷ ray_end ∷ []
 unfolding place_cmp
 touching_boxes = refl
 
@@ -51,7 +55,7 @@ unfolding place_cmp
 subtracted = refl
 
 -- a subtracted end where the region claims nothing is a cut all the same
-subtracted_beyond : cuts_of (from_to 0 5 15 ∷ from_to 1 10 20 ∷ []) ≡ whole 0 ∷ whole 5 ∷ whole 10 ∷ whole 15 ∷ whole 20 ∷ whole 1048576 ∷ []
+subtracted_beyond : cuts_of (from_to 0 5 15 ∷ from_to 1 10 20 ∷ []) ≡ whole 0 ∷ whole 5 ∷ whole 10 ∷ whole 15 ∷ whole 20 ∷ ray_end ∷ []
 unfolding place_cmp
 subtracted_beyond = refl
 
@@ -86,13 +90,13 @@ begun_inside : claims_of (from_to 0 0 15 ∷ []) (leaf 0) 0 ≡ true ∷ false �
 unfolding place_cmp
 begun_inside = refl
 
-ended_with_the_ray : claims_of (from_to 0 15 1048576 ∷ []) (leaf 0) 0 ≡ false ∷ true ∷ []
+ended_with_the_ray : claims_of (to_the_end 0 15 ∷ []) (leaf 0) 0 ≡ false ∷ true ∷ []
 unfolding place_cmp
 ended_with_the_ray = refl
 
 -- 10-sqrt(23) lies between 5 and 27/5
 between_fractions : cuts_of (record { instance = 0; seg = record { start = Surd (pos 10) false 23; start_face = 1; end = Surd (pos 10) true 23; end_face = 1 } }
     ∷ record { instance = 1; seg = record { start = whole 5; start_face = 1; end = Frac (pos 27) (pos 5); end_face = 1 } } ∷ [])
-    ≡ whole 0 ∷ whole 5 ∷ Surd (pos 10) false 23 ∷ Frac (pos 27) (pos 5) ∷ Surd (pos 10) true 23 ∷ whole 1048576 ∷ []
+    ≡ whole 0 ∷ whole 5 ∷ Surd (pos 10) false 23 ∷ Frac (pos 27) (pos 5) ∷ Surd (pos 10) true 23 ∷ ray_end ∷ []
 unfolding place_cmp
 between_fractions = refl

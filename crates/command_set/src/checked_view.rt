@@ -7,8 +7,8 @@ ghost use Rattle.command_set.specs.Lawful.{view_or_fault};
 use lattice_core::{View, ViewFault};
 use std::marker::Model;
 
-/// A view that has no fault: it has 1 to `PICTURE_SIDE` columns and rows, a cell of at least 1 mm, and each of its rays
-/// starts in the world. Contracts see that view.
+/// A view that has no fault: it has 1 to `PICTURE_SIDE` columns and rows, a cell of at least a tenth of a millimetre, and
+/// each of its rays starts in the world. Contracts see that view.
 #[derive(Debug, Drop)]
 pub struct CheckedView {
     view: View,

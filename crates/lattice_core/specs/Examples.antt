@@ -126,7 +126,7 @@ no_cell = refl
 corner_outside : view_fault (view_of (vector (pos 5242881) (pos 0) (pos 0)) MinusZ (pos 1) 1 1) ≡ Some World
 corner_outside = refl
 
--- 524,279 and ten cells of 1 are too far, and nine are not
+-- 5,242,871 and ten cells of 1 are too far, and nine are not
 last_column_outside : view_fault (view_of (vector (pos 5242871) (pos 0) (pos 0)) MinusZ (pos 1) 11 1) ≡ Some World
 last_column_outside = refl
 

@@ -4,6 +4,7 @@ use Rattle.surd_order.specs.declared.position.Pos.{Pos}
 use Rattle.surd_order.specs.declared.position.Pos.TheVariants.{Frac, Surd}
 use Rattle.surd_order.specs.PlaceOrder.{place_cmp}
 use Rattle.bool_weave.specs.declared.woven.Woven.{Woven}
+use Rattle.bool_weave.specs.Cuts.{ray_end}
 use Rattle.overlap_list.specs.declared.region.RegionClaims.{RegionClaims}
 use Rattle.overlap_list.specs.declared.partition.Partition.{Partition}
 use Rattle.overlap_list.specs.declared.overlap.OverlapRun.{OverlapRun}
@@ -16,6 +17,10 @@ whole n = Frac (pos n) (pos 1)
 -- an instance with a segment from one whole place to another, its faces being 1 and 2
 abbrev from_to : ℕ → ℕ → ℕ → Woven
 from_to instance a b = record { instance = instance; seg = record { start = whole a; start_face = 1; end = whole b; end_face = 2 } }
+
+-- an instance from a whole place to the end of the ray
+abbrev to_the_end : ℕ → ℕ → Woven
+to_the_end instance a = record { instance = instance; seg = record { start = whole a; start_face = 1; end = ray_end; end_face = 2 } }
 
 -- a region of `count` instances from `first` on, with the intervals that it claims
 abbrev region : Bool → ℕ → ℕ → List Bool → RegionClaims
@@ -72,7 +77,7 @@ unfolding place_cmp
 no_overlap_with_air = refl
 
 -- a ray that begins inside the first region and ends with the second
-whole_ray : partitions_of (from_to 0 0 15 ∷ from_to 1 15 1048576 ∷ []) (region false 0 1 (true ∷ false ∷ []) ∷ region false 1 1 (false ∷ true ∷ []) ∷ []) ≡ part 0 0 15 0 1 ∷ part 1 15 1048576 0 2 ∷ []
+whole_ray : partitions_of (from_to 0 0 15 ∷ to_the_end 1 15 ∷ []) (region false 0 1 (true ∷ false ∷ []) ∷ region false 1 1 (false ∷ true ∷ []) ∷ []) ≡ part 0 0 15 0 1 ∷ record { region = 1; start = whole 15; end = ray_end; hit = record { instance = 0; face = 2 } } ∷ []
 unfolding place_cmp
 whole_ray = refl
 

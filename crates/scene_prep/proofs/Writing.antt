@@ -1,5 +1,6 @@
 -- Trees as they are written, node by node.
 use Rattle.std.proofs.Common.{◌≡◌, ◌∙◌, ◌+◌, ◌≤◌, ◌<◌, ◌-◌, ◌*◌, ℕ, ℤ, pos, ◌+ℤ◌, List, [], ◌∷◌, ◌++◌, length, map, refl, ap, sym, subst, arith, take, get_or, append_assoc, length-append, vec_len}
+use Rattle.std.specs.Int.RustNames.{unsigned_abs}
 use Rattle.std.specs.Prelude.{None, Some}
 use Rattle.std.proofs.lemmas.List.{length-map, map-append, take_more}
 use Rattle.std.proofs.lemmas.List.Elements.{filter_map-append}
@@ -249,22 +250,22 @@ shift_is both upper lower composed =
     ∙ composed zero_vector
     ∙ ap (placed upper) (ap (λ (v : V3). vector_sum v lower.shift) (turned_zero lower.turn.number) ∙ zero_sum lower.shift)
 
-at_most_sum : (n : ℕ) (a b : ℤ) → IsAtMost (pos 16384) a → IsAtMost (pos (n * 16384)) b → IsAtMost (pos ((n + 1) * 16384)) (a +ℤ b)
+at_most_sum : (n : ℕ) (a b : ℤ) → IsAtMost COORD a → IsAtMost (pos (n * unsigned_abs COORD)) b → IsAtMost (pos ((n + 1) * unsigned_abs COORD)) (a +ℤ b)
 at_most_sum n a b p q = (omega (arith, ints, p.0, q.0), omega (arith, ints, p.1, q.1))
 
-within_sum : (n : ℕ) (a b : V3) → IsWithin (pos 16384) a → IsWithin (pos (n * 16384)) b → IsWithin (pos ((n + 1) * 16384)) (vector_sum a b)
+within_sum : (n : ℕ) (a b : V3) → IsWithin COORD a → IsWithin (pos (n * unsigned_abs COORD)) b → IsWithin (pos ((n + 1) * unsigned_abs COORD)) (vector_sum a b)
 within_sum n a b p q = record { x = at_most_sum n a.x b.x p.x q.x; y = at_most_sum n a.y b.y p.y q.y; z = at_most_sum n a.z b.z p.z q.z }
 
 pub placed_near : (levels : ℕ) (both upper lower : Placement) → IsComposed both upper lower → IsPlacedAbove (levels + 1) upper → IsWithin COORD lower.shift → IsPlacedAbove levels both
 placed_near levels both upper lower composed above near =
     let next : (most_depth - (levels + 1)) + 1 ≡ most_depth - levels = omega (arith, above.few) in
-    let sum : IsWithin (pos (((most_depth - (levels + 1)) + 1) * 16384)) (vector_sum (turned upper.turn.number lower.shift) upper.shift) =
+    let sum : IsWithin (pos (((most_depth - (levels + 1)) + 1) * unsigned_abs COORD)) (vector_sum (turned upper.turn.number lower.shift) upper.shift) =
     within_sum (most_depth - (levels + 1)) (turned upper.turn.number lower.shift) upper.shift (turned_within COORD upper.turn.number lower.shift upper.turn.in_range near) above.near in
-    let here : IsWithin (pos ((most_depth - levels) * 16384)) (vector_sum (turned upper.turn.number lower.shift) upper.shift) =
-    subst (λ (n : ℕ). IsWithin (pos (n * 16384)) (vector_sum (turned upper.turn.number lower.shift) upper.shift)) next sum in
+    let here : IsWithin (pos ((most_depth - levels) * unsigned_abs COORD)) (vector_sum (turned upper.turn.number lower.shift) upper.shift) =
+    subst (λ (n : ℕ). IsWithin (pos (n * unsigned_abs COORD)) (vector_sum (turned upper.turn.number lower.shift) upper.shift)) next sum in
     record {
       few = omega (arith, above.few);
-      near = subst (IsWithin (pos ((most_depth - levels) * 16384))) (sym (shift_is both upper lower composed)) here;
+      near = subst (IsWithin (pos ((most_depth - levels) * unsigned_abs COORD))) (sym (shift_is both upper lower composed)) here;
     }
 
 weaker : (m k : ℕ) (z : ℤ) → m ≤ k → IsAtMost (pos m) z → IsAtMost (pos k) z
@@ -272,17 +273,17 @@ weaker m k z le h = (omega (arith, ints, h.0, le), omega (arith, ints, h.1, le))
 
 pub above_within : (levels : ℕ) (by : Placement) → IsPlacedAbove levels by → IsWithin SHIFT by.shift
 above_within levels by h =
-    let le : (most_depth - levels) * 16384 ≤ 262144 = omega arith in
-    record { x = weaker _ 262144 _ le h.near.x; y = weaker _ 262144 _ le h.near.y; z = weaker _ 262144 _ le h.near.z }
+    let le : (most_depth - levels) * unsigned_abs COORD ≤ unsigned_abs SHIFT = omega arith in
+    record { x = weaker _ (unsigned_abs SHIFT) _ le h.near.x; y = weaker _ (unsigned_abs SHIFT) _ le h.near.y; z = weaker _ (unsigned_abs SHIFT) _ le h.near.z }
 
-under : (m : ℕ) (z : ℤ) → m < 1048576 → IsAtMost (pos m) z → IsUnder REACH z
+under : (m : ℕ) (z : ℤ) → m < unsigned_abs REACH → IsAtMost (pos m) z → IsUnder REACH z
 under m z lt h = (omega (arith, ints, h.0, lt), omega (arith, ints, h.1, lt))
 
-within_under : (m : ℕ) (v : V3) → m < 1048576 → IsWithin (pos m) v → IsBelow REACH v
+within_under : (m : ℕ) (v : V3) → m < unsigned_abs REACH → IsWithin (pos m) v → IsBelow REACH v
 within_under m v lt h = record { x = under m v.x lt h.x; y = under m v.y lt h.y; z = under m v.z lt h.z }
 
 pub above_below : (levels : ℕ) (by : Placement) → IsPlacedAbove levels by → IsBelow REACH by.shift
-above_below levels by h = within_under 262144 by.shift (omega arith) (above_within levels by h)
+above_below levels by h = within_under (unsigned_abs SHIFT) by.shift (omega arith) (above_within levels by h)
 
 pub leaf_below : (v : V3) → IsWithin COORD v → IsBelow REACH v
-leaf_below v h = within_under 16384 v (omega arith) h
+leaf_below v h = within_under (unsigned_abs COORD) v (omega arith) h

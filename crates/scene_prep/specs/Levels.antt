@@ -1,5 +1,6 @@
 -- How deep names and nodes lie, how far they are placed, and how large they are, as the code goes down.
 use Rattle.std.specs.Prelude.{◌≡◌, ℕ, ◌≤◌, ◌-◌, ◌*◌, pos, List, ◌∷◌, sum_by, Option, Some}
+use Rattle.std.specs.Int.RustNames.{unsigned_abs}
 use Rattle.lattice_core.specs.declared.limit.TheConstants.{COORD}
 use Rattle.lattice_core.specs.declared.placement.Placement.{Placement}
 use Rattle.lattice_core.specs.Limits.{IsWithin}
@@ -24,7 +25,7 @@ StandsWithin directory levels X = Unit {0}
 -- the placement of something below which so many combinations lie at most, each of those above adding at most COORD to its shift
 pub record IsPlacedAbove (levels : ℕ) (by : Placement) : Type 0 where
   pub few : levels ≤ most_depth
-  pub near : IsWithin (pos ((most_depth - levels) * 16384)) by.shift
+  pub near : IsWithin (pos ((most_depth - levels) * unsigned_abs COORD)) by.shift
 
 -- the size of a leaf is that of its member
 abbrev pub node_size : Entries → CombNode → ℕ

@@ -1,5 +1,6 @@
 -- The ends of segments and the cuts of a ray lie on the ray, each in its one spelling.
 use Rattle.std.proofs.Common.{◌≡◌, ◌<◌, ℕ, pos, ◌*ℤ◌, List, length, Some, subst, refl, inl, inr, arith}
+use Rattle.std.specs.Int.RustNames.{unsigned_abs}
 use Rattle.std.proofs.lemmas.Int.{ints, by_lt_z}
 use Rattle.std.proofs.lemmas.Map.Keys.{Less-from_sorted}
 use Rattle.lattice_core.specs.declared.limit.TheConstants.{FAR}
@@ -85,7 +86,7 @@ ray_start_is = record {
 
 ray_end_is : IsRayPlace ray_end
 ray_end_is = record {
-  spelled = (omega (arith, ints), gcd_one 1048576);
+  spelled = (omega (arith, ints), gcd_one (unsigned_abs FAR));
   begun = not_preceding FAR (pos 1) (pos 0) (pos 1) (omega (arith, ints)) (omega (arith, ints)) (omega (arith, ints));
   not_ended = not_preceding FAR (pos 1) FAR (pos 1) (omega (arith, ints)) (omega (arith, ints)) (omega (arith, ints));
 }

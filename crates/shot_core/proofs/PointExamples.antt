@@ -1,5 +1,6 @@
 -- What lies at the points of a ray through small scenes, what overlaps there, and what is seen first.
 use Rattle.std.proofs.Common.{◌≡◌, ◌⊎◌, ◌<◌, ◌≤◌, ◌∷◌, [], zero, suc, ℕ, ℤ, pos, ◌<ℤ◌, ◌≤ℤ◌, ◌*ℤ◌, refl, subst, arith, inl, inr, true, false, List, Some, None, Contains, slice_get}
+use Rattle.std.specs.Int.RustNames.{unsigned_abs}
 use Rattle.std.proofs.lemmas.Int.{ints, by_lt_z}
 use Rattle.lattice_core.specs.declared.ray.Ray.{Ray}
 use Rattle.lattice_core.specs.declared.ray.Dir.TheVariants.{PlusX}
@@ -47,7 +48,7 @@ abbrev scene : ℕ → List Region
 scene air = first air ∷ second ∷ []
 
 -- the ray begins and ends, and crosses the planes at 15, 5, 20 and 10
-places : ray_places (scene 0) start ≡ Frac (pos 0) (pos 1) ∷ Frac (pos 1048576) (pos 1) ∷ Frac (pos 75) (pos 5) ∷ Frac (pos 25) (pos 5) ∷ Frac (pos 100) (pos 5) ∷ Frac (pos 50) (pos 5) ∷ []
+places : ray_places (scene 0) start ≡ Frac (pos 0) (pos 1) ∷ Frac FAR (pos 1) ∷ Frac (pos 75) (pos 5) ∷ Frac (pos 25) (pos 5) ∷ Frac (pos 100) (pos 5) ∷ Frac (pos 50) (pos 5) ∷ []
 places = refl
 
 in_half : (d p q : ℤ) → IsInside (half d).surface start p q → (pos 5 *ℤ p) ≤ℤ (d *ℤ q)
@@ -149,7 +150,7 @@ wholes m n lt = fraction_before m (pos 1) n (pos 1) (omega (arith, ints)) (omega
 not_wholes : (m n : ℤ) → n ≤ℤ m → ¬ (Precedes (Frac m (pos 1)) (Frac n (pos 1)))
 not_wholes m n le = not_before_fraction (Frac m (pos 1)) n (pos 1) (omega (arith, ints)) (omega (arith, ints)) (omega (arith, ints, le))
 
-on_ray : (n : ℕ) → n ≤ 1048576 → IsOnRay (pos n) (pos 1)
+on_ray : (n : ℕ) → n ≤ unsigned_abs FAR → IsOnRay (pos n) (pos 1)
 on_ray n le = record { positive = omega (arith, ints); begun = omega (arith, ints); not_ended = omega (arith, ints, le) }
 
 -- one of two fractions is less
@@ -161,10 +162,10 @@ apart p q c d positive positive' (inl lt) = λ same. same.not_before (fraction_b
 apart p q c d positive positive' (inr lt) = λ same. same.not_after (fraction_before c d p q positive lt)
 
 -- a fraction that is none of the six places
-free : (air : ℕ) (p q : ℤ) → pos 0 <ℤ q → Apart p q (pos 0) (pos 1) → Apart p q (pos 1048576) (pos 1) → Apart p q (pos 75) (pos 5) → Apart p q (pos 25) (pos 5) → Apart p q (pos 100) (pos 5) → Apart p q (pos 50) (pos 5)
+free : (air : ℕ) (p q : ℤ) → pos 0 <ℤ q → Apart p q (pos 0) (pos 1) → Apart p q FAR (pos 1) → Apart p q (pos 75) (pos 5) → Apart p q (pos 25) (pos 5) → Apart p q (pos 100) (pos 5) → Apart p q (pos 50) (pos 5)
     → ¬ (IsRayHitPlace (scene air) start (Frac p q))
 free air p q positive a b c d e f (inl h) = apart p q (pos 0) (pos 1) positive (omega (arith, ints)) a h
-free air p q positive a b c d e f (inr (inl h)) = apart p q (pos 1048576) (pos 1) positive (omega (arith, ints)) b h
+free air p q positive a b c d e f (inr (inl h)) = apart p q FAR (pos 1) positive (omega (arith, ints)) b h
 free air p q positive a b c d e f (inr (inr (inl h))) = apart p q (pos 75) (pos 5) positive (omega (arith, ints)) c h
 free air p q positive a b c d e f (inr (inr (inr (inl h)))) = apart p q (pos 25) (pos 5) positive (omega (arith, ints)) d h
 free air p q positive a b c d e f (inr (inr (inr (inr (inl h))))) = apart p q (pos 100) (pos 5) positive (omega (arith, ints)) e h

@@ -1,5 +1,6 @@
 -- Shots of small scenes, proved by computation.
 use Rattle.std.specs.Prelude.{◌≡◌, refl, ℕ, ℤ, pos, negsuc, true, false, List, [], ◌∷◌, Some, None}
+use Rattle.lattice_core.specs.declared.limit.TheConstants.{FAR}
 use Rattle.std.proofs.Common.{inl, inr}
 use Rattle.lattice_core.specs.declared.boxes.Side.TheVariants.{Open, At}
 use Rattle.lattice_core.specs.declared.boxes.Box3.{Box3}
@@ -197,12 +198,12 @@ no_candidates_with_air : candidates_of (overlapping 1) ≡ []
 no_candidates_with_air = refl
 
 -- a box is crossed at two planes of its faces and at two of its vertices' box; the others hold the ray
-places_of_a_box : ray_places (single 1 0 first_box ∷ []) (ray (negsuc 4) (pos 5) (pos 5)) ≡ whole 0 ∷ whole 1048576 ∷ Frac (pos 500) (pos 100) ∷ Frac (pos 1500) (pos 100) ∷ whole 15 ∷ whole 5 ∷ []
+places_of_a_box : ray_places (single 1 0 first_box ∷ []) (ray (negsuc 4) (pos 5) (pos 5)) ≡ whole 0 ∷ Frac FAR (pos 1) ∷ Frac (pos 500) (pos 100) ∷ Frac (pos 1500) (pos 100) ∷ whole 15 ∷ whole 5 ∷ []
 places_of_a_box = refl
 
 -- nothing is crossed of a box beside the ray, but the planes across it are
 places_of_a_box_beside : ray_places (single 1 0 (box (pos 0) (pos 10) (pos 50) (pos 60) (pos 0) (pos 10)) ∷ []) (ray (negsuc 4) (pos 5) (pos 5))
-    ≡ whole 0 ∷ whole 1048576 ∷ Frac (pos 500) (pos 100) ∷ Frac (pos 1500) (pos 100) ∷ whole 15 ∷ whole 5 ∷ []
+    ≡ whole 0 ∷ Frac FAR (pos 1) ∷ Frac (pos 500) (pos 100) ∷ Frac (pos 1500) (pos 100) ∷ whole 15 ∷ whole 5 ∷ []
 places_of_a_box_beside = refl
 
 abbrev stretch : ℕ → Pos → Pos → Stretch

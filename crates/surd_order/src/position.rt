@@ -6,7 +6,7 @@ ghost use Rattle.surd_order.specs.Spelled.{spelled};
 
 use wide_core::{gcd, isqrt};
 
-/// A position on a ray, in millimetres from its origin: `p / q`, or `a + √k`, or with `plus` false
+/// A position on a ray, in tenths of a millimetre from its origin: `p / q`, or `a + √k`, or with `plus` false
 /// `a - √k`.
 ///
 /// It has one spelling: a fraction is in lowest terms with `q > 0`, and `k` is not a square. `Pos::frac`

@@ -62,11 +62,11 @@ box place air xlo xhi = record {
   };
 }
 
--- four columns and four rows, 4 mm apart
+-- four columns and four rows, 4 apart
 abbrev view : View
 view = record { corner = vector (negsuc 4) (pos 12) (pos 12); dir = PlusX; cell = pos 4; w = 4; h = 4 }
 
--- boxes from x 0 to 10 and from 5 to 15 overlap on nine rays, from 10 to 15 mm along each
+-- boxes from x 0 to 10 and from 5 to 15 overlap on nine rays, from 10 to 15 along each
 overlapping_boxes : view_report (box 1 0 (pos 0) (pos 10) ∷ box 2 0 (pos 5) (pos 15) ∷ []) view ≡ pair 1 2 9 1 1 10 15 ∷ []
 unfolding place_cmp
 overlapping_boxes = refl

@@ -1,0 +1,5 @@
+pub mod Larger
+pub mod Laws
+pub mod Scenes
+pub mod SceneLaws
+pub mod Examples

@@ -1,0 +1,36 @@
+//! The law of scale: where all lengths are so many times as large, the end of the ray among them, positions are as many
+//! times as far, and all else stays: which regions win, what is hit, how bright it is, and each pixel. So a model in tenths
+//! of a millimetre means what it meant in millimetres.
+#![tactic(auto)]
+
+ghost use Rattle.scale_laws.specs.Laws.{SegmentsScale, LevelsStay, SolidsScale, PlacementsScale};
+ghost use Rattle.scale_laws.specs.SceneLaws.{InstancesScale, ScenesScale, PicturesStay, PicturesStayInTenths, RaysScaleToTenths};
+
+/// The law of scale for solids. The function does nothing: its contract is the law.
+pub fn scale_law()
+    ensures segments { SegmentsScale }
+    ensures levels { LevelsStay }
+    ensures solids { SolidsScale }
+    ensures placements { PlacementsScale }
+{}
+
+/// The law of scale for rays: the regions of a scene that is so many times as large win, overlap and are hit as before, and
+/// each position is as many times as far. The function does nothing: its contract is the law.
+pub fn scene_law()
+    ensures instances { InstancesScale }
+    ensures scenes { ScenesScale }
+{}
+
+/// The law of scale for pictures: every pixel of the larger view is that of the view. The function does nothing: its
+/// contract is the law.
+pub fn view_law()
+    ensures { PicturesStay }
+{}
+
+/// The law of scale from millimetres to tenths: what a ray of today's length has of regions whose lengths are all ten times
+/// as large is what a ray of a tenth of the length had of the regions, ten times as far, and the pixels are the same. The
+/// function does nothing: its contract is the law.
+pub fn tenths_law()
+    ensures rays { RaysScaleToTenths }
+    ensures pictures { PicturesStayInTenths }
+{}

@@ -13,6 +13,7 @@ pub mod LawProofs
 pub mod FracLemmas
 pub mod TextLengths
 pub mod Sizes
+pub mod Products
 pub mod SpelledPlaces
 pub mod PlaceOrderLaws
 pub mod Examples

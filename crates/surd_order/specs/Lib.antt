@@ -3,6 +3,7 @@ pub mod Order
 pub mod Spelling
 pub mod Laws
 pub mod Range
+pub mod Products
 pub mod Roots
 pub mod Text
 pub mod PlaceOrder

@@ -1,10 +1,12 @@
 -- Where a line runs through what is round. A line is o + t e with whole vectors o and e. On it a ball of centre c and
 -- radius r is crossed at (b - √k) / E and (b + √k) / E, with E = e · e, b = (c - o) · e and k = E r² - |(c - o) × e|².
-use Rattle.std.specs.Prelude.{ℕ, zero, suc, ◌+◌, ◌*◌, ◌/◌, ◌^◌, ◌<◌, Option, Some, None, ℤ, pos, negsuc, ◌+ℤ◌, ◌-ℤ◌, ◌*ℤ◌, ◌≤ℤ◌}
+use Rattle.std.specs.Prelude.{ℕ, zero, suc, ◌+◌, ◌*◌, ◌/◌, ◌<◌, Option, Some, None, ℤ, pos, negsuc, ◌+ℤ◌, ◌-ℤ◌, ◌*ℤ◌, ◌≤ℤ◌}
 use Rattle.std.specs.Int.RustNames.{unsigned_abs}
 use Rattle.lattice_core.specs.declared.limit.TheConstants.{COORD}
 use Rattle.lattice_core.specs.declared.vector.V3.{V3}
+use Rattle.lattice_core.specs.Limits.{IsAtMost}
 use Rattle.lattice_core.specs.Vectors.{dot_product}
+use Rattle.plane_geom.specs.declared.limit.TheConstants.{REMOTE}
 use Rattle.plane_geom.specs.declared.chord.Chord.{Chord}
 use Rattle.plane_geom.specs.Vectors.{cross_product}
 
@@ -55,10 +57,10 @@ chord_of a (negsuc k) = None
 
 -- the sizes of the numbers of a chord
 pub record IsSmallChord (radius : ℤ) (chord : Chord) : Type 0 where
-  pub whole : unsigned_abs chord.a < 2 ^ 24
+  pub whole : IsAtMost REMOTE chord.a
   pub some : 0 < chord.k
   pub within : pos chord.k ≤ℤ squared radius
-  pub root : chord.k < 2 ^ 32
+  pub root : pos chord.k ≤ℤ squared COORD
 
 -- 55 and 200 times the square of the cosine between ray and normal, which is k / r², rounded down
 abbrev pub level_of : Chord → ℤ → ℕ

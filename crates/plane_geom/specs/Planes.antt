@@ -1,7 +1,6 @@
 -- A plane (n, d) and the points that it holds: those with n · p at most d. A plane that a ray lies in holds it only
 -- where the first component of n that is not zero is negative, so that of two touching solids one has the ray.
-use Rattle.std.specs.Prelude.{◌≡◌, ◌≢◌, ◌⊎◌, ◌↔◌, ℕ, ◌+◌, ◌*◌, ◌/◌, ◌^◌, ◌<◌, Bool, cond, ◌&&◌, Option, Some, None, ℤ, pos, ◌+ℤ◌, ◌-ℤ◌, ◌*ℤ◌, ◌<ℤ◌, ◌≤ℤ◌}
-use Rattle.std.specs.Int.RustNames.{unsigned_abs}
+use Rattle.std.specs.Prelude.{◌≡◌, ◌≢◌, ◌⊎◌, ◌↔◌, ℕ, ◌+◌, ◌*◌, ◌/◌, Bool, cond, ◌&&◌, Option, Some, None, ℤ, pos, ◌+ℤ◌, ◌-ℤ◌, ◌*ℤ◌, ◌<ℤ◌, ◌≤ℤ◌}
 use Rattle.std.specs.Ordering.{int_eq}
 use Rattle.lattice_core.specs.declared.vector.V3.{V3}
 use Rattle.lattice_core.specs.declared.ray.Dir.{Dir}
@@ -12,7 +11,7 @@ use Rattle.lattice_core.specs.Units.{unit_of}
 use Rattle.lattice_core.specs.Vectors.{dot_product, vector_difference, zero_vector}
 use Rattle.lattice_core.specs.Turns.{turned}
 use Rattle.lattice_core.specs.Placements.{placed}
-use Rattle.plane_geom.specs.declared.limit.TheConstants.{NORMAL, OFFSET, WORLD_OFFSET}
+use Rattle.plane_geom.specs.declared.limit.TheConstants.{NORMAL, OFFSET, WORLD_OFFSET, GAP}
 use Rattle.plane_geom.specs.declared.plane.Plane.{Plane}
 use Rattle.plane_geom.specs.declared.plane.Crossing.{Crossing}
 use Rattle.plane_geom.specs.declared.plane.Crossing.TheVariants.{Enters, Leaves, Holds, Misses}
@@ -108,8 +107,8 @@ KeepsHeights by plane result = (p : V3) → height_over result (placed by p) ≡
 
 -- the sizes of the numbers of a crossing
 abbrev pub IsSmallCrossing : Crossing → Type 0
-IsSmallCrossing (Enters r s) = (unsigned_abs r < 2 ^ 57) × (unsigned_abs s < 2 ^ 33)
-IsSmallCrossing (Leaves r s) = (unsigned_abs r < 2 ^ 57) × (unsigned_abs s < 2 ^ 33)
+IsSmallCrossing (Enters r s) = IsAtMost GAP r × IsAtMost NORMAL s
+IsSmallCrossing (Leaves r s) = IsAtMost GAP r × IsAtMost NORMAL s
 IsSmallCrossing Holds = Unit {0}
 IsSmallCrossing Misses = Unit {0}
 

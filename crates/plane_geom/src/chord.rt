@@ -10,7 +10,8 @@ ghost use Rattle.plane_geom.specs.Chords.{IsRadius, squared, length_squared, cho
 use crate::limit::REMOTE;
 use lattice_core::V3;
 
-/// Where a ray runs through what is round: from `a - √k` to `a + √k` millimetres from its origin, with `k` over 0.
+/// Where a ray runs through what is round: from `a - √k` to `a + √k` tenths of a millimetre from its origin, with
+/// `k` over 0.
 #[derive(Clone, Copy, Debug, PartialEq, Eq)]
 pub struct Chord {
     /// How far along the ray the centre lies.

@@ -10,5 +10,5 @@ mod plane;
 
 pub use chord::{Chord, apart_from, half_chord, length_squared, squared};
 pub use fault::ShapeFault;
-pub use limit::{NORMAL, OFFSET, REMOTE, WORLD_OFFSET};
+pub use limit::{GAP, NORMAL, OFFSET, REMOTE, WORLD_OFFSET, limit_laws};
 pub use plane::{Crossing, Plane};

@@ -31,7 +31,7 @@ pub enum Crossing {
 impl Plane {
     ghost use Rattle.std.specs.Prelude.{◌≡◌, ◌≢◌, ◌↔◌, ◌-ℤ◌, ◌+ℤ◌, ◌*ℤ◌, pos, IsNone, IfSome, IsTrue};
     ghost use Rattle.lattice_core.specs.declared.limit.TheConstants.{COORD, SHIFT, WORLD, FAR};
-    ghost use Rattle.plane_geom.specs.declared.limit.TheConstants.{NORMAL, WORLD_OFFSET};
+    ghost use Rattle.plane_geom.specs.declared.limit.TheConstants.{NORMAL, GAP};
     ghost use Rattle.lattice_core.specs.Limits.{IsAtMost, IsWithin};
     ghost use Rattle.plane_geom.specs.Crossings.{crossing_of};
     ghost use Rattle.plane_geom.specs.Edges.{HoldsAlong};
@@ -115,7 +115,7 @@ impl Plane {
         requires plane { IsWorldPlane self.now }
         requires origin { IsWithin WORLD ray.now.origin }
         ensures value { result ≡ self.now.d -ℤ start_on self.now ray.now }
-        ensures size { IsAtMost (WORLD_OFFSET +ℤ (pos 3 *ℤ (NORMAL *ℤ FAR))) result }
+        ensures size { IsAtMost GAP result }
     {
         self.d - dot(self.n, ray.origin)
     }

@@ -1,16 +1,22 @@
-use Rattle.std.proofs.Common.{FitsSigned, w64, ℤ, ◌-ℤ◌, ◌*ℤ◌, ap, ◌∙◌, lit<}
+use Rattle.std.proofs.Common.{FitsSigned, w64, ℤ, ◌-ℤ◌, ◌*ℤ◌, ap, ◌∙◌, lit<, pos}
 use Rattle.std.proofs.lemmas.Int.{to_z-of_z}
 use Rattle.plane_geom.proofs.Sizes.{difference_size, fits64}
+use Rattle.lattice_core.specs.declared.limit.TheConstants.{COORD}
+use Rattle.plane_geom.specs.declared.limit.TheConstants.{NORMAL}
 use Rattle.plane_geom.proofs.measure.determinant.Goals as goal
+
+-- the greatest size of a product
+abbrev limit : ℤ
+limit = (pos 4 *ℤ COORD) *ℤ COORD
 
 pub returns-clause-value : goal.returns-clause-value
 returns-clause-value c =
     let a = c.short_product-down.result in
     let b = c.short_product-up.result in
-    let p = difference_size 1073741824 1073741824 a b c.short_product-down.ensures.size c.short_product-up.ensures.size in
-    let fa : FitsSigned w64 c.short_product-down.result = fits64 1073741824 a (lit< tt) c.short_product-down.ensures.size in
-    let fb : FitsSigned w64 c.short_product-up.result = fits64 1073741824 b (lit< tt) c.short_product-up.ensures.size in
-    let f : FitsSigned w64 (c.short_product-down.result -ℤ c.short_product-up.result) = fits64 2147483648 (a -ℤ b) (lit< tt) p in
+    let p = difference_size limit limit a b c.short_product-down.ensures.size c.short_product-up.ensures.size in
+    let fa : FitsSigned w64 c.short_product-down.result = fits64 limit a (lit< tt) c.short_product-down.ensures.size in
+    let fb : FitsSigned w64 c.short_product-up.result = fits64 limit b (lit< tt) c.short_product-up.ensures.size in
+    let f : FitsSigned w64 (c.short_product-down.result -ℤ c.short_product-up.result) = fits64 NORMAL (a -ℤ b) (lit< tt) p in
     let ra : FitsSigned w64 c.args.a = c.ranges.a in
     let rb : FitsSigned w64 c.args.b = c.ranges.b in
     let rc : FitsSigned w64 c.args.c = c.ranges.c in
@@ -23,8 +29,8 @@ pub returns-clause-size : goal.returns-clause-size
 returns-clause-size c =
     let a = c.short_product-down.result in
     let b = c.short_product-up.result in
-    let p = difference_size 1073741824 1073741824 a b c.short_product-down.ensures.size c.short_product-up.ensures.size in
-    let fa : FitsSigned w64 c.short_product-down.result = fits64 1073741824 a (lit< tt) c.short_product-down.ensures.size in
-    let fb : FitsSigned w64 c.short_product-up.result = fits64 1073741824 b (lit< tt) c.short_product-up.ensures.size in
-    let f : FitsSigned w64 (c.short_product-down.result -ℤ c.short_product-up.result) = fits64 2147483648 (a -ℤ b) (lit< tt) p in
+    let p = difference_size limit limit a b c.short_product-down.ensures.size c.short_product-up.ensures.size in
+    let fa : FitsSigned w64 c.short_product-down.result = fits64 limit a (lit< tt) c.short_product-down.ensures.size in
+    let fb : FitsSigned w64 c.short_product-up.result = fits64 limit b (lit< tt) c.short_product-up.ensures.size in
+    let f : FitsSigned w64 (c.short_product-down.result -ℤ c.short_product-up.result) = fits64 NORMAL (a -ℤ b) (lit< tt) p in
     simp to_z-of_z p

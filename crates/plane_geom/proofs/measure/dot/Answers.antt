@@ -1,17 +1,23 @@
-use Rattle.std.proofs.Common.{FitsSigned, w64, rules, ℤ, ◌+ℤ◌, ◌*ℤ◌, ap, ◌∙◌, lit<}
+use Rattle.std.proofs.Common.{FitsSigned, w64, rules, ℤ, ◌+ℤ◌, ◌*ℤ◌, ap, ◌∙◌, lit<, pos}
 use Rattle.std.proofs.lemmas.Int.{to_z-of_z}
 use mir.Syntax.{w128}
-use Rattle.plane_geom.proofs.Sizes.{sum_size, fits128}
+use Rattle.plane_geom.proofs.Sizes.{sum_size, three_size, fits128}
+use Rattle.lattice_core.specs.declared.limit.TheConstants.{FAR}
+use Rattle.plane_geom.specs.declared.limit.TheConstants.{NORMAL}
 use Rattle.plane_geom.proofs.measure.dot.Goals as goal
+
+-- the greatest size of a product
+abbrev limit : ℤ
+limit = NORMAL *ℤ FAR
 
 pub overflow_add-result : goal.overflow_add-result
 overflow_add-result c =
     let x = c.product-x.result in
     let y = c.product-y.result in
-    let fx : FitsSigned w128 c.product-x.result = fits128 2251799813685248 x (lit< tt) c.product-x.ensures.size in
-    let fy : FitsSigned w128 c.product-y.result = fits128 2251799813685248 y (lit< tt) c.product-y.ensures.size in
-    let two = sum_size 2251799813685248 2251799813685248 x y c.product-x.ensures.size c.product-y.ensures.size in
-    let f2 : FitsSigned w128 (c.product-x.result +ℤ c.product-y.result) = fits128 4503599627370496 (x +ℤ y) (lit< tt) two in
+    let fx : FitsSigned w128 c.product-x.result = fits128 limit x (lit< tt) c.product-x.ensures.size in
+    let fy : FitsSigned w128 c.product-y.result = fits128 limit y (lit< tt) c.product-y.ensures.size in
+    let two = sum_size limit limit x y c.product-x.ensures.size c.product-y.ensures.size in
+    let f2 : FitsSigned w128 (c.product-x.result +ℤ c.product-y.result) = fits128 (limit +ℤ limit) (x +ℤ y) (lit< tt) two in
     simp to_z-of_z f2
 
 pub overflow_add-result-2 : goal.overflow_add-result-2
@@ -19,13 +25,13 @@ overflow_add-result-2 c =
     let x = c.product-x.result in
     let y = c.product-y.result in
     let z = c.product-z.result in
-    let fx : FitsSigned w128 c.product-x.result = fits128 2251799813685248 x (lit< tt) c.product-x.ensures.size in
-    let fy : FitsSigned w128 c.product-y.result = fits128 2251799813685248 y (lit< tt) c.product-y.ensures.size in
-    let fz : FitsSigned w128 c.product-z.result = fits128 2251799813685248 z (lit< tt) c.product-z.ensures.size in
-    let two = sum_size 2251799813685248 2251799813685248 x y c.product-x.ensures.size c.product-y.ensures.size in
-    let f2 : FitsSigned w128 (c.product-x.result +ℤ c.product-y.result) = fits128 4503599627370496 (x +ℤ y) (lit< tt) two in
-    let three = sum_size 4503599627370496 2251799813685248 (x +ℤ y) z two c.product-z.ensures.size in
-    let f3 : FitsSigned w128 ((c.product-x.result +ℤ c.product-y.result) +ℤ c.product-z.result) = fits128 6755399441055744 ((x +ℤ y) +ℤ z) (lit< tt) three in
+    let fx : FitsSigned w128 c.product-x.result = fits128 limit x (lit< tt) c.product-x.ensures.size in
+    let fy : FitsSigned w128 c.product-y.result = fits128 limit y (lit< tt) c.product-y.ensures.size in
+    let fz : FitsSigned w128 c.product-z.result = fits128 limit z (lit< tt) c.product-z.ensures.size in
+    let two = sum_size limit limit x y c.product-x.ensures.size c.product-y.ensures.size in
+    let f2 : FitsSigned w128 (c.product-x.result +ℤ c.product-y.result) = fits128 (limit +ℤ limit) (x +ℤ y) (lit< tt) two in
+    let three = three_size limit x y z c.product-x.ensures.size c.product-y.ensures.size c.product-z.ensures.size in
+    let f3 : FitsSigned w128 ((c.product-x.result +ℤ c.product-y.result) +ℤ c.product-z.result) = fits128 (pos 3 *ℤ limit) ((x +ℤ y) +ℤ z) (lit< tt) three in
     simp to_z-of_z f3
 
 pub returns : goal.returns
@@ -33,13 +39,13 @@ returns c =
     let x = c.product-x.result in
     let y = c.product-y.result in
     let z = c.product-z.result in
-    let fx : FitsSigned w128 c.product-x.result = fits128 2251799813685248 x (lit< tt) c.product-x.ensures.size in
-    let fy : FitsSigned w128 c.product-y.result = fits128 2251799813685248 y (lit< tt) c.product-y.ensures.size in
-    let fz : FitsSigned w128 c.product-z.result = fits128 2251799813685248 z (lit< tt) c.product-z.ensures.size in
-    let two = sum_size 2251799813685248 2251799813685248 x y c.product-x.ensures.size c.product-y.ensures.size in
-    let f2 : FitsSigned w128 (c.product-x.result +ℤ c.product-y.result) = fits128 4503599627370496 (x +ℤ y) (lit< tt) two in
-    let three = sum_size 4503599627370496 2251799813685248 (x +ℤ y) z two c.product-z.ensures.size in
-    let f3 : FitsSigned w128 ((c.product-x.result +ℤ c.product-y.result) +ℤ c.product-z.result) = fits128 6755399441055744 ((x +ℤ y) +ℤ z) (lit< tt) three in
+    let fx : FitsSigned w128 c.product-x.result = fits128 limit x (lit< tt) c.product-x.ensures.size in
+    let fy : FitsSigned w128 c.product-y.result = fits128 limit y (lit< tt) c.product-y.ensures.size in
+    let fz : FitsSigned w128 c.product-z.result = fits128 limit z (lit< tt) c.product-z.ensures.size in
+    let two = sum_size limit limit x y c.product-x.ensures.size c.product-y.ensures.size in
+    let f2 : FitsSigned w128 (c.product-x.result +ℤ c.product-y.result) = fits128 (limit +ℤ limit) (x +ℤ y) (lit< tt) two in
+    let three = three_size limit x y z c.product-x.ensures.size c.product-y.ensures.size c.product-z.ensures.size in
+    let f3 : FitsSigned w128 ((c.product-x.result +ℤ c.product-y.result) +ℤ c.product-z.result) = fits128 (pos 3 *ℤ limit) ((x +ℤ y) +ℤ z) (lit< tt) three in
     let ax : FitsSigned w64 c.args.normal.x = search rules in
     let ay : FitsSigned w64 c.args.normal.y = search rules in
     let az : FitsSigned w64 c.args.normal.z = search rules in

@@ -1,17 +1,22 @@
-use Rattle.std.proofs.Common.{FitsSigned, w64, rules, ℤ, ◌+ℤ◌, ◌*ℤ◌, ap, ◌∙◌, lit<}
+use Rattle.std.proofs.Common.{FitsSigned, w64, rules, ℤ, ◌+ℤ◌, ◌*ℤ◌, ap, ◌∙◌, lit<, pos, ◌^◌}
 use Rattle.std.proofs.lemmas.Int.{to_z-of_z}
 use mir.Syntax.{w128}
-use Rattle.plane_geom.proofs.Sizes.{sum_size, fits128}
+use Rattle.plane_geom.proofs.Sizes.{sum_size, three_size, fits128}
+use Rattle.plane_geom.specs.declared.limit.TheConstants.{NORMAL}
 use Rattle.plane_geom.proofs.measure.high_dot.Goals as goal
+
+-- the greatest size of a product
+abbrev limit : ℤ
+limit = NORMAL *ℤ pos (2 ^ 63)
 
 pub overflow_add-result : goal.overflow_add-result
 overflow_add-result c =
     let x = c.high_product-x.result in
     let y = c.high_product-y.result in
-    let fx : FitsSigned w128 c.high_product-x.result = fits128 19807040628566084398385987584 x (lit< tt) c.high_product-x.ensures.size in
-    let fy : FitsSigned w128 c.high_product-y.result = fits128 19807040628566084398385987584 y (lit< tt) c.high_product-y.ensures.size in
-    let two = sum_size 19807040628566084398385987584 19807040628566084398385987584 x y c.high_product-x.ensures.size c.high_product-y.ensures.size in
-    let f2 : FitsSigned w128 (c.high_product-x.result +ℤ c.high_product-y.result) = fits128 39614081257132168796771975168 (x +ℤ y) (lit< tt) two in
+    let fx : FitsSigned w128 c.high_product-x.result = fits128 limit x (lit< tt) c.high_product-x.ensures.size in
+    let fy : FitsSigned w128 c.high_product-y.result = fits128 limit y (lit< tt) c.high_product-y.ensures.size in
+    let two = sum_size limit limit x y c.high_product-x.ensures.size c.high_product-y.ensures.size in
+    let f2 : FitsSigned w128 (c.high_product-x.result +ℤ c.high_product-y.result) = fits128 (limit +ℤ limit) (x +ℤ y) (lit< tt) two in
     simp to_z-of_z f2
 
 pub overflow_add-result-2 : goal.overflow_add-result-2
@@ -19,13 +24,13 @@ overflow_add-result-2 c =
     let x = c.high_product-x.result in
     let y = c.high_product-y.result in
     let z = c.high_product-z.result in
-    let fx : FitsSigned w128 c.high_product-x.result = fits128 19807040628566084398385987584 x (lit< tt) c.high_product-x.ensures.size in
-    let fy : FitsSigned w128 c.high_product-y.result = fits128 19807040628566084398385987584 y (lit< tt) c.high_product-y.ensures.size in
-    let fz : FitsSigned w128 c.high_product-z.result = fits128 19807040628566084398385987584 z (lit< tt) c.high_product-z.ensures.size in
-    let two = sum_size 19807040628566084398385987584 19807040628566084398385987584 x y c.high_product-x.ensures.size c.high_product-y.ensures.size in
-    let f2 : FitsSigned w128 (c.high_product-x.result +ℤ c.high_product-y.result) = fits128 39614081257132168796771975168 (x +ℤ y) (lit< tt) two in
-    let three = sum_size 39614081257132168796771975168 19807040628566084398385987584 (x +ℤ y) z two c.high_product-z.ensures.size in
-    let f3 : FitsSigned w128 ((c.high_product-x.result +ℤ c.high_product-y.result) +ℤ c.high_product-z.result) = fits128 59421121885698253195157962752 ((x +ℤ y) +ℤ z) (lit< tt) three in
+    let fx : FitsSigned w128 c.high_product-x.result = fits128 limit x (lit< tt) c.high_product-x.ensures.size in
+    let fy : FitsSigned w128 c.high_product-y.result = fits128 limit y (lit< tt) c.high_product-y.ensures.size in
+    let fz : FitsSigned w128 c.high_product-z.result = fits128 limit z (lit< tt) c.high_product-z.ensures.size in
+    let two = sum_size limit limit x y c.high_product-x.ensures.size c.high_product-y.ensures.size in
+    let f2 : FitsSigned w128 (c.high_product-x.result +ℤ c.high_product-y.result) = fits128 (limit +ℤ limit) (x +ℤ y) (lit< tt) two in
+    let three = three_size limit x y z c.high_product-x.ensures.size c.high_product-y.ensures.size c.high_product-z.ensures.size in
+    let f3 : FitsSigned w128 ((c.high_product-x.result +ℤ c.high_product-y.result) +ℤ c.high_product-z.result) = fits128 (pos 3 *ℤ limit) ((x +ℤ y) +ℤ z) (lit< tt) three in
     simp to_z-of_z f3
 
 pub returns-clause-size : goal.returns-clause-size
@@ -33,13 +38,13 @@ returns-clause-size c =
     let x = c.high_product-x.result in
     let y = c.high_product-y.result in
     let z = c.high_product-z.result in
-    let fx : FitsSigned w128 c.high_product-x.result = fits128 19807040628566084398385987584 x (lit< tt) c.high_product-x.ensures.size in
-    let fy : FitsSigned w128 c.high_product-y.result = fits128 19807040628566084398385987584 y (lit< tt) c.high_product-y.ensures.size in
-    let fz : FitsSigned w128 c.high_product-z.result = fits128 19807040628566084398385987584 z (lit< tt) c.high_product-z.ensures.size in
-    let two = sum_size 19807040628566084398385987584 19807040628566084398385987584 x y c.high_product-x.ensures.size c.high_product-y.ensures.size in
-    let f2 : FitsSigned w128 (c.high_product-x.result +ℤ c.high_product-y.result) = fits128 39614081257132168796771975168 (x +ℤ y) (lit< tt) two in
-    let three = sum_size 39614081257132168796771975168 19807040628566084398385987584 (x +ℤ y) z two c.high_product-z.ensures.size in
-    let f3 : FitsSigned w128 ((c.high_product-x.result +ℤ c.high_product-y.result) +ℤ c.high_product-z.result) = fits128 59421121885698253195157962752 ((x +ℤ y) +ℤ z) (lit< tt) three in
+    let fx : FitsSigned w128 c.high_product-x.result = fits128 limit x (lit< tt) c.high_product-x.ensures.size in
+    let fy : FitsSigned w128 c.high_product-y.result = fits128 limit y (lit< tt) c.high_product-y.ensures.size in
+    let fz : FitsSigned w128 c.high_product-z.result = fits128 limit z (lit< tt) c.high_product-z.ensures.size in
+    let two = sum_size limit limit x y c.high_product-x.ensures.size c.high_product-y.ensures.size in
+    let f2 : FitsSigned w128 (c.high_product-x.result +ℤ c.high_product-y.result) = fits128 (limit +ℤ limit) (x +ℤ y) (lit< tt) two in
+    let three = three_size limit x y z c.high_product-x.ensures.size c.high_product-y.ensures.size c.high_product-z.ensures.size in
+    let f3 : FitsSigned w128 ((c.high_product-x.result +ℤ c.high_product-y.result) +ℤ c.high_product-z.result) = fits128 (pos 3 *ℤ limit) ((x +ℤ y) +ℤ z) (lit< tt) three in
     simp to_z-of_z three
 
 pub returns-clause-value : goal.returns-clause-value
@@ -47,13 +52,13 @@ returns-clause-value c =
     let x = c.high_product-x.result in
     let y = c.high_product-y.result in
     let z = c.high_product-z.result in
-    let fx : FitsSigned w128 c.high_product-x.result = fits128 19807040628566084398385987584 x (lit< tt) c.high_product-x.ensures.size in
-    let fy : FitsSigned w128 c.high_product-y.result = fits128 19807040628566084398385987584 y (lit< tt) c.high_product-y.ensures.size in
-    let fz : FitsSigned w128 c.high_product-z.result = fits128 19807040628566084398385987584 z (lit< tt) c.high_product-z.ensures.size in
-    let two = sum_size 19807040628566084398385987584 19807040628566084398385987584 x y c.high_product-x.ensures.size c.high_product-y.ensures.size in
-    let f2 : FitsSigned w128 (c.high_product-x.result +ℤ c.high_product-y.result) = fits128 39614081257132168796771975168 (x +ℤ y) (lit< tt) two in
-    let three = sum_size 39614081257132168796771975168 19807040628566084398385987584 (x +ℤ y) z two c.high_product-z.ensures.size in
-    let f3 : FitsSigned w128 ((c.high_product-x.result +ℤ c.high_product-y.result) +ℤ c.high_product-z.result) = fits128 59421121885698253195157962752 ((x +ℤ y) +ℤ z) (lit< tt) three in
+    let fx : FitsSigned w128 c.high_product-x.result = fits128 limit x (lit< tt) c.high_product-x.ensures.size in
+    let fy : FitsSigned w128 c.high_product-y.result = fits128 limit y (lit< tt) c.high_product-y.ensures.size in
+    let fz : FitsSigned w128 c.high_product-z.result = fits128 limit z (lit< tt) c.high_product-z.ensures.size in
+    let two = sum_size limit limit x y c.high_product-x.ensures.size c.high_product-y.ensures.size in
+    let f2 : FitsSigned w128 (c.high_product-x.result +ℤ c.high_product-y.result) = fits128 (limit +ℤ limit) (x +ℤ y) (lit< tt) two in
+    let three = three_size limit x y z c.high_product-x.ensures.size c.high_product-y.ensures.size c.high_product-z.ensures.size in
+    let f3 : FitsSigned w128 ((c.high_product-x.result +ℤ c.high_product-y.result) +ℤ c.high_product-z.result) = fits128 (pos 3 *ℤ limit) ((x +ℤ y) +ℤ z) (lit< tt) three in
     let ax : FitsSigned w64 c.args.normal.x = search rules in
     let ay : FitsSigned w64 c.args.normal.y = search rules in
     let az : FitsSigned w64 c.args.normal.z = search rules in

@@ -1,9 +1,15 @@
-use Rattle.std.proofs.Common.{◌*◌, ◌+◌, FitsSigned, arith, pos, ℤ, ◌-ℤ◌, sym, ap, subst, lit<}
+use Rattle.std.proofs.Common.{FitsSigned, arith, pos, ℤ, ◌-ℤ◌, sym, ap, subst, lit<, ◌+ℤ◌, ◌*ℤ◌}
 use Rattle.std.proofs.lemmas.Int.{ints, to_z-of_z}
 use mir.Syntax.{w128}
 use Rattle.lattice_core.specs.Limits.{IsAtMost}
 use Rattle.plane_geom.proofs.Sizes.{difference_size, dot_size, fits128}
+use Rattle.lattice_core.specs.declared.limit.TheConstants.{WORLD}
+use Rattle.plane_geom.specs.declared.limit.TheConstants.{NORMAL, WORLD_OFFSET}
 use Rattle.plane_geom.proofs.plane.Plane.gap.Goals as goal
+
+-- the greatest size of the dot product
+abbrev dot_limit : ℤ
+dot_limit = pos 3 *ℤ (NORMAL *ℤ WORLD)
 
 pub overflow_sub-result : goal.overflow_sub-result
 overflow_sub-result c =
@@ -11,11 +17,11 @@ overflow_sub-result c =
     let k = c.dot.result in
     let n = c.args.self.now.n in
     let o = c.args.ray.now.origin in
-    let kp : IsAtMost (pos (3 * (2147483648 * 524288))) c.dot.result = subst (IsAtMost (pos (3 * (2147483648 * 524288)))) (sym c.dot.ensures) (dot_size 2147483648 524288 n o c.requires.plane.normal c.requires.origin) in
-    let fd : FitsSigned w128 c.args.self.now.d = fits128 1794402976530432 d (lit< tt) c.requires.plane.offset in
-    let fk : FitsSigned w128 c.dot.result = fits128 (3 * (2147483648 * 524288)) k (lit< tt) kp in
-    let p = difference_size 1794402976530432 (3 * (2147483648 * 524288)) d k c.requires.plane.offset kp in
-    let f : FitsSigned w128 (c.args.self.now.d -ℤ c.dot.result) = fits128 (1794402976530432 + 3 * (2147483648 * 524288)) (d -ℤ k) (lit< tt) p in
+    let kp : IsAtMost dot_limit c.dot.result = subst (IsAtMost dot_limit) (sym c.dot.ensures) (dot_size NORMAL WORLD n o c.requires.plane.normal c.requires.origin) in
+    let fd : FitsSigned w128 c.args.self.now.d = fits128 WORLD_OFFSET d (lit< tt) c.requires.plane.offset in
+    let fk : FitsSigned w128 c.dot.result = fits128 dot_limit k (lit< tt) kp in
+    let p = difference_size WORLD_OFFSET dot_limit d k c.requires.plane.offset kp in
+    let f : FitsSigned w128 (c.args.self.now.d -ℤ c.dot.result) = fits128 (WORLD_OFFSET +ℤ dot_limit) (d -ℤ k) (lit< tt) p in
     simp to_z-of_z f
 
 pub returns-clause-value : goal.returns-clause-value
@@ -24,11 +30,11 @@ returns-clause-value c =
     let k = c.dot.result in
     let n = c.args.self.now.n in
     let o = c.args.ray.now.origin in
-    let kp : IsAtMost (pos (3 * (2147483648 * 524288))) c.dot.result = subst (IsAtMost (pos (3 * (2147483648 * 524288)))) (sym c.dot.ensures) (dot_size 2147483648 524288 n o c.requires.plane.normal c.requires.origin) in
-    let fd : FitsSigned w128 c.args.self.now.d = fits128 1794402976530432 d (lit< tt) c.requires.plane.offset in
-    let fk : FitsSigned w128 c.dot.result = fits128 (3 * (2147483648 * 524288)) k (lit< tt) kp in
-    let p = difference_size 1794402976530432 (3 * (2147483648 * 524288)) d k c.requires.plane.offset kp in
-    let f : FitsSigned w128 (c.args.self.now.d -ℤ c.dot.result) = fits128 (1794402976530432 + 3 * (2147483648 * 524288)) (d -ℤ k) (lit< tt) p in
+    let kp : IsAtMost dot_limit c.dot.result = subst (IsAtMost dot_limit) (sym c.dot.ensures) (dot_size NORMAL WORLD n o c.requires.plane.normal c.requires.origin) in
+    let fd : FitsSigned w128 c.args.self.now.d = fits128 WORLD_OFFSET d (lit< tt) c.requires.plane.offset in
+    let fk : FitsSigned w128 c.dot.result = fits128 dot_limit k (lit< tt) kp in
+    let p = difference_size WORLD_OFFSET dot_limit d k c.requires.plane.offset kp in
+    let f : FitsSigned w128 (c.args.self.now.d -ℤ c.dot.result) = fits128 (WORLD_OFFSET +ℤ dot_limit) (d -ℤ k) (lit< tt) p in
     simp to_z-of_z (ap (λ (z : ℤ). d -ℤ z) c.dot.ensures)
 
 pub returns-clause-size : goal.returns-clause-size
@@ -37,9 +43,9 @@ returns-clause-size c =
     let k = c.dot.result in
     let n = c.args.self.now.n in
     let o = c.args.ray.now.origin in
-    let kp : IsAtMost (pos (3 * (2147483648 * 524288))) c.dot.result = subst (IsAtMost (pos (3 * (2147483648 * 524288)))) (sym c.dot.ensures) (dot_size 2147483648 524288 n o c.requires.plane.normal c.requires.origin) in
-    let fd : FitsSigned w128 c.args.self.now.d = fits128 1794402976530432 d (lit< tt) c.requires.plane.offset in
-    let fk : FitsSigned w128 c.dot.result = fits128 (3 * (2147483648 * 524288)) k (lit< tt) kp in
-    let p = difference_size 1794402976530432 (3 * (2147483648 * 524288)) d k c.requires.plane.offset kp in
-    let f : FitsSigned w128 (c.args.self.now.d -ℤ c.dot.result) = fits128 (1794402976530432 + 3 * (2147483648 * 524288)) (d -ℤ k) (lit< tt) p in
+    let kp : IsAtMost dot_limit c.dot.result = subst (IsAtMost dot_limit) (sym c.dot.ensures) (dot_size NORMAL WORLD n o c.requires.plane.normal c.requires.origin) in
+    let fd : FitsSigned w128 c.args.self.now.d = fits128 WORLD_OFFSET d (lit< tt) c.requires.plane.offset in
+    let fk : FitsSigned w128 c.dot.result = fits128 dot_limit k (lit< tt) kp in
+    let p = difference_size WORLD_OFFSET dot_limit d k c.requires.plane.offset kp in
+    let f : FitsSigned w128 (c.args.self.now.d -ℤ c.dot.result) = fits128 (WORLD_OFFSET +ℤ dot_limit) (d -ℤ k) (lit< tt) p in
     simp to_z-of_z (omega (arith, ints, p.0, p.1), omega (arith, ints, p.0, p.1))

@@ -1,6 +1,6 @@
 -- Half-spaces: the points p with normal · p at most distance.
 use Rattle.std.specs.Prelude.{◌≢◌, ℤ}
-use Rattle.lattice_core.specs.declared.limit.TheConstants.{COORD}
+use Rattle.lattice_core.specs.declared.limit.TheConstants.{COORD, HALF_NORMAL}
 use Rattle.lattice_core.specs.declared.boxes.Box3.{Box3}
 use Rattle.lattice_core.specs.declared.boxes.Box3.TheVariants.{Span}
 use Rattle.lattice_core.specs.declared.boxes.Side.TheVariants.{Open}
@@ -16,9 +16,9 @@ pub record HalfSpace : Type 0 where
   pub normal : V3
   pub distance : ℤ
 
--- the normal is not zero, and the numbers are at most COORD in size
+-- the normal is not zero and has plain numbers of at most HALF_NORMAL in size, and the distance is at most COORD
 pub record IsHalf (normal : V3) (distance : ℤ) : Type 0 where
-  pub normal_size : IsWithin COORD normal
+  pub normal_size : IsWithin HALF_NORMAL normal
   pub distance_size : IsAtMost COORD distance
   pub direction : normal ≢ zero_vector
 

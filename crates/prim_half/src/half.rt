@@ -14,8 +14,9 @@ use lattice_core::{Box3, Extent, Placement, Ray, Side, V3};
 use plane_geom::{Crossing, Plane, ShapeFault};
 use std::marker::Model;
 
-/// The half-space of the points `p` with `normal · p` at most `distance`. Its normal is not zero, and its numbers are
-/// at most `COORD` in size. Contracts see its normal and its distance.
+/// The half-space of the points `p` with `normal · p` at most `distance`. The normal counts plain numbers, is not zero,
+/// and has components of at most `HALF_NORMAL` in size. The distance is a length in tenths of a millimetre, at most
+/// `COORD` in size. Contracts see its normal and its distance.
 #[derive(Clone, Copy, Debug, PartialEq, Eq, Hash)]
 pub struct Half {
     normal: V3,
@@ -36,16 +37,17 @@ impl Model for Half {
 
 impl Half {
     ghost use Rattle.std.specs.Prelude.{◌≡◌, ◌≢◌, ◌↔◌, Result, Err, MatchResult};
-    ghost use Rattle.lattice_core.specs.declared.limit.TheConstants.{COORD, SHIFT};
+    ghost use Rattle.lattice_core.specs.declared.limit.TheConstants.{COORD, HALF_NORMAL, SHIFT};
     ghost use Rattle.lattice_core.specs.Limits.{IsAtMost, IsWithin};
     ghost use Rattle.lattice_core.specs.Vectors.{zero_vector};
     ghost use Rattle.plane_geom.specs.Planes.{IsSolidPlane, IsWorldPlane, placed_plane};
     ghost use Rattle.plane_geom.specs.declared.fault.ShapeFault.{ShapeFault};
     ghost use Rattle.prim_half.specs.Halves.{IsHalf, plane_of_half};
 
-    /// The half-space of a normal and a distance, or `ZeroNormal` where the normal is zero.
+    /// The half-space of a normal, in plain numbers, and a distance, in tenths of a millimetre, or `ZeroNormal` where the
+    /// normal is zero.
     pub fn new(n: V3, d: i64) -> Result<Half, ShapeFault>
-        requires normal { IsWithin COORD n }
+        requires normal { IsWithin HALF_NORMAL n }
         requires distance { IsAtMost COORD d }
         ensures zero { (result ≡ Err ShapeFault.ZeroNormal) ↔ (n ≡ zero_vector) }
         ensures value { MatchResult result (λ half. (half.normal ≡ n) × (half.distance ≡ d)) (λ e. e ≡ ShapeFault.ZeroNormal) }
@@ -59,16 +61,17 @@ impl Half {
         })
     }
 
-    /// The normal, which points out of the solid.
+    /// The normal, which points out of the solid: plain numbers, no lengths.
     pub fn normal(&self) -> V3
         ensures value { result ≡ self.now.normal }
-        ensures size { IsWithin COORD result }
+        ensures size { IsWithin HALF_NORMAL result }
         ensures direction { result ≢ zero_vector }
     {
         self.normal
     }
 
-    /// How far the points reach along the normal: the number that `normal · p` does not pass.
+    /// How far the points reach along the normal: the number that `normal · p` does not pass, with `p` in tenths of a
+    /// millimetre.
     pub fn distance(&self) -> i64
         ensures value { result ≡ self.now.distance }
         ensures size { IsAtMost COORD result }

@@ -1,7 +1,6 @@
 -- Where a ray runs through a sphere.
-use Rattle.std.proofs.Common.{◌≡◌, ◌↔◌, ◌∙◌, ◌≤◌, ◌*◌, ℕ, zero, suc, IsNone, IfNone, IfSome, ℤ, pos, negsuc, ◌+ℤ◌, ◌-ℤ◌, ◌*ℤ◌, ◌<ℤ◌, ◌≤ℤ◌, refl, ap, sym, subst, arith}
+use Rattle.std.proofs.Common.{◌≡◌, ◌↔◌, ◌∙◌, ℕ, zero, suc, IsNone, IfNone, IfSome, ℤ, pos, negsuc, ◌+ℤ◌, ◌-ℤ◌, ◌*ℤ◌, ◌<ℤ◌, ◌≤ℤ◌, refl, ap, sym, subst, arith}
 use Rattle.std.proofs.lemmas.Int.{ints}
-use Rattle.std.specs.Int.RustNames.{unsigned_abs}
 use Rattle.lattice_core.specs.declared.vector.V3.{V3}
 use Rattle.lattice_core.specs.declared.ray.Ray.{Ray}
 use Rattle.lattice_core.specs.declared.ray.Dir.{Dir}
@@ -14,8 +13,10 @@ use Rattle.plane_geom.proofs.Cross.{sub_mul}
 use Rattle.plane_geom.specs.Chords.{point_along, nearest_along, half_chord_along, IsNearAlong}
 use Rattle.plane_geom.specs.Vectors.{cross_product}
 use Rattle.plane_geom.proofs.Lines.{IsReached, near_along, near_at_pace_one, near_none, square_of_cross}
-use Rattle.plane_geom.proofs.Sizes.{abs_of, product_size}
+use Rattle.plane_geom.proofs.Sizes.{product_size}
 use Rattle.prim_sphere.specs.Spheres.{squared, scaled, length_squared, nearest_on, half_chord_squared, IsNear, SphereHolds, SphereHoldsAlong, HoldsBetween, HoldsOnceAtMost, chord_of, chord_at, IsSmallChord}
+use Rattle.lattice_core.specs.declared.limit.TheConstants.{COORD}
+use Rattle.plane_geom.specs.declared.limit.TheConstants.{REMOTE}
 
 -- a point of a line, seen from the centre
 part : (o e c p q : ℤ) → ((o *ℤ q) +ℤ (e *ℤ p)) -ℤ (c *ℤ q) ≡ (e *ℤ p) -ℤ ((c -ℤ o) *ℤ q)
@@ -84,19 +85,18 @@ none_is a (pos zero) = (λ t. omega (arith, ints), λ le. refl)
 none_is a (pos (suc k)) = (λ t. cc, λ le. absurd (omega (arith, ints, le)))
 none_is a (negsuc k) = (λ t. omega (arith, ints), λ le. refl)
 
-small_chord : (r a k : ℤ) → IsAtMost (pos 802816) a → IsAtMost (pos 16384) r → k ≤ℤ squared r → IfSome (chord_of a k) (IsSmallChord r)
+small_chord : (r a k : ℤ) → IsAtMost REMOTE a → IsAtMost COORD r → k ≤ℤ squared r → IfSome (chord_of a k) (IsSmallChord r)
 small_chord r a (pos zero) a_size r_size le = tt
 small_chord r a (pos (suc k)) a_size r_size le =
-    let whole : unsigned_abs a ≤ 802816 = abs_of 802816 a a_size in
-    let wide : IsAtMost (pos (16384 * 16384)) (r *ℤ r) = product_size 16384 16384 r r r_size r_size in record {
-      whole = omega (arith, whole);
+    let wide : IsAtMost (squared COORD) (squared r) = product_size COORD COORD r r r_size r_size in record {
+      whole = a_size;
       some = omega arith;
       within = le;
       root = omega (arith, ints, le, wide.1);
     }
 small_chord r a (negsuc k) a_size r_size le = tt
 
-pub small_at : (c : V3) (r : ℤ) (ray : Ray) → IsAtMost (pos 802816) (nearest_on c ray) → IsAtMost (pos 16384) r → IfSome (chord_at c r ray) (IsSmallChord r)
+pub small_at : (c : V3) (r : ℤ) (ray : Ray) → IsAtMost REMOTE (nearest_on c ray) → IsAtMost COORD r → IfSome (chord_at c r ray) (IsSmallChord r)
 small_at c r ray a_size r_size = small_chord r (nearest_on c ray) (half_chord_squared c r ray) a_size r_size (half_small c r ray)
 
 held_for : (c : V3) (r : ℤ) (ray : Ray) (k : ℤ) → half_chord_squared c r ray ≡ k → IfSome (chord_of (nearest_on c ray) k) (HoldsBetween c r ray)

@@ -4,8 +4,8 @@ use lattice_core::{Placement, V3};
 use plane_geom::ShapeFault;
 use std::marker::Model;
 
-/// The points at most `radius` from `centre`, in millimetres. The radius is at least 1, and it and the coordinates of
-/// the centre are at most `COORD` in size. Contracts see its centre and its radius.
+/// The points at most `radius` from `centre`, in tenths of a millimetre. The radius is at least 1, and it and the
+/// coordinates of the centre are at most `COORD` in size. Contracts see its centre and its radius.
 #[derive(Clone, Copy, Debug, PartialEq, Eq, Hash)]
 pub struct Sphere {
     centre: V3,

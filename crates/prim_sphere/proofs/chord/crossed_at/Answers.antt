@@ -8,6 +8,7 @@ use Rattle.plane_geom.proofs.Sizes.{fits64}
 use Rattle.plane_geom.specs.declared.chord.Chord.{Chord}
 use Rattle.prim_sphere.specs.Spheres.{squared, length_squared, nearest_on, half_chord_squared, chord_of, IsSmallChord, HoldsBetween, HoldsOnceAtMost}
 use Rattle.prim_sphere.proofs.Chords.{none_is, small_at, held_at, missed_at}
+use Rattle.plane_geom.specs.declared.limit.TheConstants.{REMOTE}
 use Rattle.prim_sphere.proofs.chord.crossed_at.Goals as goal
 
 nearest : (c : goal.After-of) → c.along-a.result ≡ nearest_on c.args.centre c.args.ray.now
@@ -15,7 +16,7 @@ nearest c = c.along-a.ensures.value ∙ ap (λ (v : V3). dot_product v (unit_of 
 
 half : (c : goal.After-of) → c.half_chord.result ≡ half_chord_squared c.args.centre c.args.radius c.args.ray.now
 half c =
-    let fa : FitsSigned w64 c.along-a.result = fits64 802816 c.along-a.result (lit< tt) (c.along-a.ensures.size (pos 802816) c.apart_from-apart.ensures.size) in
+    let fa : FitsSigned w64 c.along-a.result = fits64 REMOTE c.along-a.result (lit< tt) (c.along-a.ensures.size REMOTE c.apart_from-apart.ensures.size) in
     let fr : FitsSigned w64 c.args.radius = c.ranges.radius in
     simp to_z-of_z at c.half_chord.ensures
     ∙ ap (λ (v : V3). squared c.args.radius -ℤ (length_squared v -ℤ squared c.along-a.result)) c.apart_from-apart.ensures.value
@@ -23,13 +24,13 @@ half c =
 
 pub half_chord-requires-clause-along : goal.half_chord-requires-clause-along
 half_chord-requires-clause-along c =
-    let size : IsAtMost (pos 802816) c.along-a.result = c.along-a.ensures.size (pos 802816) c.apart_from-apart.ensures.size in
-    let fa : FitsSigned w64 c.along-a.result = fits64 802816 c.along-a.result (lit< tt) size in
+    let size : IsAtMost REMOTE c.along-a.result = c.along-a.ensures.size REMOTE c.apart_from-apart.ensures.size in
+    let fa : FitsSigned w64 c.along-a.result = fits64 REMOTE c.along-a.result (lit< tt) size in
     simp to_z-of_z size
 
 pub returns-clause-value : goal.returns-clause-value
 returns-clause-value c =
-    let fa : FitsSigned w64 c.along-a.result = fits64 802816 c.along-a.result (lit< tt) (c.along-a.ensures.size (pos 802816) c.apart_from-apart.ensures.size) in
+    let fa : FitsSigned w64 c.along-a.result = fits64 REMOTE c.along-a.result (lit< tt) (c.along-a.ensures.size REMOTE c.apart_from-apart.ensures.size) in
     let fk : FitsSigned w64 c.half_chord.result = search rules in
     simp to_z-of_z at c.of.ensures
     ∙ ap (λ (z : ℤ). chord_of z c.half_chord.result) (nearest c)
@@ -43,7 +44,7 @@ returns-clause-none c =
 pub returns-clause-small : goal.returns-clause-small
 returns-clause-small c =
     subst (λ (r : Option Chord). IfSome r (IsSmallChord c.args.radius)) (sym (returns-clause-value c))
-    (small_at c.args.centre c.args.radius c.args.ray.now (subst (IsAtMost (pos 802816)) (nearest c) (c.along-a.ensures.size (pos 802816) c.apart_from-apart.ensures.size)) c.requires.radius)
+    (small_at c.args.centre c.args.radius c.args.ray.now (subst (IsAtMost REMOTE) (nearest c) (c.along-a.ensures.size REMOTE c.apart_from-apart.ensures.size)) c.requires.radius)
 
 pub returns-clause-held : goal.returns-clause-held
 returns-clause-held c =

@@ -1,4 +1,4 @@
--- Which atoms are numbers, and what they are worth.
+-- Which atoms are numbers, whole or in tenths, and what they are worth.
 use Rattle.std.specs.Prelude.{◌≡◌, ◌<◌, ℕ, Bool, true, false, not, ◌&&◌, ◌||◌, ◌==◌, nat_lt, ◌+◌, ◌-◌, ◌*◌, List, Option, Some, None, slice_index, length, take, drop, fold, if◌then◌else◌, pos, ℤ, ◌-ℤ◌}
 use Rattle.std.specs.List.{prefix_len, list_all}
 use Rattle.std.specs.Char.{is_ascii_digit}
@@ -54,3 +54,24 @@ with_sign negative (Some n) = Some (signed negative n)
 -- the number that an atom is, if it is one
 abbrev pub number_of : List ℕ → Option ℤ
 number_of atom = with_sign (begins (λ b. b == 45) atom) (magnitude (unsigned atom))
+
+-- a point, one digit, and any number of zeros
+abbrev pub is_decimal : List ℕ → Bool
+is_decimal rest = nat_lt 1 (length rest) && slice_index rest 0 == 46 && is_ascii_digit (slice_index rest 1) && list_all is_zero (drop 2 rest)
+
+-- the tenths that stand behind the digits: 0 for nothing or a point and zeros, and else the one digit behind the point
+abbrev pub tenths_after : List ℕ → Option ℕ
+tenths_after rest = if is_tail rest then Some 0 else (if is_decimal rest then Some (slice_index rest 1 - 48) else None)
+
+abbrev pub in_tenths : Option ℕ → Option ℕ → Option ℕ
+in_tenths None tenth = None
+in_tenths (Some whole) None = None
+in_tenths (Some whole) (Some tenth) = Some (whole * 10 + tenth)
+
+-- one or more digits, and what may stand behind them, in tenths
+abbrev pub tenths_magnitude : List ℕ → Option ℕ
+tenths_magnitude rest = if digit_count rest == 0 then None else in_tenths (short_value (take (digit_count rest) rest)) (tenths_after (drop (digit_count rest) rest))
+
+-- the length that an atom is, if it is one, in tenths
+abbrev pub tenths_of : List ℕ → Option ℤ
+tenths_of atom = with_sign (begins (λ b. b == 45) atom) (tenths_magnitude (unsigned atom))

@@ -1,7 +1,7 @@
-ghost use Rattle.std.specs.Prelude.{◌≡◌, ◌≤◌, ◌==◌, length, IfSome, IfNone, ℤ};
+ghost use Rattle.std.specs.Prelude.{◌≡◌, ◌≤◌, ◌<◌, ◌^◌, ◌==◌, length, Some, IfSome, IfNone, ℤ, pos, ◌*ℤ◌};
 ghost use Rattle.std.specs.List.{prefix_len, list_all};
 ghost use Rattle.tcl_words.specs.Numbers as numbers;
-ghost use Rattle.tcl_words.specs.NumberForm.{IsNumber};
+ghost use Rattle.tcl_words.specs.NumberForm.{IsNumber, IsLength};
 
 fn is_zero(byte: u8) -> bool
     ensures { result ≡ numbers.is_zero byte }
@@ -123,4 +123,55 @@ pub fn read_number(atom: &[u8]) -> Option<i64>
     ensures none { IfNone result ((n : ℤ) → IsNumber atom.now n → ⊥) }
 {
     number(atom)
+}
+
+fn is_decimal(rest: &[u8]) -> bool
+    ensures { result ≡ numbers.is_decimal rest.now }
+{
+    1 < rest.len() && rest[0] == b'.' && rest[1].is_ascii_digit() && are_zeros(&rest[2..])
+}
+
+/// The tenths that stand behind the digits.
+fn tenths_after(rest: &[u8]) -> Option<u8>
+    ensures { result ≡ numbers.tenths_after rest.now }
+{
+    if is_tail(rest) {
+        return Some(0);
+    }
+    if is_decimal(rest) {
+        Some(rest[1] - b'0')
+    } else {
+        None
+    }
+}
+
+fn tenths_magnitude(rest: &[u8]) -> Option<u64>
+    ensures value { result ≡ numbers.tenths_magnitude rest.now }
+    ensures small { IfSome result (λ n. n < 2 ^ 36) }
+{
+    let count = digit_count(rest);
+    if count == 0 {
+        return None;
+    }
+    let whole = u64::from(short_value(&rest[..count])?);
+    let tenth = u64::from(tenths_after(&rest[count..])?);
+    Some(whole * 10 + tenth)
+}
+
+fn tenths(atom: &[u8]) -> Option<i64>
+    ensures { result ≡ numbers.tenths_of atom.now }
+{
+    let size = tenths_magnitude(unsigned(atom))? as i64;
+    Some(if is_negative(atom) { -size } else { size })
+}
+
+/// The length that an atom spells, in tenths of its unit: a whole number as `read_number` reads it, where one digit may
+/// stand behind the point before any zeros. So `-0.5` is -5, and `1` and `1.0` are 10. Else none.
+pub fn read_tenths(atom: &[u8]) -> Option<i64>
+    ensures exact { result ≡ numbers.tenths_of atom.now }
+    ensures form { IfSome result (λ n. IsLength atom.now n) }
+    ensures none { IfNone result ((n : ℤ) → IsLength atom.now n → ⊥) }
+    ensures whole { IfSome (numbers.number_of atom.now) (λ n. result ≡ Some (pos 10 *ℤ n)) }
+{
+    tenths(atom)
 }

@@ -3,7 +3,6 @@ use Rattle.std.specs.Prelude.{ℕ, ℤ, ◌==◌, ◌+◌, ◌-◌, List, [], �
 use Rattle.std.specs.List.{slice_range}
 use Rattle.std.specs.Option.{option_map}
 use Rattle.std.specs.Int.RustNames.{unsigned_abs}
-use Rattle.tcl_words.specs.Numbers.{number_of}
 use Rattle.tcl_words.specs.TopWords.{top_words, atom_of, raw_of, nth}
 use Rattle.tcl_words.specs.declared.token.Token.{Token}
 use Rattle.tcl_words.specs.declared.token.Word.{Word}
@@ -24,21 +23,10 @@ words_in text tokens w =
     if w.first == w.last then None
     else atoms_in text (slice_range tokens (w.first + 1) w.last) (top_words (slice_range tokens (w.first + 1) w.last))
 
+-- a number, where it is at most this size
 abbrev pub kept_to : ℕ → Option ℤ → Option ℤ
 kept_to most None = None
 kept_to most (Some n) = if nat_le (unsigned_abs n) most then Some n else None
-
--- an atom as a number of at most this size
-abbrev pub number_to : ℕ → List ℕ → Option ℤ
-number_to most atom = kept_to most (number_of atom)
-
--- a coordinate, a radius, a component of a normal or a distance, in millimetres
-abbrev pub solid_number : List ℕ → Option ℤ
-solid_number atom = number_to 16384 atom
-
--- a coordinate of a ray's origin, in millimetres, or a number of a matrix
-abbrev pub view_number : List ℕ → Option ℤ
-view_number atom = number_to 999999999 atom
 
 -- the numbers, where all are there
 abbrev pub all_numbers : List (Option ℤ) → Option (List ℤ)

@@ -68,7 +68,7 @@ no_number = refl
 no_placement : tree (codes "l b {2 0 0 0 0 1 0 0 0 0 1 0 0 0 0 1}") ≡ Err Number
 no_placement = refl
 
-too_far : tree (codes "l b {1 0 0 16385 0 1 0 0 0 0 1 0 0 0 0 1}") ≡ Err Number
+too_far : tree (codes "l b {1 0 0 16384.1 0 1 0 0 0 0 1 0 0 0 0 1}") ≡ Err Number
 too_far = refl
 
 names_before_numbers : tree (codes "u {l b {2 0 0 0 0 1 0 0 0 0 1 0 0 0 0 1}} {l a/b}") ≡ Err Name

@@ -1,4 +1,5 @@
 pub mod Atoms
+pub mod Kinds
 pub mod Matrices
 pub mod Solids
 pub mod Groups

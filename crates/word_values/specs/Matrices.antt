@@ -46,7 +46,7 @@ turn_numbered None = None
 turn_numbered (Some number) = turn_if number (nat_lt number 48) refl
 
 abbrev pub is_near_number : ℤ → Bool
-is_near_number c = nat_le (unsigned_abs c) 16384
+is_near_number c = nat_le (unsigned_abs c) (unsigned_abs COORD)
 
 -- a shift that is not too far
 abbrev pub is_near : V3 → Bool

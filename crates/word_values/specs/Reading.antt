@@ -13,7 +13,8 @@ use Rattle.comb_tree.specs.declared.node.CombNode.TheVariants as comb_nodes
 use Rattle.comb_tree.specs.Nodes.{Comb, apply}
 use Rattle.tcl_words.specs.declared.token.Kind.{Kind}
 use Rattle.tcl_words.specs.declared.token.Kind.TheVariants as kinds
-use Rattle.word_values.specs.Atoms.{view_number}
+use Rattle.word_values.specs.Kinds.{number_as, kind_at}
+use Rattle.word_values.specs.declared.atoms.NumberList.TheVariants as lists
 use Rattle.word_values.specs.Matrices.{identity, placement_read}
 use Rattle.word_values.specs.Trees.{Given, placement_of, operator_of, is_leaf_word, tree_with}
 use Rattle.word_values.specs.declared.tree.TreeFault.{TreeFault}
@@ -90,7 +91,7 @@ first_word word = if is_leaf_word word then Some places.Name else option_map (λ
 abbrev pub atom_at : Place → State → List ℕ → Option State
 atom_at places.Node s atom = option_map (λ place. record s { place = place }) (first_word atom)
 atom_at places.Name s atom = Some (record s { name = result_ok (read_name atom); place = places.Matrix })
-atom_at places.Number s atom = if nat_lt (length s.numbers) 16 then Some (record s { numbers = s.numbers ++ view_number atom ∷ [] }) else None
+atom_at places.Number s atom = if nat_lt (length s.numbers) 16 then Some (record s { numbers = s.numbers ++ number_as (kind_at lists.Matrix (length s.numbers)) atom ∷ [] }) else None
 atom_at (places.Group side) s atom = None
 atom_at places.Matrix s atom = None
 atom_at places.End s atom = None

@@ -1,4 +1,4 @@
--- The solids that are made of numbers, in millimetres.
+-- The solids that are made of numbers. Lengths count tenths of a millimetre.
 use Rattle.std.specs.Prelude.{ℕ, ◌+◌, ℤ, pos, Bool, ◌&&◌, List, [], ◌∷◌, Option, Some, None, Result, Ok, Err, codes, bytes_eq, unwrap_or, slice_index_or, if◌then◌else◌}
 use Rattle.std.specs.Ordering.{int_cmp, int_eq, is_lt}
 use Rattle.lattice_core.specs.declared.vector.V3.{V3}
@@ -41,7 +41,7 @@ is_zero v = int_eq v.x (pos 0) && int_eq v.y (pos 0) && int_eq v.z (pos 0)
 abbrev pub half_made : V3 → ℤ → Result Solid ShapeFault
 half_made normal distance = if is_zero normal then Err ZeroNormal else Ok (solids.Half (record { normal = normal; distance = distance }))
 
--- a sphere by its centre and its radius, where that is at least 1
+-- a sphere by its centre and its radius, where that is at least 1, a tenth of a millimetre
 abbrev pub sphere_made : V3 → ℤ → Result Solid ShapeFault
 sphere_made centre radius = if is_lt (int_cmp radius (pos 1)) then Err Radius else Ok (solids.Sphere (record { centre = centre; radius = radius }))
 

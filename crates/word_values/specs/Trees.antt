@@ -1,6 +1,6 @@
 -- Boolean trees as texts: an empty text, or a node. A node is `l NAME`, `l NAME {16 numbers}`, or an operator with its two
--- sides in groups: `u` for the union, `n` or `+` for the intersection, `-` for the difference.
-use Rattle.std.specs.Prelude.{◌≡◌, ℕ, Bool, not, ◌==◌, nat_lt, List, [], length, map, Option, Some, None, is_some, is_ok, Result, Ok, Err, codes, bytes_eq, unwrap_or, if◌then◌else◌}
+-- sides in groups: `u` for the union, `n` or `+` for the intersection, `-` for the difference, `^` for the exclusive union.
+use Rattle.std.specs.Prelude.{◌≡◌, ℕ, Bool, not, ◌==◌, nat_lt, List, [], length, Option, Some, None, is_some, is_ok, Result, Ok, Err, codes, bytes_eq, unwrap_or, if◌then◌else◌}
 use Rattle.std.specs.List.{list_all}
 use Rattle.std.specs.Option.{option_map}
 use Rattle.lattice_core.specs.declared.placement.Placement.{Placement}
@@ -9,7 +9,8 @@ use Rattle.tree_forms.specs.declared.Op.{Op}
 use Rattle.tree_forms.specs.declared.Op.TheVariants.{U, N, Minus, X}
 use Rattle.tree_forms.specs.Trees.{Tree, Leaf, Join, leaves, map_leaves}
 use Rattle.comb_tree.specs.Nodes.{Comb, Member}
-use Rattle.word_values.specs.Atoms.{view_number}
+use Rattle.word_values.specs.Kinds.{numbers_as}
+use Rattle.word_values.specs.declared.atoms.NumberList.TheVariants as lists
 use Rattle.word_values.specs.Groups.{Words, End, Atom, Group, atoms_of}
 use Rattle.word_values.specs.Matrices.{placement_read, identity}
 use Rattle.word_values.specs.declared.tree.TreeFault.{TreeFault}
@@ -88,7 +89,7 @@ given_leaves (Some t) = leaves t
 -- the placement of a leaf: that of its matrix, and without a matrix the one that moves nothing
 abbrev pub placement_of : Option (List (List ℕ)) → Option Placement
 placement_of None = Some identity
-placement_of (Some atoms) = placement_read (map view_number atoms)
+placement_of (Some atoms) = placement_read (numbers_as lists.Matrix atoms)
 
 abbrev pub has_name : Given → Bool
 has_name g = is_ok (read_name g.name)
@@ -108,7 +109,7 @@ abbrev pub most_leaves : ℕ
 most_leaves = 4096
 
 -- the first that holds: over 4,096 leaves; a name that is none; a matrix with a number that is none or out of its range, or
--- that is no placement, or whose shift is over 16,384
+-- that is no placement, or whose shift is over `COORD` in size
 abbrev pub tree_with : Option (Tree Given) → Result Comb TreeFault
 tree_with t =
     if nat_lt most_leaves (length (given_leaves t)) then Err Form

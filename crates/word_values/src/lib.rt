@@ -9,7 +9,10 @@ mod solid;
 mod tree;
 mod value;
 
-pub use atoms::{SOLID_NUMBER, VIEW_NUMBER, group_atoms, limit_laws, number_to, word_atoms};
+pub use atoms::{
+    NumberKind, NumberList, WHOLE_NUMBER, coordinate_kind, group_atoms, limit_laws, normal_kind,
+    plain_kind, point_kind, word_atoms,
+};
 pub use matrix::placement_of;
 pub use solid::{SolidKind, vector_at};
 pub use tree::{TreeFault, read_tree};

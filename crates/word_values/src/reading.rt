@@ -9,7 +9,7 @@ ghost use Rattle.word_values.specs.Matrices as matrices;
 ghost use Rattle.word_values.specs.Trees as trees;
 ghost use Rattle.word_values.specs.Reading as reading;
 
-use crate::atoms::{VIEW_NUMBER, number_to};
+use crate::atoms::NumberList;
 use crate::given::GivenNode;
 use crate::matrix::placement_of;
 use crate::tree::TreeFault;
@@ -185,7 +185,8 @@ impl Reader {
         if self.numbers.len() >= 16 {
             return Err(TreeFault::Form);
         }
-        self.numbers.push(number_to(atom, VIEW_NUMBER))?;
+        let kind = NumberList::Matrix.kind_at(self.numbers.len());
+        self.numbers.push(kind.read(atom))?;
         Ok(())
     }
 

@@ -1,8 +1,10 @@
 //! Makes solids of numbers.
 ghost use Rattle.std.specs.Prelude.{◌≡◌, ◌≤◌, ◌<◌, ◌+◌, All, length, map, Some};
-ghost use Rattle.lattice_core.specs.declared.limit.TheConstants.{COORD};
+ghost use Rattle.lattice_core.specs.declared.limit.TheConstants.{COORD, HALF_NORMAL};
 ghost use Rattle.lattice_core.specs.Limits.{IsAtMost, IsWithin};
+ghost use Rattle.word_values.specs.Kinds.{AllWithinKinds};
 ghost use Rattle.word_values.specs.Solids as solids;
+ghost use Rattle.word_values.specs.declared.atoms.NumberList.TheVariants as lists;
 
 use lattice_core::V3;
 use plane_geom::ShapeFault;
@@ -56,10 +58,10 @@ impl SolidKind {
         }
     }
 
-    /// The solid of these numbers, or its first fault.
+    /// The solid of these numbers, or its first fault. Lengths count tenths of a millimetre.
     pub fn make(self, numbers: &[i64]) -> Result<Solid, ShapeFault>
         requires count { length numbers.now ≡ solids.number_count self }
-        requires size { All (IsAtMost COORD) numbers.now }
+        requires sizes { AllWithinKinds (lists.Solid self) numbers.now }
         ensures { result ≡ solids.solid_made self (map (λ n. Some n) numbers.now) }
     {
         match self {
@@ -93,7 +95,7 @@ pub fn vector_at(numbers: &[i64], place: usize) -> V3
 }
 
 fn half(normal: V3, distance: i64) -> Result<Solid, ShapeFault>
-    requires normal { IsWithin COORD normal }
+    requires normal { IsWithin HALF_NORMAL normal }
     requires distance { IsAtMost COORD distance }
     ensures { result ≡ solids.half_made normal distance }
 {

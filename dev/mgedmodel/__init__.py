@@ -2,7 +2,7 @@
 runs it.
 
 refused     why a command is refused
-words       lines as words, numbers, names and texts
+words       lines as words, numbers, lengths, names and texts
 positions   exact places on a ray
 solids      planes, placements, boxes, solids, and the part of a ray in a solid
 trees       boolean trees and the lists that users give

@@ -7,9 +7,9 @@ from .listings import listings_of
 from .pictures import WORLD, View, overlap_report, picture
 from .refused import Refused, syntax_unless
 from .shots import shot
-from .solids import DIRECTIONS, FARTHEST, Arb8, Half, Ray, Sphere, box_of, placement_of
-from .texts import ANY_NUMBER, read_attr_set, read_put, read_title
-from .words import atom, counts_as_atom, name_at, number, number_at, read_words, text_from
+from .solids import DIRECTIONS, FARTHEST, MOST_OF_A_NORMAL, Arb8, Half, Ray, Sphere, box_of, placement_of
+from .texts import ANY_LENGTH, ANY_NUMBER, numbers_of_matrix, read_attr_set, read_put, read_title
+from .words import atom, counts_as_atom, length, name_at, number_at, read_words, text_from
 from .written import text_of, written_lines_of
 
 OPERATORS = (b"u", b"+", b"-", b"^")
@@ -27,6 +27,7 @@ SOLIDS = {
     b"arb8": (24, lambda given: Arb8([tuple(given[first : first + 3]) for first in range(0, 24, 3)])),
     b"sph": (4, lambda given: Sphere(tuple(given[:3]), given[3])),
 }
+NORMAL = (4, 5, 6)  # the places of the plain numbers of a half-space; all other numbers of solids are lengths
 
 
 def read_line(line):
@@ -50,6 +51,10 @@ def query(find):
     return Command(False, lambda directory, session: (find(directory), []))
 
 
+def length_at(atoms, place, most, least=None):
+    return number_at(atoms, place, most, least, read=length)
+
+
 def names_from(atoms, *places):
     return [name_at(atoms, place) for place in places]
 
@@ -59,7 +64,8 @@ def read_in(atoms):
     count, make = SOLIDS[atoms[2]]
     syntax_unless(len(atoms) == 3 + count)
     name = name_at(atoms, 2)
-    solid = make([number_at(atoms, place, FARTHEST) for place in range(4, 4 + count)])
+    plain = NORMAL if atoms[2] == b"half" else ()
+    solid = make([number_at(atoms, place, MOST_OF_A_NORMAL) if place in plain else length_at(atoms, place, FARTHEST) for place in range(4, 4 + count)])
     return edit(lambda directory: directory.make(name, solid))
 
 
@@ -123,7 +129,7 @@ def read_place(line, words, end):
     matrix = [atom(word) for word in (words[3].words if is_group else words[3:])]
     syntax_unless(len(atoms) >= 3 and len(matrix) == 16)
     name, member = names_from(atoms, 2, 3)
-    numbers = [number(text, -ANY_NUMBER, ANY_NUMBER) for text in matrix]
+    numbers = numbers_of_matrix(matrix)
     if None in numbers:
         raise Refused(f"number {4 if is_group else 4 + numbers.index(None)}")
     placement = placement_of(numbers)
@@ -169,7 +175,7 @@ def read_save(atoms):
 def read_nirt(atoms):
     syntax_unless(len(atoms) > 5 and atoms[4].decode("latin-1") in DIRECTIONS)
     names = names_from(atoms, *range(6, len(atoms) + 1))
-    start = tuple(number_at(atoms, place, ANY_NUMBER) for place in (2, 3, 4))
+    start = tuple(length_at(atoms, place, ANY_LENGTH) for place in (2, 3, 4))
     if any(abs(part) > WORLD for part in start):
         raise Refused("view world")
     ray = Ray(start, DIRECTIONS[atoms[4].decode()])
@@ -192,8 +198,9 @@ def read_rtcheck(atoms):
 
 def view_at(atoms, place):
     """The view of the words from this one on: its direction, its corner, its cell, its columns and its rows."""
-    corner = tuple(number_at(atoms, place + axis, ANY_NUMBER) for axis in (1, 2, 3))
-    cell, width, height = (number_at(atoms, place + 4 + part, ANY_NUMBER, 0) for part in range(3))
+    corner = tuple(length_at(atoms, place + axis, ANY_LENGTH) for axis in (1, 2, 3))
+    cell = length_at(atoms, place + 4, ANY_LENGTH, 0)
+    width, height = (number_at(atoms, place + 5 + part, ANY_NUMBER, 0) for part in range(2))
     view = View(corner, DIRECTIONS[atoms[place - 1].decode()], cell, width, height)
     view.refuse_faulty()
     return view

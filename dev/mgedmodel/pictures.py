@@ -6,8 +6,9 @@ from .kept import tile_names
 from .refused import Refused, refuse_unless
 from .shots import first_overlaps, regions_of_names, seen_first
 from .solids import RAY_LENGTH, Ray, box_about
+from .words import MILLIMETRE
 
-WORLD = 524_288
+WORLD = 524_288 * MILLIMETRE
 MOST_SIDE = 2_048
 TILE_SIDE = 16
 

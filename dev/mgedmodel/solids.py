@@ -1,5 +1,5 @@
 """Planes, placements, boxes, solids, and the part of a ray in a solid. A solid tells its box as it is placed, and its
-surface, by which two placed solids are equal."""
+surface, by which two placed solids are equal. All lengths count tenths of a millimetre."""
 
 from collections import namedtuple
 from fractions import Fraction
@@ -7,9 +7,11 @@ from math import inf
 
 from .positions import Position
 from .refused import Refused
+from .words import MILLIMETRE, length_text
 
-RAY_LENGTH = 1_048_576
-FARTHEST = 16_384  # of a solid's numbers, and of a shift
+RAY_LENGTH = 1_048_576 * MILLIMETRE
+FARTHEST = 16_384 * MILLIMETRE  # of a solid's lengths, and of a shift
+MOST_OF_A_NORMAL = 16_384  # a plain number
 DIRECTIONS = {"+x": (1, 0, 0), "-x": (-1, 0, 0), "+y": (0, 1, 0), "-y": (0, -1, 0), "+z": (0, 0, 1), "-z": (0, 0, -1)}
 FACES = ((1, 2, 3, 4), (5, 6, 7, 8), (1, 2, 6, 5), (2, 3, 7, 6), (3, 4, 8, 7), (4, 1, 5, 8))
 
@@ -78,8 +80,12 @@ def placement_of(numbers):
     return Placement(turn, shift) if is_turn and is_near and rows[3] == (0, 0, 0, 1) else None
 
 
-def group(numbers):
-    return "{%s}" % " ".join(map(str, numbers))
+def group(numbers, text=str):
+    return "{%s}" % " ".join(map(text, numbers))
+
+
+def lengths(numbers):
+    return group(numbers, length_text)
 
 
 def held_inside(plane):
@@ -124,7 +130,7 @@ class Half:
         self.plane = Plane(normal, d)
 
     def written(self):
-        return f"half N {group(self.plane.normal)} d {self.plane.d}"
+        return f"half N {group(self.plane.normal)} d {length_text(self.plane.d)}"
 
     def planes(self, placement):
         normal = placement.turned(self.plane.normal)
@@ -150,7 +156,7 @@ class Sphere:
         self.centre, self.radius = centre, radius
 
     def written(self):
-        return f"sph V {group(self.centre)} r {self.radius}"
+        return f"sph V {lengths(self.centre)} r {length_text(self.radius)}"
 
     def box(self, placement):
         centre = placement.placed(self.centre)
@@ -188,7 +194,7 @@ class Arb8:
                 raise Refused(f"shape convex {face + 1}")
 
     def written(self):
-        return "arb8 " + " ".join(f"V{number} {group(vertex)}" for number, vertex in enumerate(self.vertices, 1))
+        return "arb8 " + " ".join(f"V{number} {lengths(vertex)}" for number, vertex in enumerate(self.vertices, 1))
 
     def planes(self, placement):
         """Of the faces 1 to 6, those that have a plane, and of 7 to 12, the sides of the box of the vertices."""

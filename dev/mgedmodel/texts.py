@@ -7,11 +7,13 @@ What is refused begins with the kind of its fault, and the kinds are looked for 
 from . import attributes
 from .directory import MOST_LEAVES, Comb
 from .refused import Refused, refuse_unless
-from .solids import FARTHEST, IDENTITY, Arb8, Half, Sphere, placement_of
+from .solids import FARTHEST, IDENTITY, MOST_OF_A_NORMAL, Arb8, Half, Sphere, placement_of
 from .trees import Leaf, Node, leaves_of, with_leaves
-from .words import atom, counts_as_atom, is_text, name, number, text_from
+from .words import MILLIMETRE, atom, counts_as_atom, is_text, length, name, number, text_from
 
 ANY_NUMBER = 999_999_999
+ANY_LENGTH = 999_999_999 * MILLIMETRE + 9
+SHIFTS = (3, 7, 11)  # the places, from 0, of the lengths among the numbers of a matrix
 AXES = ("A", "B", "C")
 OPERATORS = {b"u": "u", b"n": "+", b"+": "+", b"-": "-", b"^": "^"}
 
@@ -81,11 +83,16 @@ def read_solid(words, places, kind):
     texts = {key: numbers_as_texts(words[place - 1], counts[key]) for key, place in places.items()}
     refuse_unless(None not in texts.values(), "attr")
     owner = object_name(words, 2)
-    given = {key: [number(text, -FARTHEST, FARTHEST) for text in texts[key]] for key in texts}
+    given = {key: [number_of_key(key, text) for text in texts[key]] for key in texts}
     for key, place in places.items():
         fits = is_axis(given, key) if kind == "ell" and key in AXES else None not in given[key]
         refuse_unless(fits, f"number {place}")
     return owner, make(given)
+
+
+def number_of_key(key, text):
+    """A number of a solid's key, or None. All are lengths but those of a normal."""
+    return number(text, -MOST_OF_A_NORMAL, MOST_OF_A_NORMAL) if key == "N" else length(text, -FARTHEST, FARTHEST)
 
 
 def numbers_as_texts(word, count):
@@ -162,5 +169,11 @@ def placement_of_texts(texts):
     """The placement of sixteen texts, of none the identity; None where it is none."""
     if texts is None:
         return IDENTITY
-    numbers = [number(text, -ANY_NUMBER, ANY_NUMBER) for text in texts]
+    numbers = numbers_of_matrix(texts)
     return placement_of(numbers) if None not in numbers else None
+
+
+def numbers_of_matrix(texts):
+    """The numbers of sixteen texts, in the place of each that is none None. Those of the shift are lengths."""
+    read = lambda place, text: length(text, -ANY_LENGTH, ANY_LENGTH) if place in SHIFTS else number(text, -ANY_NUMBER, ANY_NUMBER)
+    return [read(place, text) for place, text in enumerate(texts)]

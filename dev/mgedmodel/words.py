@@ -1,4 +1,4 @@
-"""Lines as words, numbers, names and texts. A command of a model may have line feeds in its groups; a line of a script has none."""
+"""Lines as words, numbers, lengths, names and texts. A command of a model may have line feeds in its groups; a line of a script has none."""
 
 import re
 
@@ -10,6 +10,8 @@ NEVER = re.compile(rb"[\x00-\x08\x0b\x0c\x0e-\x1f\x7f\\]")
 NOT_OUTSIDE = re.compile(rb'["\[\]$;]')
 PIECE = re.compile(rb"(?P<blanks>[ \t\r\n]+)|(?P<open>\{)|(?P<close>\})|(?P<atom>[^ \t\r\n{}]+)")
 NUMBER = re.compile(rb"([+-]?)(?=[0-9])0*([0-9]{0,9})(?:\.0*)?")
+LENGTH = re.compile(rb"([+-]?)(?=[0-9])0*([0-9]{0,9})(?:\.(?:([0-9])0*)?)?")
+MILLIMETRE = 10  # tenths, which lengths count
 NAME = re.compile(rb"[A-Za-z0-9_][A-Za-z0-9_.-]{0,63}")
 
 
@@ -91,6 +93,22 @@ def number(text, least, most):
     return value if least <= value <= most else None
 
 
+def length(text, least, most):
+    """The length that a text is, in tenths of a millimetre, or None where it is none or not in its range. A length is a whole
+    number, or has one digit behind the point and then zeros."""
+    form = LENGTH.fullmatch(text)
+    if not form:
+        return None
+    value = int(form.group(1) + (form.group(2) or b"0") + (form.group(3) or b"0"))
+    return value if least <= value <= most else None
+
+
+def length_text(tenths):
+    """A length as it is written: a whole number of millimetres where it is one, else with a point and one digit."""
+    whole, tenth = divmod(abs(tenths), MILLIMETRE)
+    return "-" * (tenths < 0) + str(whole) + (f".{tenth}" if tenth else "")
+
+
 def name(text):
     """The name that a text is, or None."""
     return text.decode("ascii") if NAME.fullmatch(text) else None
@@ -104,9 +122,10 @@ def name_at(atoms, place):
     return found
 
 
-def number_at(atoms, place, most, least=None):
-    """The number that the word of this number is, from the least, else the most with the other sign, to the most."""
-    found = number(atoms[place - 1], -most if least is None else least, most)
+def number_at(atoms, place, most, least=None, read=number):
+    """The number that the word of this number is, from the least, else the most with the other sign, to the most. It is read
+    as a plain number, or as a length."""
+    found = read(atoms[place - 1], -most if least is None else least, most)
     if found is None:
         raise Refused(f"number {place}")
     return found

@@ -3,6 +3,7 @@
 from .directory import Comb
 from .solids import IDENTITY, group
 from .trees import fold
+from .words import length_text
 
 SPELLED = {"u": "u", "+": "n", "-": "-", "^": "^"}
 
@@ -50,4 +51,4 @@ def leaf_text(leaf):
     if leaf.placement == IDENTITY:
         return f"l {leaf.name}"
     rows = zip(leaf.placement.rows, leaf.placement.shift)
-    return f"l {leaf.name} " + group([entry for row, part in rows for entry in (*row, part)] + [0, 0, 0, 1])
+    return f"l {leaf.name} " + group([entry for row, part in rows for entry in (*row, length_text(part))] + [0, 0, 0, 1])

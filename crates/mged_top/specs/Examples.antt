@@ -67,7 +67,7 @@ faulty_command : course_of [] [] [] (codes "@3 kill\n") ≡ Runs no_objects (ent
 faulty_command = refl
 
 abbrev sphere : Parts
-sphere = record { body = bodies.Solid (solids.Sphere (record { centre = vector (pos 0) (pos 0) (pos 0); radius = pos 5 })); kept = [] }
+sphere = record { body = bodies.Solid (solids.Sphere (record { centre = vector (pos 0) (pos 0) (pos 0); radius = pos 50 })); kept = [] }
 
 abbrev one_sphere : Listing
 one_sphere = record { title = codes "a"; objects = (codes "s", sphere) ∷ [] }

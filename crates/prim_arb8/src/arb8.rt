@@ -60,7 +60,8 @@ impl Arb8 {
         }
     }
 
-    /// The box from the least to the greatest coordinates along each axis, in millimetres, or the fault of its vertices.
+    /// The box from the least to the greatest coordinates along each axis, in tenths of a millimetre, or the fault of its
+    /// vertices.
     /// Vertices 1 to 4 lie at `xmin`: (ymin, zmin), (ymax, zmin), (ymax, zmax), (ymin, zmax); 5 to 8 likewise at `xmax`.
     pub fn of_extents(
         xmin: i64,

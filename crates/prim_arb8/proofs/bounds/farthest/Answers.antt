@@ -1,4 +1,4 @@
-use Rattle.std.proofs.Common.{◌≡◌, ◌∙◌, sym, ap, subst, ◌+◌, ◌<◌, length, ℤ, pos, FitsSigned, w64, rules, arith, lit<, take, fold}
+use Rattle.std.proofs.Common.{◌≡◌, ◌∙◌, sym, ap, subst, ◌+◌, ◌<◌, length, ℤ, FitsSigned, w64, rules, arith, lit<, take, fold}
 use Rattle.std.specs.Int.{int_max}
 use Rattle.std.proofs.lemmas.Int.{to_z-of_z}
 use Rattle.std.proofs.lemmas.List.Sums.{fold_more}
@@ -10,6 +10,7 @@ use Rattle.prim_arb8.specs.Faces.{vertex_at}
 use Rattle.prim_arb8.proofs.Reach.{max_size}
 use Rattle.plane_geom.proofs.Sizes.{fits64}
 use Rattle.prim_arb8.specs.Bounds.{reach_of}
+use Rattle.lattice_core.specs.declared.limit.TheConstants.{PLACED}
 use Rattle.prim_arb8.proofs.bounds.farthest.Goals as goal
 
 pub loop-p-preserved : goal.loop-p-preserved
@@ -20,7 +21,7 @@ loop-p-preserved c =
     let r = c.placed_reach.result in
     let start : ℤ = reach_of c.args.by.now c.args.dir (vertex_at v 1) in
     let f : ℤ → V3 → ℤ = λ m p. int_max m (reach_of c.args.by.now c.args.dir p) in
-    let fr : FitsSigned w64 c.placed_reach.result = fits64 278528 r (lit< tt) c.placed_reach.ensures.size in
+    let fr : FitsSigned w64 c.placed_reach.result = fits64 PLACED r (lit< tt) c.placed_reach.ensures.size in
     let fx : FitsSigned w64 c.max-most.result = search rules in
     let e = simp to_z-of_z at c.max-most.ensures.value in
     let within : c.loop-p.p-index < length c.args.v.now = omega arith in
@@ -31,7 +32,7 @@ loop-p-preserved c =
     ∙ sym (fold_more f start v i zero_vector within) in
     record {
       value = simp to_z-of_z chain;
-      size = simp to_z-of_z (subst (IsAtMost (pos 278528)) (sym e) (max_size (pos 278528) _ r c.loop-p.invariant.size c.placed_reach.ensures.size));
+      size = simp to_z-of_z (subst (IsAtMost PLACED) (sym e) (max_size PLACED _ r c.loop-p.invariant.size c.placed_reach.ensures.size));
     }
 
 pub placed_reach-requires-clause-point : goal.placed_reach-requires-clause-point

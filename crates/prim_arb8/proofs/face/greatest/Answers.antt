@@ -1,6 +1,5 @@
 use Rattle.std.proofs.Common.{◌≡◌, ◌∙◌, sym, ap, subst, ◌+◌, ◌<◌, length, ℤ, FitsSigned, w64, rules, arith, lit<, take, fold}
 use Rattle.std.specs.Int.{int_max}
-use Rattle.std.specs.Int.RustNames.{unsigned_abs}
 use Rattle.std.proofs.lemmas.Int.{to_z-of_z}
 use Rattle.std.proofs.lemmas.List.Sums.{fold_more}
 use Rattle.lattice_core.specs.declared.vector.V3.{V3}
@@ -22,7 +21,7 @@ loop-p-preserved c =
     let start : ℤ = dot_product u (vertex_at v 1) in
     let f : ℤ → V3 → ℤ = λ m p. int_max m (dot_product u p) in
     let within : c.loop-p.p-index < length c.args.v.now = omega arith in
-    let fr : FitsSigned w64 c.along.result = fits64 (unsigned_abs COORD) r (lit< tt) (c.along.ensures.size COORD (c.requires c.loop-p.p-index zero_vector within)) in
+    let fr : FitsSigned w64 c.along.result = fits64 COORD r (lit< tt) (c.along.ensures.size COORD (c.requires c.loop-p.p-index zero_vector within)) in
     let fx : FitsSigned w64 c.max-most.result = search rules in
     let e = simp to_z-of_z at c.max-most.ensures.value in
     let chain : c.max-most.result ≡ fold f start (take (i + 1) v) =

@@ -1,4 +1,4 @@
-use Rattle.std.proofs.Common.{◌≡◌, ◌∙◌, ap, subst, sym, List, Option}
+use Rattle.std.proofs.Common.{◌∙◌, ap, subst, sym, List, Option}
 use Rattle.lattice_core.specs.declared.vector.V3.{V3}
 use Rattle.plane_geom.specs.declared.plane.Plane.{Plane}
 use Rattle.prim_arb8.specs.Solids.{EightVertices}

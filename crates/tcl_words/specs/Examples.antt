@@ -5,7 +5,7 @@ use Rattle.tcl_words.specs.Reading.{words_of}
 use Rattle.tcl_words.specs.Tokens.{token, tokens_of}
 use Rattle.tcl_words.specs.TopWords.{top_words, atom_of, raw_of}
 use Rattle.tcl_words.specs.Pieces.{written}
-use Rattle.tcl_words.specs.Numbers.{number_of}
+use Rattle.tcl_words.specs.Numbers.{number_of, tenths_of}
 use Rattle.tcl_words.specs.Faults.{fault_at}
 use Rattle.tcl_words.specs.declared.token.Kind.TheVariants.{Open, Close, Atom}
 use Rattle.tcl_words.specs.declared.fault.WordFault.TheVariants.{BadByte, Extra, Unclosed, TooDeep}
@@ -97,3 +97,39 @@ group_inside = refl
 
 pub empty_group : is_group_text [] ≡ true
 empty_group = refl
+
+pub half_below : tenths_of (codes "-0.5") ≡ Some (negsuc 4)
+half_below = refl
+
+pub a_point_alone : tenths_of (codes "1.") ≡ Some (pos 10)
+a_point_alone = refl
+
+pub a_tenth : tenths_of (codes "0.10") ≡ Some (pos 1)
+a_tenth = refl
+
+pub zeros_before_a_half : tenths_of (codes "000000000.5") ≡ Some (pos 5)
+zeros_before_a_half = refl
+
+pub minus_zero_tenths : tenths_of (codes "-0.0") ≡ Some (pos 0)
+minus_zero_tenths = refl
+
+pub a_length_without_a_point : tenths_of (codes "30") ≡ Some (pos 300)
+a_length_without_a_point = refl
+
+pub tenths_alone : tenths_of (codes ".5") ≡ None
+tenths_alone = refl
+
+pub an_exponent : tenths_of (codes "1e1") ≡ None
+an_exponent = refl
+
+pub two_decimals : tenths_of (codes "0.25") ≡ None
+two_decimals = refl
+
+pub a_late_decimal : tenths_of (codes "1.05") ≡ None
+a_late_decimal = refl
+
+pub nine_digits_and_a_tenth : tenths_of (codes "999999999.9") ≡ Some (pos 9999999999)
+nine_digits_and_a_tenth = refl
+
+pub ten_digits_and_a_tenth : tenths_of (codes "1000000000.0") ≡ None
+ten_digits_and_a_tenth = refl

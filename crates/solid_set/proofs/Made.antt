@@ -19,6 +19,7 @@ use Rattle.solid_set.specs.declared.solid.Solid.TheVariants as solids
 use Rattle.solid_set.specs.Rpps.{IsArb8Of}
 use Rattle.solid_set.specs.declared.surface.Surface.TheVariants.{Planes, HalfSpace, Ball}
 use Rattle.solid_set.specs.Surfaces.{IsBallSize, IsBallSized}
+use Rattle.lattice_core.specs.declared.limit.TheConstants.{COORD}
 
 pub one_side : (plane : Plane) → IsWorldPlane plane → All (λ (side : Option Plane). ForSome side IsWorldPlane) (Some plane ∷ [])
 one_side plane h zero d lt x e = let same : plane ≡ x = cc in subst IsWorldPlane same h
@@ -40,7 +41,7 @@ pub no_side : (c : V3) (r : ℤ) → All (λ (side : Option Plane). ForSome side
 no_side c r k d lt x e = absurd (omega arith)
 
 pub radius_fits : (r : ℤ) → IsRadius r → FitsSigned w64 r
-radius_fits r h = fits64 16384 r (lit< tt) (omega (arith, ints, h.some), h.size)
+radius_fits r h = fits64 COORD r (lit< tt) (omega (arith, ints, h.some), h.size)
 
 pub arb8_made : (r : Result EightVertices ShapeFault) (a : EightVertices) (v : List V3) → IsMadeOf r v → r ≡ Ok a → IsArb8Of (Ok (solids.Arb8 a)) v
 arb8_made r a v made is = subst (λ (x : Result EightVertices ShapeFault). IsMadeOf x v) is made

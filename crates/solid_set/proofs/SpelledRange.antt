@@ -1,5 +1,5 @@
 -- The one spelling of a position in range is in range.
-use Rattle.std.proofs.Common.{◌≡◌, ◌<◌, ◌≤◌, ◌*◌, ◌^◌, ◌==◌, ℕ, ℤ, pos, negsuc, int_div, ◌<ℤ◌, Bool, true, false, cond, refl, arith}
+use Rattle.std.proofs.Common.{◌≡◌, ◌<◌, ◌≤◌, ◌*◌, ◌==◌, ℕ, ℤ, pos, negsuc, int_div, ◌<ℤ◌, Bool, true, false, cond, refl, arith}
 use Rattle.std.proofs.lemmas.Int.{ints}
 use Rattle.std.proofs.lemmas.Nat.{mul-le}
 use Rattle.std.specs.Int.RustNames.{unsigned_abs}
@@ -13,6 +13,7 @@ use Rattle.wide_core.specs.Root.{root_of}
 use Rattle.std.proofs.lemmas.Bool.Decides.{nat_tests}
 use Rattle.std.proofs.lemmas.Bool.{cases_lt}
 use Rattle.std.proofs.Common.{inl, inr}
+use Rattle.surd_order.specs.declared.range.TheConstants.{OVER_LIMIT, UNDER_LIMIT, WHOLE_LIMIT, SQUARE_LIMIT}
 
 quotient_size : (z : ℤ) (d : ℕ) → unsigned_abs (int_div z (pos d)) ≤ unsigned_abs z
 quotient_size (pos n) d = omega (arith, ints)
@@ -26,16 +27,16 @@ divided_range : (p q : ℤ) (d : ℕ) → IsFractionInRange p q → pos 0 <ℤ i
 divided_range p q d h some = record {
   over = omega (arith, quotient_size p d, h.over);
   positive = some;
-  under = quotient_under q d (pos (2 ^ 33)) h.positive h.under;
+  under = quotient_under q d UNDER_LIMIT h.positive h.under;
 }
 
-root_small : (r k : ℕ) → r * r ≡ k → k < 2 ^ 32 → r < 2 ^ 16
-root_small r k e small = elim (cases_lt r (2 ^ 16)) [
+root_small : (r k : ℕ) → r * r ≡ k → k < SQUARE_LIMIT → r < SQUARE_LIMIT
+root_small r k e small = elim (cases_lt r SQUARE_LIMIT) [
   | inl lt ↦ lt
-  | inr ge ↦ absurd (let big : 2 ^ 16 * 2 ^ 16 ≤ r * r = mul-le (2 ^ 16) (2 ^ 16) r r ge ge in omega (arith, big, e, small))
+  | inr ge ↦ absurd (let big : SQUARE_LIMIT * SQUARE_LIMIT ≤ r * r = mul-le SQUARE_LIMIT SQUARE_LIMIT r r ge ge in omega (arith, big, e, small))
 ]
 
-beside_size : (a : ℤ) (plus : Bool) (r : ℕ) → unsigned_abs a < 2 ^ 24 → r < 2 ^ 16 → unsigned_abs (beside a plus r) < 2 ^ 57
+beside_size : (a : ℤ) (plus : Bool) (r : ℕ) → unsigned_abs a < WHOLE_LIMIT → r < SQUARE_LIMIT → unsigned_abs (beside a plus r) < OVER_LIMIT
 beside_size (pos a) true r h small = omega (arith, ints)
 beside_size (pos a) false r h small = omega (arith, ints)
 beside_size (negsuc a) true r h small = omega (arith, ints)

@@ -1,7 +1,10 @@
 //! Laws that join the two ways in which one rule stands: as a relation that readers know, and as what is computed.
 
-ghost use Rattle.std.specs.Prelude.{◌↔◌, ℤ, pos, ◌<ℤ◌};
+ghost use Rattle.std.specs.Prelude.{◌↔◌, ℤ, pos, ◌*ℤ◌, ◌<ℤ◌};
+ghost use Rattle.lattice_core.specs.declared.limit.TheConstants.{COORD};
 ghost use Rattle.lattice_core.specs.Rays.{IsOnRay};
+ghost use Rattle.plane_geom.specs.declared.limit.TheConstants.{GAP, NORMAL, REMOTE};
+ghost use Rattle.surd_order.specs.declared.range.TheConstants.{OVER_LIMIT, SQUARE_LIMIT, UNDER_LIMIT, WHOLE_LIMIT};
 ghost use Rattle.surd_order.specs.declared.position.Pos.{Pos};
 ghost use Rattle.solid_set.specs.Laws.{IsWithinRay};
 ghost use Rattle.solid_set.specs.Separation.{PlacesAreSeparated};
@@ -16,4 +19,13 @@ pub fn ray_laws()
 /// contract is the law.
 pub fn separation_law()
     ensures { PlacesAreSeparated }
+{}
+
+/// The greatest numbers of the crossings of planes and of the chords of spheres are below the limits under which positions
+/// are compared. This law is what refuses limits of lengths that are too large for that.
+pub fn limit_laws()
+    ensures over { GAP <ℤ pos OVER_LIMIT }
+    ensures under { NORMAL <ℤ UNDER_LIMIT }
+    ensures whole { REMOTE <ℤ pos WHOLE_LIMIT }
+    ensures square { (COORD *ℤ COORD) <ℤ pos SQUARE_LIMIT }
 {}

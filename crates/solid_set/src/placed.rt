@@ -35,7 +35,8 @@ impl Solid {
     ghost use Rattle.lattice_core.specs.declared.limit.TheConstants.{COORD};
     ghost use Rattle.solid_set.specs.Rpps.{rpp_vertices, IsArb8Of};
 
-    /// The box from the least to the greatest coordinates along each axis, in millimetres, or the fault of its vertices.
+    /// The box from the least to the greatest coordinates along each axis, in tenths of a millimetre, or the fault of its
+    /// vertices.
     /// Vertices 1 to 4 lie at `xmin`: (ymin, zmin), (ymax, zmin), (ymax, zmax), (ymin, zmax); 5 to 8 likewise at `xmax`.
     pub fn rpp(
         xmin: i64,

@@ -11,6 +11,6 @@ pub enum Surface {
     Planes([Option<Plane>; 12]),
     /// The plane of the one face of a half-space.
     HalfSpace(Plane),
-    /// The centre and the radius of a sphere, in millimetres. Its one face has number 1.
+    /// The centre and the radius of a sphere, in tenths of a millimetre. Its one face has number 1.
     Ball { centre: V3, radius: i64 },
 }

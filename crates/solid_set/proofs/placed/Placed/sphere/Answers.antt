@@ -1,4 +1,4 @@
-use Rattle.std.proofs.Common.{◌≡◌, ◌∙◌, ap, ℤ, sym, subst, refl, FitsSigned, w64, pos, arith, lit<}
+use Rattle.std.proofs.Common.{◌≡◌, ◌∙◌, ap, ℤ, sym, subst, refl, FitsSigned, w64, arith, lit<}
 use Rattle.std.proofs.lemmas.Int.{to_z-of_z, ints}
 use mir.Val.{to_z, of_z}
 use Rattle.lattice_core.specs.declared.vector.V3.{V3}
@@ -10,6 +10,7 @@ use Rattle.solid_set.specs.declared.solid.Solid.TheVariants as solids
 use Rattle.solid_set.specs.declared.surface.Surface.TheVariants.{Ball}
 use Rattle.solid_set.specs.Surfaces.{IsBallSize}
 use Rattle.solid_set.proofs.Made.{ball_sized, no_side}
+use Rattle.lattice_core.specs.declared.limit.TheConstants.{COORD}
 use Rattle.solid_set.proofs.placed.Placed.sphere.Goals as goal
 
 centre_is : (c : goal.After-bounds_at) → c.placed-centre.result ≡ placed c.args.by.now c.args.sphere.now.centre
@@ -17,8 +18,8 @@ centre_is c = c.placed-centre.ensures.value
 
 radius_back : (c : goal.After-bounds_at) → to_z w64 (of_z w64 c.radius-radius.result) ≡ c.radius-radius.result
 radius_back c =
-    let size : IsAtMost (pos 16384) c.radius-radius.result = (omega (arith, ints, c.radius-radius.ensures.size.some), c.radius-radius.ensures.size.size) in
-    let fr : FitsSigned w64 c.radius-radius.result = fits64 16384 c.radius-radius.result (lit< tt) size in
+    let size : IsAtMost COORD c.radius-radius.result = (omega (arith, ints, c.radius-radius.ensures.size.some), c.radius-radius.ensures.size.size) in
+    let fr : FitsSigned w64 c.radius-radius.result = fits64 COORD c.radius-radius.result (lit< tt) size in
     simp to_z-of_z refl
 
 radius_is : (c : goal.After-bounds_at) → to_z w64 (of_z w64 c.radius-radius.result) ≡ c.args.sphere.now.radius
@@ -53,16 +54,16 @@ invariant_of-result c =
 
 pub returns-clause-bounds : goal.returns-clause-bounds
 returns-clause-bounds c =
-    let size : IsAtMost (pos 16384) c.radius-radius.result = (omega (arith, ints, c.radius-radius.ensures.size.some), c.radius-radius.ensures.size.size) in
-    let fr : FitsSigned w64 c.radius-radius.result = fits64 16384 c.radius-radius.result (lit< tt) size in
+    let size : IsAtMost COORD c.radius-radius.result = (omega (arith, ints, c.radius-radius.ensures.size.some), c.radius-radius.ensures.size.size) in
+    let fr : FitsSigned w64 c.radius-radius.result = fits64 COORD c.radius-radius.result (lit< tt) size in
     simp to_z-of_z at c.bounds_at.ensures.value
     ∙ ap (λ (z : ℤ). box_of c.placed-centre.result z) c.radius-radius.ensures.value
     ∙ ap (λ (v : V3). box_of v c.args.sphere.now.radius) (c.placed-centre.ensures.value)
 
 pub returns-clause-holds : goal.returns-clause-holds
 returns-clause-holds c =
-    let size : IsAtMost (pos 16384) c.radius-radius.result = (omega (arith, ints, c.radius-radius.ensures.size.some), c.radius-radius.ensures.size.size) in
-    let fr : FitsSigned w64 c.radius-radius.result = fits64 16384 c.radius-radius.result (lit< tt) size in
+    let size : IsAtMost COORD c.radius-radius.result = (omega (arith, ints, c.radius-radius.ensures.size.some), c.radius-radius.ensures.size.size) in
+    let fr : FitsSigned w64 c.radius-radius.result = fits64 COORD c.radius-radius.result (lit< tt) size in
     let held = simp to_z-of_z at c.bounds_at.ensures.holds in
     subst (λ (v : V3). HoldsPointsOf v c.args.sphere.now.radius c.bounds_at.result) (c.placed-centre.ensures.value)
     (subst (λ (z : ℤ). HoldsPointsOf c.placed-centre.result z c.bounds_at.result) c.radius-radius.ensures.value held)

@@ -15,9 +15,11 @@ pub record IsRadius (radius : ℤ) : Type 0 where
   pub some : pos 1 ≤ℤ radius
   pub size : radius ≤ℤ COORD
 
+-- the square of a number
 abbrev pub squared : ℤ → ℤ
 squared z = z *ℤ z
 
+-- the square of the length of a vector
 abbrev pub length_squared : V3 → ℤ
 length_squared v = dot_product v v
 

@@ -54,6 +54,7 @@ pub record IsThrough (plane : Plane) (a b c : V3) : Type 0 where
 abbrev pub is_zero_vector : V3 → Bool
 is_zero_vector v = int_eq v.x (pos 0) && (int_eq v.y (pos 0) && int_eq v.z (pos 0))
 
+-- the plane with a normal through a point
 abbrev pub plane_of : V3 → V3 → Plane
 plane_of n p = record { n = n; d = dot_product n p }
 

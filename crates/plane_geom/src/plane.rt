@@ -1,9 +1,7 @@
 //! Planes: made, placed, crossed by rays, and lit. The rule for a ray that lies in a plane stands here.
 
-ghost use Rattle.std.specs.Prelude.{◌≡◌, ◌≢◌, ◌↔◌, ◌<◌, ◌^◌, pos, IsNone, IfSome, IsTrue};
-ghost use Rattle.lattice_core.specs.declared.limit.TheConstants.{COORD, SHIFT, WORLD};
-ghost use Rattle.lattice_core.specs.Limits.{IsAtMost, IsWithin};
-ghost use Rattle.plane_geom.specs.Edges.{FirstIsNegative, HoldsAlong};
+ghost use Rattle.std.specs.Prelude.{◌↔◌, IsTrue};
+ghost use Rattle.plane_geom.specs.Edges.{FirstIsNegative};
 
 use crate::measure::{cross, dot, from_to, high_dot, square, square_of_length};
 use lattice_core::{Placement, Ray, V3};
@@ -29,8 +27,8 @@ pub enum Crossing {
 }
 
 impl Plane {
-    ghost use Rattle.std.specs.Prelude.{◌≡◌, ◌≢◌, ◌↔◌, ◌-ℤ◌, ◌+ℤ◌, ◌*ℤ◌, pos, IsNone, IfSome, IsTrue};
-    ghost use Rattle.lattice_core.specs.declared.limit.TheConstants.{COORD, SHIFT, WORLD, FAR};
+    ghost use Rattle.std.specs.Prelude.{◌≡◌, ◌≢◌, ◌↔◌, ◌-ℤ◌, ◌*ℤ◌, pos, IsNone, IfSome, IsTrue};
+    ghost use Rattle.lattice_core.specs.declared.limit.TheConstants.{COORD, SHIFT, WORLD};
     ghost use Rattle.plane_geom.specs.declared.limit.TheConstants.{NORMAL, GAP};
     ghost use Rattle.lattice_core.specs.Limits.{IsAtMost, IsWithin};
     ghost use Rattle.plane_geom.specs.Crossings.{crossing_of};

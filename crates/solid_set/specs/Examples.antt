@@ -1,5 +1,6 @@
 -- Segments of simple surfaces, proved by computation.
 use Rattle.std.specs.Prelude.{◌≡◌, refl, true, false, ℤ, pos, negsuc, Some, None, [], ◌∷◌}
+use Rattle.lattice_core.specs.declared.limit.TheConstants.{FAR}
 use Rattle.lattice_core.specs.declared.ray.Ray.{Ray}
 use Rattle.lattice_core.specs.declared.ray.Dir.{Dir}
 use Rattle.lattice_core.specs.declared.ray.Dir.TheVariants.{PlusX, MinusX}
@@ -30,7 +31,7 @@ away_from_a_half_space = refl
 
 -- a start that is also a crossing has its face
 from_the_edge : segment_of (HalfSpace (plane (negsuc 0) (pos 0) (pos 0) (pos 0))) (ray_from (pos 0) (pos 0) (pos 0) PlusX)
-    ≡ Some (record { start = Frac (pos 0) (pos 1); start_face = 1; end = Frac (pos 10485760) (pos 1); end_face = 0 })
+    ≡ Some (record { start = Frac (pos 0) (pos 1); start_face = 1; end = Frac FAR (pos 1); end_face = 0 })
 unfolding place_cmp
 from_the_edge = refl
 
@@ -63,17 +64,17 @@ level_of_no_face = refl
 
 -- of two planes only the one that is crossed has a place, also where it is crossed before the ray begins
 places_of_planes : hit_places (Planes (None ∷ Some (plane (pos 0) (pos 1) (pos 0) (pos 9)) ∷ Some (plane (negsuc 1) (pos 0) (pos 0) (pos 6)) ∷ [])) (ray_from (pos 2) (pos 0) (pos 0) PlusX)
-    ≡ Frac (pos 0) (pos 1) ∷ Frac (pos 10485760) (pos 1) ∷ Frac (negsuc 9) (pos 2) ∷ []
+    ≡ Frac (pos 0) (pos 1) ∷ Frac FAR (pos 1) ∷ Frac (negsuc 9) (pos 2) ∷ []
 places_of_planes = refl
 
 places_of_a_ball : hit_places (Ball zero_vector (pos 5)) (ray_from (negsuc 9) (pos 1) (pos 1) PlusX)
-    ≡ Frac (pos 0) (pos 1) ∷ Frac (pos 10485760) (pos 1) ∷ Surd (pos 10) false 23 ∷ Surd (pos 10) true 23 ∷ []
+    ≡ Frac (pos 0) (pos 1) ∷ Frac FAR (pos 1) ∷ Surd (pos 10) false 23 ∷ Surd (pos 10) true 23 ∷ []
 places_of_a_ball = refl
 
 -- a ball that is touched has no segment, but a place where it is touched
 places_of_a_touched_ball : hit_places (Ball zero_vector (pos 5)) (ray_from (negsuc 9) (pos 5) (pos 0) PlusX)
-    ≡ Frac (pos 0) (pos 1) ∷ Frac (pos 10485760) (pos 1) ∷ Surd (pos 10) false 0 ∷ Surd (pos 10) true 0 ∷ []
+    ≡ Frac (pos 0) (pos 1) ∷ Frac FAR (pos 1) ∷ Surd (pos 10) false 0 ∷ Surd (pos 10) true 0 ∷ []
 places_of_a_touched_ball = refl
 
-places_of_a_missed_ball : hit_places (Ball zero_vector (pos 5)) (ray_from (negsuc 9) (pos 6) (pos 0) PlusX) ≡ Frac (pos 0) (pos 1) ∷ Frac (pos 10485760) (pos 1) ∷ []
+places_of_a_missed_ball : hit_places (Ball zero_vector (pos 5)) (ray_from (negsuc 9) (pos 6) (pos 0) PlusX) ≡ Frac (pos 0) (pos 1) ∷ Frac FAR (pos 1) ∷ []
 places_of_a_missed_ball = refl

@@ -27,8 +27,8 @@ root_of_a_square_taken_away = refl
 root_of_no_square : spelled (Surd (pos 10) false 23) ≡ Surd (pos 10) false 23
 root_of_no_square = refl
 
-end_of_a_ray : spelled (Frac (pos 10485760) (pos 1)) ≡ Frac (pos 10485760) (pos 1)
-end_of_a_ray = refl
+whole_number : spelled (Frac (pos 1000) (pos 1)) ≡ Frac (pos 1000) (pos 1)
+whole_number = refl
 
 -- 5.2 and 5.204..
 fraction_just_before_a_root : place_cmp (Frac (pos 26) (pos 5)) (Surd (pos 10) false 23) ≡ Less

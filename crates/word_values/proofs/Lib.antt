@@ -1,4 +1,5 @@
 pub mod AtomLaws
+pub mod KindLaws
 pub mod SolidLaws
 pub mod MatrixLaws
 pub mod TokenLaws

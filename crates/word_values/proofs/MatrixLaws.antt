@@ -75,10 +75,10 @@ turn_here : (turn : Turn) → turn_numbered (Some turn.number) ≡ Some turn
 turn_here turn = turn_if_is turn.number (nat_lt turn.number 48) refl turn refl
 
 near_component : (c : ℤ) → IsAtMost COORD c → is_near_number c ≡ true
-near_component c h = le-leb (unsigned_abs c) 16384 (omega (arith, ints, h.0, h.1))
+near_component c h = le-leb (unsigned_abs c) (unsigned_abs COORD) (omega (arith, ints, h.0, h.1))
 
 component_near : (c : ℤ) → is_near_number c ≡ true → IsAtMost COORD c
-component_near c h = let small : unsigned_abs c ≤ 16384 = leb-true (unsigned_abs c) 16384 h in (omega (arith, ints, small), omega (arith, ints, small))
+component_near c h = let small : unsigned_abs c ≤ unsigned_abs COORD = leb-true (unsigned_abs c) (unsigned_abs COORD) h in (omega (arith, ints, small), omega (arith, ints, small))
 
 both : (a b : Bool) → a ≡ true → b ≡ true → (a && b) ≡ true
 both a b p q = cc

@@ -1,5 +1,5 @@
 -- What the words that are still to be read add to what was read.
-use Rattle.std.proofs.Common.{◌≡◌, ◌∙◌, ◌+◌, ◌==◌, ℕ, ℤ, suc, Bool, true, false, cond, List, [], ◌∷◌, ◌++◌, length, map, Option, Some, None, refl, ap, sym, arith, append_assoc, append-nil, length-append, zero-add, nat_lt}
+use Rattle.std.proofs.Common.{◌≡◌, ◌∙◌, ◌+◌, ◌==◌, ℕ, ℤ, suc, Bool, true, false, cond, List, [], ◌∷◌, ◌++◌, length, Option, Some, None, refl, ap, sym, arith, append_assoc, append-nil, length-append, zero-add, nat_lt}
 use Rattle.std.specs.Option.{option_map}
 use Rattle.std.specs.Result.{result_ok}
 use Rattle.std.proofs.lemmas.Bool.{ltb-false, ne_eqb}
@@ -10,7 +10,8 @@ use Rattle.tree_forms.specs.Stacks.{and_then}
 use Rattle.tree_forms.specs.Trees.{Tree, postfix}
 use Rattle.tcl_words.specs.declared.token.Kind.{Kind}
 use Rattle.tcl_words.specs.declared.token.Kind.TheVariants as kinds
-use Rattle.word_values.specs.Atoms.{view_number}
+use Rattle.word_values.specs.Kinds.{number_as, kind_at, numbers_from, numbers_as}
+use Rattle.word_values.specs.declared.atoms.NumberList.TheVariants as lists
 use Rattle.word_values.specs.Groups.{Words, End, Atom, Group, atoms_of, with_token, innermost}
 use Rattle.word_values.specs.Matrices.{identity, placement_read}
 use Rattle.word_values.specs.Trees.{Given, is_leaf_word, operator_of, first_atom, given, given_if, leaf_after, joined_by, node_of, tree_in}
@@ -40,9 +41,13 @@ resume ns (sides.Right op ∷ ss) (w ∷ ws) = None
 abbrev pub after_node : List GivenNode → List Side → List Words → Option (Tree Given) → Option (List GivenNode)
 after_node ns ss ws node = and_then (λ t. resume (ns ++ written t) ss ws) node
 
+-- an atom as the number behind these
+abbrev pub one_behind : List (Option ℤ) → List ℕ → Option ℤ
+one_behind numbers atom = number_as (kind_at lists.Matrix (length numbers)) atom
+
 -- behind a matrix, of which these numbers and these atoms were left
 abbrev pub matrix_ends : List GivenNode → List Side → Option Name → List (Option ℤ) → Words → List Words → List (List ℕ) → Option (List GivenNode)
-matrix_ends ns ss name numbers End ws atoms = cond (length numbers + length atoms == 16) (resume (ns ++ nodes.Leaf name (placement_read (numbers ++ map view_number atoms)) ∷ []) ss ws) None
+matrix_ends ns ss name numbers End ws atoms = cond (length numbers + length atoms == 16) (resume (ns ++ nodes.Leaf name (placement_read (numbers ++ numbers_from lists.Matrix (length numbers) atoms)) ∷ []) ss ws) None
 matrix_ends ns ss name numbers (Atom atom rest) ws atoms = None
 matrix_ends ns ss name numbers (Group inner rest) ws atoms = None
 
@@ -266,7 +271,7 @@ matrix_given : (o : Option (List (List ℕ))) (atom : List ℕ) (ns : List Given
 matrix_given None atom ns ss ws = refl
 matrix_given (Some atoms) atom ns ss ws =
     then_if (λ t. resume (ns ++ written t) ss ws) (length atoms == 16) (given atom (Some atoms))
-    ∙ ap (λ (n : ℕ). cond (n == 16) (resume (ns ++ nodes.Leaf (result_ok (read_name atom)) (placement_read (map view_number atoms)) ∷ []) ss ws) None) (sym (zero-add (length atoms)))
+    ∙ ap (λ (n : ℕ). cond (n == 16) (resume (ns ++ nodes.Leaf (result_ok (read_name atom)) (placement_read (numbers_as lists.Matrix atoms)) ∷ []) ss ws) None) (sym (zero-add (length atoms)))
 
 named : (atom : List ℕ) (ns : List GivenNode) (ss : List Side) (name : Option Name) (numbers : List (Option ℤ)) (w : Words) (ws : List Words)
     → after_node ns ss ws (leaf_after (Some (atom, w))) ≡ plain places.Matrix ns ss (result_ok (read_name atom)) numbers (w ∷ ws)
@@ -284,22 +289,27 @@ nested false t x = refl
 one_more : (xs : List (Option ℤ)) (x : Option ℤ) (k : ℕ) → (length xs + 1) + k ≡ length (xs ++ x ∷ []) + k
 one_more xs x k = let more = length-append xs (x ∷ []) in omega (arith, more)
 
+one_moved : (xs : List (Option ℤ)) (x : Option ℤ) (atoms : List (List ℕ)) → xs ++ (x ∷ numbers_from lists.Matrix (length xs + 1) atoms) ≡ (xs ++ x ∷ []) ++ numbers_from lists.Matrix (length (xs ++ x ∷ [])) atoms
+one_moved xs x atoms =
+    sym (append_assoc xs (x ∷ []) (numbers_from lists.Matrix (length xs + 1) atoms))
+    ∙ ap (λ (n : ℕ). (xs ++ x ∷ []) ++ numbers_from lists.Matrix n atoms) (sym (length-append xs (x ∷ [])))
+
 one_number : (b : Bool) (ns : List GivenNode) (ss : List Side) (name : Option Name) (numbers : List (Option ℤ)) (atom : List ℕ) (v : Words) (ws : List Words) (atoms : List (List ℕ))
     → nat_lt (length numbers) 16 ≡ b
-    → matrix_ends ns ss name numbers v ws (atom ∷ atoms) ≡ cond b (matrix_ends ns ss name (numbers ++ view_number atom ∷ []) v ws atoms) None
+    → matrix_ends ns ss name numbers v ws (atom ∷ atoms) ≡ cond b (matrix_ends ns ss name (numbers ++ one_behind numbers atom ∷ []) v ws atoms) None
 one_number b ns ss name numbers atom End ws atoms e =
-    let rest : Option (List GivenNode) = resume (ns ++ nodes.Leaf name (placement_read (numbers ++ view_number atom ∷ map view_number atoms)) ∷ []) ss ws in
+    let rest : Option (List GivenNode) = resume (ns ++ nodes.Leaf name (placement_read (numbers ++ numbers_from lists.Matrix (length numbers) (atom ∷ atoms))) ∷ []) ss ws in
     ap (λ (t : Bool). cond t rest None) (test_same b (length numbers) (length atoms) e)
     ∙ nested b ((length numbers + 1) + length atoms == 16) rest
-    ∙ ap (λ (n : ℕ). cond b (cond (n == 16) rest None) None) (one_more numbers (view_number atom) (length atoms))
-    ∙ ap (λ (all : List (Option ℤ)). cond b (cond (length (numbers ++ view_number atom ∷ []) + length atoms == 16) (resume (ns ++ nodes.Leaf name (placement_read all) ∷ []) ss ws) None) None)
-    (sym (append_assoc numbers (view_number atom ∷ []) (map view_number atoms)))
+    ∙ ap (λ (n : ℕ). cond b (cond (n == 16) rest None) None) (one_more numbers (one_behind numbers atom) (length atoms))
+    ∙ ap (λ (all : List (Option ℤ)). cond b (cond (length (numbers ++ one_behind numbers atom ∷ []) + length atoms == 16) (resume (ns ++ nodes.Leaf name (placement_read all) ∷ []) ss ws) None) None)
+    (one_moved numbers (one_behind numbers atom) atoms)
 one_number b ns ss name numbers atom (Atom other rest) ws atoms e = sym (both_none b)
 one_number b ns ss name numbers atom (Group inner rest) ws atoms e = sym (both_none b)
 
 numbered : (o : Option (List (List ℕ))) (ns : List GivenNode) (ss : List Side) (name : Option Name) (numbers : List (Option ℤ)) (atom : List ℕ) (v : Words) (ws : List Words)
     → and_then (matrix_ends ns ss name numbers v ws) (option_map (λ atoms. atom ∷ atoms) o)
-    ≡ cond (nat_lt (length numbers) 16) (and_then (matrix_ends ns ss name (numbers ++ view_number atom ∷ []) v ws) o) None
+    ≡ cond (nat_lt (length numbers) 16) (and_then (matrix_ends ns ss name (numbers ++ one_behind numbers atom ∷ []) v ws) o) None
 numbered None ns ss name numbers atom v ws = sym (both_none (nat_lt (length numbers) 16))
 numbered (Some atoms) ns ss name numbers atom v ws = one_number (nat_lt (length numbers) 16) ns ss name numbers atom v ws atoms refl
 
@@ -312,10 +322,10 @@ atom_read (places.Group side) ns ss name numbers l atom w ws = refl
 atom_read places.Matrix ns ss name numbers l atom w ws = refl
 atom_read places.End ns ss name numbers l atom w ws = refl
 atom_read places.Number ns ss name numbers l atom w [] =
-    sym (then_if (λ t. plain_of t (w ∷ [])) (nat_lt (length numbers) 16) (st ns ss name (numbers ++ view_number atom ∷ []) places.Number l) ∙ both_none (nat_lt (length numbers) 16))
+    sym (then_if (λ t. plain_of t (w ∷ [])) (nat_lt (length numbers) 16) (st ns ss name (numbers ++ one_behind numbers atom ∷ []) places.Number l) ∙ both_none (nat_lt (length numbers) 16))
 atom_read places.Number ns ss name numbers l atom w (v ∷ ws) =
     numbered (atoms_of w) ns ss name numbers atom v ws
-    ∙ sym (then_if (λ t. plain_of t (w ∷ v ∷ ws)) (nat_lt (length numbers) 16) (st ns ss name (numbers ++ view_number atom ∷ []) places.Number l))
+    ∙ sym (then_if (λ t. plain_of t (w ∷ v ∷ ws)) (nat_lt (length numbers) 16) (st ns ss name (numbers ++ one_behind numbers atom ∷ []) places.Number l))
 
 -- an atom leaves open what is open
 kept_if : {X Y : Type 0} (f g : X → Option Y) (b : Bool) (x : X) → f x ≡ g x → and_then f (cond b (Some x) None) ≡ and_then g (cond b (Some x) None)
@@ -329,7 +339,7 @@ kept_mapped f g h (Some w) e = e w
 kept : {Y : Type 0} (p : Place) (s : State) (atom : List ℕ) (f g : State → Option Y) → ((t : State) → t.lone ≡ s.lone → f t ≡ g t) → and_then f (atom_at p s atom) ≡ and_then g (atom_at p s atom)
 kept places.Node s atom f g e = kept_mapped f g (λ place. record s { place = place }) (first_word atom) (λ place. e (record s { place = place }) refl)
 kept places.Name s atom f g e = e (record s { name = result_ok (read_name atom); place = places.Matrix }) refl
-kept places.Number s atom f g e = kept_if f g (nat_lt (length s.numbers) 16) (record s { numbers = s.numbers ++ view_number atom ∷ [] }) (e (record s { numbers = s.numbers ++ view_number atom ∷ [] }) refl)
+kept places.Number s atom f g e = kept_if f g (nat_lt (length s.numbers) 16) (record s { numbers = s.numbers ++ one_behind s.numbers atom ∷ [] }) (e (record s { numbers = s.numbers ++ one_behind s.numbers atom ∷ [] }) refl)
 kept (places.Group side) s atom f g e = refl
 kept places.Matrix s atom f g e = refl
 kept places.End s atom f g e = refl

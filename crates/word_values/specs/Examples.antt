@@ -1,12 +1,16 @@
--- Small texts of trees, and what the definitions make of them, each proved by computing.
-use Rattle.std.specs.Prelude.{◌≡◌, refl, ℕ, List, None, Some, Result, Ok, Err, codes}
+-- Numbers of each kind and small texts of trees, and what the definitions make of them, each proved by computing.
+use Rattle.std.specs.Prelude.{◌≡◌, refl, ℕ, pos, List, [], ◌∷◌, None, Some, Result, Ok, Err, codes}
+use Rattle.lattice_core.specs.declared.limit.TheConstants.{COORD, HALF_NORMAL}
 use Rattle.tree_forms.specs.declared.Op.TheVariants.{U, N, Minus, X}
 use Rattle.tree_forms.specs.Trees.{Tree, Leaf, Join}
 use Rattle.comb_tree.specs.Nodes.{Comb, Member}
 use Rattle.tcl_words.specs.Tokens.{tokens_of}
 use Rattle.word_values.specs.Groups.{Words, End, Atom, Group, words_of_tokens}
+use Rattle.word_values.specs.Kinds.{number_as, numbers_as, coordinate_kind, normal_kind}
 use Rattle.word_values.specs.Matrices.{identity}
 use Rattle.word_values.specs.Trees.{tree_of}
+use Rattle.word_values.specs.declared.atoms.NumberList.TheVariants as lists
+use Rattle.word_values.specs.declared.solid.SolidKind.TheVariants as solids
 use Rattle.word_values.specs.declared.tree.TreeFault.{TreeFault}
 use Rattle.word_values.specs.declared.tree.TreeFault.TheVariants.{Form, Name, Number}
 
@@ -18,6 +22,22 @@ tree text = tree_of (words text)
 
 abbrev member : List ℕ → Tree Member
 member name = Leaf (record { name = name; placement = identity })
+
+longest_coordinate : number_as coordinate_kind (codes "16384.0") ≡ Some COORD
+longest_coordinate = refl
+
+coordinate_over_by_a_tenth : number_as coordinate_kind (codes "-16384.1") ≡ None
+coordinate_over_by_a_tenth = refl
+
+largest_of_a_normal : number_as normal_kind (codes "16384") ≡ Some HALF_NORMAL
+largest_of_a_normal = refl
+
+normal_over_by_one : number_as normal_kind (codes "16385") ≡ None
+normal_over_by_one = refl
+
+-- the normal of a half-space is whole numbers, its distance a length
+half_numbers : numbers_as (lists.Solid solids.Half) (codes "1" ∷ codes "0" ∷ codes "0.5" ∷ codes "0.5" ∷ []) ≡ Some (pos 1) ∷ Some (pos 0) ∷ None ∷ Some (pos 5) ∷ []
+half_numbers = refl
 
 groups_in_groups : words (codes "a {b {c} } d") ≡ Atom (codes "a") (Group (Atom (codes "b") (Group (Atom (codes "c") End) End)) (Atom (codes "d") End))
 groups_in_groups = refl
@@ -58,6 +78,13 @@ a_matrix = refl
 -- two groups after `l`: the first is a name
 a_grouped_name : tree (codes "l {b} {1 0 0 0 0 1 0 0 0 0 1 0 0 0 0 1}") ≡ Ok (Some (member (codes "b")))
 a_grouped_name = refl
+
+-- the shift of a matrix is lengths
+a_shift : tree (codes "l b {1 0 0 0.5 0 1 0 30 0 0 1 16384 0 0 0 1}") ≡ Ok (Some (Leaf (record { name = codes "b"; placement = record identity { shift = record { x = pos 5; y = pos 300; z = COORD } } })))
+a_shift = refl
+
+no_tenths_in_a_turn : tree (codes "l b {1 0 0 0 0 1 0 0 0 0 1 0 0 0 0.5 1}") ≡ Err Number
+no_tenths_in_a_turn = refl
 
 fifteen_numbers : tree (codes "l b {1 0 0 0 0 1 0 0 0 0 1 0 0 0 0}") ≡ Err Form
 fifteen_numbers = refl

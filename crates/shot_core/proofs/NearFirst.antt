@@ -1,13 +1,13 @@
 -- Numbers of regions sorted by where their boxes begin.
-use Rattle.std.proofs.Common.{◌≡◌, ◌<◌, ◌≤◌, ◌+◌, ◌-◌, ◌⊎◌, ◌<ℤ◌, ℕ, zero, suc, ℤ, List, [], ◌∷◌, ◌++◌, length, map, get_or, slice_get, Option, Some, None, Bool, true, false, ap, sym, ◌∙◌, refl, subst, inl, inr, arith}
-use Rattle.std.specs.Prelude.{All, nat_eq}
-use Rattle.std.specs.List.{IsDistinct, list_any}
+use Rattle.std.proofs.Common.{◌≡◌, ◌<◌, ◌+◌, ◌-◌, ◌<ℤ◌, ℕ, zero, suc, ℤ, List, [], ◌∷◌, ◌++◌, length, map, get_or, slice_get, Option, Some, None, false, ap, sym, ◌∙◌, refl, subst, inl, inr, arith}
+use Rattle.std.specs.Prelude.{nat_eq}
+use Rattle.std.specs.List.{IsDistinct}
 use Rattle.std.specs.Option.{option_cmp}
 use Rattle.std.specs.Ordering.{is_lt, int_cmp, nat_cmp, ordering_then, MatchOrdering}
 use Rattle.std.specs.List.Sorted.{IsSorted, IsPermutation}
 use Rattle.std.specs.declared.cmp.Ordering.{Ordering}
 use Rattle.std.specs.declared.cmp.Ordering.TheVariants.{Less, Equal, Greater}
-use Rattle.std.proofs.lemmas.Bool.{true≢false, ltb-false, ne_eqb, eqb-false}
+use Rattle.std.proofs.lemmas.Bool.{true≢false, ne_eqb, eqb-false}
 use Rattle.std.proofs.lemmas.Cmp.{ranked, int_ranked, nat_eq_equiv}
 use Rattle.std.proofs.lemmas.Int.{ints}
 use Rattle.std.proofs.lemmas.List.{length-map, map-append, get_or-map}

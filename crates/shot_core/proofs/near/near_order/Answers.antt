@@ -1,5 +1,4 @@
 use Rattle.std.proofs.Common.{◌≡◌, ◌∙◌, length, map, ap, sym, subst, List}
-use Rattle.std.specs.List.Sorted.{IsSorted}
 use Rattle.std.proofs.lemmas.Result.{IfOk-weaker}
 use Rattle.shot_core.specs.declared.near.Near.{Near}
 use Rattle.shot_core.specs.FirstShots.{IsOrderOf}

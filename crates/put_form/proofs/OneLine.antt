@@ -28,7 +28,12 @@ use Rattle.transcript.specs.Lines.{Lacks}
 use Rattle.transcript.proofs.LineLaws.{lacks_append}
 use Rattle.transcript.proofs.TranscriptLaws.{computed}
 use Rattle.put_form.proofs.MemberLaws.{AreNamed, first_named, rest_named, both_named}
-use Rattle.put_form.specs.Written.{numbers_text, vector_text, vertices_text, solid_text, truth_text, colour_text, attr_text, is_zero, matrix_text, operator_text, node_text, tree_text, body_text, put_line, kept_text, kept_line, kept_lines, object_lines}
+use Rattle.word_values.specs.Kinds.{coordinate_kind, normal_kind, kind_at}
+use Rattle.word_values.specs.declared.atoms.NumberKind.{NumberKind}
+use Rattle.word_values.specs.declared.atoms.NumberKind.TheVariants.{Whole, Length}
+use Rattle.word_values.specs.declared.atoms.NumberList.{NumberList}
+use Rattle.word_values.specs.declared.atoms.NumberList.TheVariants as lists
+use Rattle.put_form.specs.Written.{tenths, tenth_text, size_text, length_text, number_text, words_text, number_words, vector_text, vertices_text, solid_text, truth_text, colour_text, attr_text, is_zero, matrix_text, operator_text, node_text, tree_text, body_text, put_line, kept_text, kept_line, kept_lines, object_lines}
 
 -- a name has none
 rest_lacks : (bytes : List ℕ) → All (λ b. is_next_byte b ≡ true) bytes → Lacks 10 bytes
@@ -66,25 +71,48 @@ signed_lacks (negsuc n) = (λ e. omega (arith, e), number_lacks (suc n))
 begun : (known rest : List ℕ) → Lacks 10 known → Lacks 10 rest → Lacks 10 (known ++ rest)
 begun known rest h k = lacks_append 10 known rest h k
 
-numbers_lack : (ns : List ℤ) → Lacks 10 (numbers_text ns)
-numbers_lack [] = tt
-numbers_lack (n ∷ []) = signed_lacks n
-numbers_lack (n ∷ m ∷ rest) = begun (signed_decimal n) _ (signed_lacks n) (λ e. omega (arith, e), numbers_lack (m ∷ rest))
+-- a length has digits, a point and a sign alone
+tenth_lacks : (tenth : ℕ) → Lacks 10 (tenth_text tenth)
+tenth_lacks tenth = chosen_lacks (tenth == 0) [] (codes "." ++ decimal tenth) tt (begun (codes ".") (decimal tenth) (computed 10 (codes ".") refl) (number_lacks tenth))
 
-vector_lacks : (v : V3) → Lacks 10 (vector_text v)
-vector_lacks v = begun (codes "{") _ (computed 10 (codes "{") refl) (begun (numbers_text (v.x ∷ v.y ∷ v.z ∷ [])) _ (numbers_lack (v.x ∷ v.y ∷ v.z ∷ [])) (computed 10 (codes "}") refl))
+size_lacks : (size : ℕ) → Lacks 10 (size_text size)
+size_lacks size = begun (decimal (size / tenths)) (tenth_text (size % tenths)) (number_lacks (size / tenths)) (tenth_lacks (size % tenths))
+
+length_lacks : (z : ℤ) → Lacks 10 (length_text z)
+length_lacks (pos n) = size_lacks n
+length_lacks (negsuc n) = begun (codes "-") (size_text (suc n)) (computed 10 (codes "-") refl) (size_lacks (suc n))
+
+of_kind_lacks : (kind : NumberKind) (z : ℤ) → Lacks 10 (number_text kind z)
+of_kind_lacks (Whole most) z = signed_lacks z
+of_kind_lacks (Length most) z = length_lacks z
+
+words_lack : (ws : List (List ℕ)) → AllByRecursion (Lacks 10) ws → Lacks 10 (words_text ws)
+words_lack [] h = tt
+words_lack (w ∷ []) h = h.0
+words_lack (w ∷ v ∷ rest) h = begun w _ h.0 (λ e. omega (arith, e), words_lack (v ∷ rest) h.1)
+
+all_lack : (list : NumberList) (place : ℕ) (ns : List ℤ) → AllByRecursion (Lacks 10) (number_words list place ns)
+all_lack list place [] = tt
+all_lack list place (n ∷ ns) = (of_kind_lacks (kind_at list place) n, all_lack list (place + 1) ns)
+
+vector_lacks : (kind : NumberKind) (v : V3) → Lacks 10 (vector_text kind v)
+vector_lacks kind v =
+    let ws : List (List ℕ) = number_text kind v.x ∷ number_text kind v.y ∷ number_text kind v.z ∷ [] in
+    begun (codes "{") _ (computed 10 (codes "{") refl) (begun (words_text ws) _ (words_lack ws (of_kind_lacks kind v.x, (of_kind_lacks kind v.y, (of_kind_lacks kind v.z, tt)))) (computed 10 (codes "}") refl))
 
 vertices_lack : (number : ℕ) (vs : List V3) → Lacks 10 (vertices_text number vs)
 vertices_lack number [] = tt
 vertices_lack number (v ∷ rest) =
     begun (codes " V") _ (computed 10 (codes " V") refl)
-    (begun (decimal number) _ (number_lacks number) (begun (codes " ") (vector_text v ++ vertices_text (number + 1) rest) (computed 10 (codes " ") refl) (begun (vector_text v) (vertices_text (number + 1) rest) (vector_lacks v) (vertices_lack (number + 1) rest))))
+    (begun (decimal number) _ (number_lacks number) (begun (codes " ") (vector_text coordinate_kind v ++ vertices_text (number + 1) rest) (computed 10 (codes " ") refl) (begun (vector_text coordinate_kind v) (vertices_text (number + 1) rest) (vector_lacks coordinate_kind v) (vertices_lack (number + 1) rest))))
 
 solid_lacks : (solid : Solid) → Lacks 10 (solid_text solid)
 solid_lacks (solids.Sphere s) =
-    begun (codes "sph V ") (vector_text s.centre ++ (codes " r " ++ signed_decimal s.radius)) (computed 10 (codes "sph V ") refl) (begun (vector_text s.centre) _ (vector_lacks s.centre) (begun (codes " r ") (signed_decimal s.radius) (computed 10 (codes " r ") refl) (signed_lacks s.radius)))
+    begun (codes "sph V ") (vector_text coordinate_kind s.centre ++ (codes " r " ++ length_text s.radius)) (computed 10 (codes "sph V ") refl)
+    (begun (vector_text coordinate_kind s.centre) _ (vector_lacks coordinate_kind s.centre) (begun (codes " r ") (length_text s.radius) (computed 10 (codes " r ") refl) (length_lacks s.radius)))
 solid_lacks (solids.Half h) =
-    begun (codes "half N ") (vector_text h.normal ++ (codes " d " ++ signed_decimal h.distance)) (computed 10 (codes "half N ") refl) (begun (vector_text h.normal) _ (vector_lacks h.normal) (begun (codes " d ") (signed_decimal h.distance) (computed 10 (codes " d ") refl) (signed_lacks h.distance)))
+    begun (codes "half N ") (vector_text normal_kind h.normal ++ (codes " d " ++ length_text h.distance)) (computed 10 (codes "half N ") refl)
+    (begun (vector_text normal_kind h.normal) _ (vector_lacks normal_kind h.normal) (begun (codes " d ") (length_text h.distance) (computed 10 (codes " d ") refl) (length_lacks h.distance)))
 solid_lacks (solids.Arb8 a) = begun (codes "arb8") _ (computed 10 (codes "arb8") refl) (vertices_lack 1 a.vertices)
 
 truth_lacks : (b : Bool) → Lacks 10 (truth_text b)
@@ -109,9 +137,11 @@ attr_lacks attr =
     (begun (colour_text attr.rgb) _ (colour_lacks attr.rgb)
     (begun (codes " inherit ") _ (computed 10 (codes " inherit ") refl) (truth_lacks attr.inherit))))))))))))
 
-either_lacks : (b : Bool) (numbers : List ℤ) → Lacks 10 (if b then [] else codes " {" ++ (numbers_text numbers ++ codes "}"))
+either_lacks : (b : Bool) (numbers : List ℤ) → Lacks 10 (if b then [] else codes " {" ++ (words_text (number_words lists.Matrix 0 numbers) ++ codes "}"))
 either_lacks true numbers = tt
-either_lacks false numbers = begun (codes " {") _ (computed 10 (codes " {") refl) (begun (numbers_text numbers) _ (numbers_lack numbers) (computed 10 (codes "}") refl))
+either_lacks false numbers =
+    let ws : List (List ℕ) = number_words lists.Matrix 0 numbers in
+    begun (codes " {") _ (computed 10 (codes " {") refl) (begun (words_text ws) _ (words_lack ws (all_lack lists.Matrix 0 numbers)) (computed 10 (codes "}") refl))
 
 matrix_lacks : (p : Placement) → Lacks 10 (matrix_text p)
 matrix_lacks p = either_lacks (p.turn.number == 0 && is_zero p.shift) (matrix_of p)

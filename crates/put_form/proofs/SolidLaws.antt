@@ -1,21 +1,24 @@
 -- Solids by their keys and numbers.
-use Rattle.std.proofs.Common.{All, ◌≡◌, ◌<◌, ◌≤◌, ◌+◌, ◌++◌, ◌∷◌, [], ◌&&◌, ◌==◌, ◌∙◌, ℕ, ℤ, Bool, true, false, not, cond, find, nat_le, List, get_or, length, take, drop, map, zero, suc, Option, Some, None, is_some, Result, length-append, length-take-le, append_assoc, arith, ap, sym, refl, subst, eqb-true}
+use Rattle.std.proofs.Common.{◌≡◌, ◌<◌, ◌≤◌, ◌+◌, ◌++◌, ◌∷◌, [], ◌&&◌, ◌==◌, ◌∙◌, ℕ, ℤ, pos, Bool, true, false, not, cond, find, nat_le, List, get_or, length, take, drop, map, zero, suc, Option, Some, None, is_some, Result, length-append, length-take-le, get_or-take, append_assoc, arith, ap, sym, refl, subst, eqb-true}
 use Rattle.std.specs.List.{list_all}
 use Rattle.std.specs.Option.{option_map}
 use Rattle.std.specs.Int.RustNames.{unsigned_abs}
-use Rattle.std.proofs.lemmas.Int.{ints}
-use Rattle.std.proofs.lemmas.Bool.{leb-true}
+use Rattle.std.proofs.lemmas.Bool.{leb-true, lt-ltb, le-ltb}
 use Rattle.std.proofs.lemmas.List.{length-map}
-use Rattle.std.proofs.lemmas.List.Elements.{All-append}
 use Rattle.lattice_core.specs.declared.vector.V3.{V3}
 use Rattle.plane_geom.specs.declared.fault.ShapeFault.{ShapeFault}
 use Rattle.solid_set.specs.Rpps.{vector, rpp_vertices}
 use Rattle.solid_set.specs.declared.solid.Solid.{Solid}
-use Rattle.tcl_words.specs.Numbers.{number_of}
+use Rattle.tcl_words.specs.Numbers.{number_of, tenths_of}
 use Rattle.tcl_words.specs.TopWords.{atom_of}
 use Rattle.tcl_words.specs.declared.token.Token.{Token}
 use Rattle.tcl_words.specs.declared.token.Word.{Word}
-use Rattle.word_values.specs.Atoms.{words_in, kept_to, solid_number}
+use Rattle.word_values.specs.Atoms.{words_in, kept_to}
+use Rattle.word_values.specs.Kinds.{number_as, most_of, coordinate_kind, normal_kind, kind_at, AllWithinKinds}
+use Rattle.word_values.specs.declared.atoms.NumberKind.{NumberKind}
+use Rattle.word_values.specs.declared.atoms.NumberKind.TheVariants.{Whole, Length}
+use Rattle.word_values.specs.declared.atoms.NumberList.{NumberList}
+use Rattle.word_values.specs.declared.atoms.NumberList.TheVariants as lists
 use Rattle.word_values.specs.Solids.{number_count, solid_made, half_made, sphere_made, arb8_made}
 use Rattle.word_values.specs.Solids as made
 use Rattle.word_values.specs.declared.solid.SolidKind.{SolidKind}
@@ -27,11 +30,11 @@ use Rattle.put_form.specs.Solids.{key_in, of_count, single, value_atoms, value_n
 use Rattle.put_form.specs.Solids as solids
 use Rattle.put_form.specs.Puts.{Put, unless_fault, name_fault, number_fault, solid_put, solid_of, solid_with}
 use Rattle.put_form.specs.Steps.{IsPutRead, word_of, word_fault}
-use Rattle.put_form.specs.SolidSteps.{key_at, has_axis, IsNear, or_zero, named_solid}
+use Rattle.put_form.specs.SolidSteps.{key_at, has_axis, IsOfKind, AreOfKinds, or_zero, named_solid}
 use Rattle.put_form.specs.SolidSteps as steps
 use Rattle.put_form.specs.declared.kind.SolidForm.{SolidForm}
 use Rattle.put_form.specs.declared.kind.SolidForm.TheVariants.{Sphere, Ellipsoid, Half, Arb8}
-use Rattle.put_form.proofs.ListLaws.{all_none, all_mapped, found_here, found_end}
+use Rattle.put_form.proofs.ListLaws.{found_here, found_end}
 
 -- the keys from a place on
 pub keys_more : (form : SolidForm) (i : ℕ) → i < length (keys_of form) → drop i (keys_of form) ≡ key_at form i ∷ drop (i + 1) (keys_of form)
@@ -94,37 +97,72 @@ atoms_by : (count : ℕ) (t : Bool) (atom : Option (List ℕ)) (group : Option (
 atoms_by count true atom group found e h = single_one atom found h ∙ sym (eqb-true count 1 e)
 atoms_by count false atom group found e h = of_counted count group found h
 
-mapped_some : (o : Option (List (List ℕ))) (found : List (Option ℤ)) → option_map (λ atoms. map solid_number atoms) o ≡ Some found → (atoms : List (List ℕ)) × (o ≡ Some atoms) × (map solid_number atoms ≡ found)
-mapped_some None found h = absurd cc
-mapped_some (Some atoms) found h = (atoms, refl, cc)
+mapped_some : (kind : NumberKind) (o : Option (List (List ℕ))) (found : List (Option ℤ)) → option_map (λ atoms. map (number_as kind) atoms) o ≡ Some found
+    → (atoms : List (List ℕ)) × (o ≡ Some atoms) × (map (number_as kind) atoms ≡ found)
+mapped_some kind None found h = absurd cc
+mapped_some kind (Some atoms) found h = (atoms, refl, cc)
 
-near_kept : (o : Option ℤ) → IsNear (kept_to 16384 o)
-near_kept None = tt
-near_kept (Some n) = by (nat_le (unsigned_abs n) 16384) refl
+-- each is as large as its kind allows
+kept_of_kind : (kind : NumberKind) (o : Option ℤ) → IsOfKind kind (kept_to (most_of kind) o)
+kept_of_kind kind None = tt
+kept_of_kind kind (Some n) = by (nat_le (unsigned_abs n) (most_of kind)) refl
   where
-    by : (t : Bool) → nat_le (unsigned_abs n) 16384 ≡ t → IsNear (cond t (Some n) None)
-    by true e = let small : unsigned_abs n ≤ 16384 = leb-true (unsigned_abs n) 16384 e in (omega (arith, ints, small), omega (arith, ints, small))
+    by : (t : Bool) → nat_le (unsigned_abs n) (most_of kind) ≡ t → IsOfKind kind (cond t (Some n) None)
+    by true e = leb-true (unsigned_abs n) (most_of kind) e
     by false e = tt
 
-near_number : (atom : List ℕ) → IsNear (solid_number atom)
-near_number atom = near_kept (number_of atom)
+number_of_kind : (kind : NumberKind) (atom : List ℕ) → IsOfKind kind (number_as kind atom)
+number_of_kind (Whole most) atom = kept_of_kind (Whole most) (number_of atom)
+number_of_kind (Length most) atom = kept_of_kind (Length most) (tenths_of atom)
 
-record Fits (room : ℕ) (numbers : List (Option ℤ)) : Type 0 where
+mapped_of_kind : (kind : NumberKind) (atoms : List (List ℕ)) (k : ℕ) → k < length (map (number_as kind) atoms) → IsOfKind kind (get_or (map (number_as kind) atoms) k None)
+mapped_of_kind kind [] k lt = absurd (omega (arith, lt))
+mapped_of_kind kind (atom ∷ atoms) zero lt = number_of_kind kind atom
+mapped_of_kind kind (atom ∷ atoms) (suc k) lt = mapped_of_kind kind atoms k (omega (arith, lt))
+
+-- numbers from a place of a list on
+abbrev AreFrom : NumberList → ℕ → List (Option ℤ) → Type 0
+AreFrom list place numbers = (k : ℕ) → k < length numbers → IsOfKind (kind_at list (place + k)) (get_or numbers k None)
+
+from_joined : (list : NumberList) (place : ℕ) (xs ys : List (Option ℤ)) → AreFrom list place xs → AreFrom list (place + length xs) ys → AreFrom list place (xs ++ ys)
+from_joined list place [] ys one two k lt =
+    let sum : (place + 0) + k ≡ place + k = omega arith in
+    subst (λ (n : ℕ). IsOfKind (kind_at list n) (get_or ys k None)) sum (two k lt)
+from_joined list place (x ∷ xs) ys one two zero lt = one zero (omega arith)
+from_joined list place (x ∷ xs) ys one two (suc k) lt =
+    let sum : (j : ℕ) → place + suc j ≡ (place + 1) + j = λ j. omega arith in
+    subst (λ (n : ℕ). IsOfKind (kind_at list n) (get_or (xs ++ ys) k None)) (sym (sum k))
+    (from_joined list (place + 1) xs ys (λ j l. subst (λ (n : ℕ). IsOfKind (kind_at list n) (get_or xs j None)) (sum j) (one (suc j) (omega (arith, l))))
+    (subst (λ (n : ℕ). AreFrom list n ys) (sum (length xs)) two) k (omega (arith, lt)))
+
+record Fits (list : NumberList) (place room : ℕ) (numbers : List (Option ℤ)) : Type 0 where
   pub count : length numbers ≡ room
-  pub near : All IsNear numbers
+  pub kinds : AreFrom list place numbers
 
-value_fits : (text : List ℕ) (tokens : List Token) (count : ℕ) (value : Word) (found : List (Option ℤ)) → value_numbers text tokens count value ≡ Some found → Fits count found
-value_fits text tokens count value found h =
-    let m = mapped_some (value_atoms text tokens count value) found h in
-    let len : length m.0 ≡ count = atoms_by count (count == 1) (atom_of text tokens value) (words_in text tokens value) m.0 refl m.1 in
+-- a key's numbers have its kind in the list that all make
+abbrev HasPlaces : NumberList → ℕ → Key → Type 0
+HasPlaces list place key = (k : ℕ) → k < key.count → kind_at list (place + k) ≡ key.kind
+
+abbrev HavePlaces : NumberList → ℕ → List Key → Type 0
+HavePlaces list place [] = Unit {0}
+HavePlaces list place (key ∷ keys) = HasPlaces list place key × HavePlaces list (place + key.count) keys
+
+value_fits : (text : List ℕ) (tokens : List Token) (list : NumberList) (place : ℕ) (key : Key) (value : Word) (found : List (Option ℤ)) → HasPlaces list place key
+    → value_numbers text tokens key value ≡ Some found → Fits list place key.count found
+value_fits text tokens list place key value found are h =
+    let m = mapped_some key.kind (value_atoms text tokens key.count value) found h in
+    let len : length m.0 ≡ key.count = atoms_by key.count (key.count == 1) (atom_of text tokens value) (words_in text tokens value) m.0 refl m.1 in
+    let count : length found ≡ key.count = sym (ap length m.2) ∙ length-map m.0 (number_as key.kind) ∙ len in
+    let each : (k : ℕ) → k < length found → IsOfKind key.kind (get_or found k None) = subst (λ (xs : List (Option ℤ)). (k : ℕ) → k < length xs → IsOfKind key.kind (get_or xs k None)) m.2 (mapped_of_kind key.kind m.0) in
     record {
-      count = sym (ap length m.2) ∙ length-map m.0 solid_number ∙ len;
-      near = subst (All IsNear) m.2 (all_mapped IsNear solid_number m.0 (λ i d lt. near_number (get_or m.0 i d)));
+      count = count;
+      kinds = λ k lt. subst (λ (kind : NumberKind). IsOfKind kind (get_or found k None)) (sym (are k (omega (arith, lt, count)))) (each k lt);
     }
 
-key_fits : (text : List ℕ) (tokens : List Token) (count : ℕ) (o : Option Pair) (found : List (Option ℤ)) → numbers_at text tokens count o ≡ Some found → Fits count found
-key_fits text tokens count None found h = absurd cc
-key_fits text tokens count (Some p) found h = value_fits text tokens count p.value found h
+key_fits : (text : List ℕ) (tokens : List Token) (list : NumberList) (place : ℕ) (key : Key) (o : Option Pair) (found : List (Option ℤ)) → HasPlaces list place key
+    → numbers_at text tokens key o ≡ Some found → Fits list place key.count found
+key_fits text tokens list place key None found are h = absurd cc
+key_fits text tokens list place key (Some p) found are h = value_fits text tokens list place key p.value found are h
 
 abbrev total : List Key → ℕ
 total [] = 0
@@ -136,15 +174,21 @@ joined_some None b found h = absurd cc
 joined_some (Some x) None found h = absurd cc
 joined_some (Some x) (Some y) found h = (x, y, refl, refl, cc)
 
-all_fit : (text : List ℕ) (tokens : List Token) (pairs : List Pair) (keys : List Key) (found : List (Option ℤ)) → all_numbers text tokens pairs keys ≡ Some found → Fits (total keys) found
-all_fit text tokens pairs [] found h = let same : [] ≡ found = cc in subst (Fits 0) same (record { count = refl; near = all_none IsNear })
-all_fit text tokens pairs (key ∷ keys) found h =
+none_from : (list : NumberList) (place : ℕ) → AreFrom list place []
+none_from list place k lt = absurd (omega (arith, lt))
+
+all_fit : (text : List ℕ) (tokens : List Token) (pairs : List Pair) (list : NumberList) (place : ℕ) (keys : List Key) (found : List (Option ℤ)) → HavePlaces list place keys
+    → all_numbers text tokens pairs keys ≡ Some found → Fits list place (total keys) found
+all_fit text tokens pairs list place [] found are h =
+    let same : [] ≡ found = cc in subst (Fits list place 0) same (record { count = refl; kinds = none_from list place })
+all_fit text tokens pairs list place (key ∷ keys) found are h =
     let j = joined_some (key_numbers text tokens pairs key) (all_numbers text tokens pairs keys) found h in
-    let first = key_fits text tokens key.count (pair_of key.name pairs) j.0 j.2 in
-    let rest = all_fit text tokens pairs keys j.1 j.3 in
-    subst (Fits (total (key ∷ keys))) j.4 (record {
+    let first = key_fits text tokens list place key (pair_of key.name pairs) j.0 are.0 j.2 in
+    let rest = all_fit text tokens pairs list (place + key.count) keys j.1 are.1 j.3 in
+    let next : AreFrom list (place + length j.0) j.1 = subst (λ (n : ℕ). AreFrom list (place + n) j.1) (sym first.count) rest.kinds in
+    subst (Fits list place (total (key ∷ keys))) j.4 (record {
       count = omega (arith, length-append j.0 j.1, first.count, rest.count);
-      near = All-append IsNear j.0 j.1 first.near rest.near;
+      kinds = from_joined list place j.0 j.1 first.kinds next;
     })
 
 enough : (form : SolidForm) → number_count (made_as form) ≤ total (keys_of form)
@@ -153,20 +197,30 @@ enough Ellipsoid = omega arith
 enough Half = omega arith
 enough Arb8 = omega arith
 
+keys_placed : (form : SolidForm) → HavePlaces (lists.Solid (made_as form)) 0 (keys_of form)
+keys_placed Sphere = (λ k lt. refl, (λ k lt. refl, tt))
+keys_placed Ellipsoid = (λ k lt. refl, (λ k lt. refl, (λ k lt. refl, (λ k lt. refl, tt))))
+keys_placed Half = (λ k lt. ap (λ b. cond b normal_kind coordinate_kind) (lt-ltb (0 + k) 3 (omega (arith, lt))), (λ k lt. ap (λ b. cond b normal_kind coordinate_kind) (le-ltb (3 + k) 3 (omega arith)), tt))
+keys_placed Arb8 = (λ k lt. refl, (λ k lt. refl, (λ k lt. refl, (λ k lt. refl, (λ k lt. refl, (λ k lt. refl, (λ k lt. refl, (λ k lt. refl, tt))))))))
+
 numbers_if : (t : Bool) (o : Option (List (Option ℤ))) (found : List (Option ℤ)) → cond t o None ≡ Some found → o ≡ Some found
 numbers_if true o found h = h
 numbers_if false o found h = absurd cc
 
-numbers_fit : (text : List ℕ) (tokens : List Token) (form : SolidForm) (pairs : List Pair) (found : List (Option ℤ)) → numbers_of text tokens form pairs ≡ Some found → Fits (total (keys_of form)) found
+numbers_fit : (text : List ℕ) (tokens : List Token) (form : SolidForm) (pairs : List Pair) (found : List (Option ℤ)) → numbers_of text tokens form pairs ≡ Some found
+    → Fits (lists.Solid (made_as form)) 0 (total (keys_of form)) found
 numbers_fit text tokens form pairs found h =
-    all_fit text tokens pairs (keys_of form) found (numbers_if (length pairs == length (keys_of form)) (all_numbers text tokens pairs (keys_of form)) found h)
+    all_fit text tokens pairs (lists.Solid (made_as form)) 0 (keys_of form) found (keys_placed form) (numbers_if (length pairs == length (keys_of form)) (all_numbers text tokens pairs (keys_of form)) found h)
 
 pub numbers_enough : (text : List ℕ) (tokens : List Token) (form : SolidForm) (pairs : List Pair) (found : List (Option ℤ)) → numbers_of text tokens form pairs ≡ Some found
     → number_count (made_as form) ≤ length found
 numbers_enough text tokens form pairs found h = omega (arith, enough form, (numbers_fit text tokens form pairs found h).count)
 
-pub numbers_near : (text : List ℕ) (tokens : List Token) (form : SolidForm) (pairs : List Pair) (found : List (Option ℤ)) → numbers_of text tokens form pairs ≡ Some found → All IsNear found
-numbers_near text tokens form pairs found h = (numbers_fit text tokens form pairs found h).near
+pub numbers_of_kinds : (text : List ℕ) (tokens : List Token) (form : SolidForm) (pairs : List Pair) (found : List (Option ℤ)) → numbers_of text tokens form pairs ≡ Some found
+    → AreOfKinds (lists.Solid (made_as form)) found
+numbers_of_kinds text tokens form pairs found h k lt =
+    let sum : 0 + k ≡ k = omega arith in
+    subst (λ (n : ℕ). IsOfKind (kind_at (lists.Solid (made_as form)) n) (get_or found k None)) sum ((numbers_fit text tokens form pairs found h).kinds k lt)
 
 -- the first bad pair, by the radius
 axis_same : (text : List ℕ) (tokens : List Token) (form : SolidForm) (pairs : List Pair) (p : Pair) → has_axis form p.key (radius_in text tokens pairs) (pair_numbers text tokens form p) ≡ solids.has_axis form text tokens pairs p
@@ -233,6 +287,31 @@ filled kind numbers whole count is le h =
     let len : length (take count numbers) ≡ count = length-take-le count numbers le in
     ap (λ n. solid_made kind (map (λ (n : ℤ). Some n) (take n whole))) (sym len) ∙ ap (λ (xs : List ℤ). solid_made kind (map (λ (n : ℤ). Some n) xs)) h
     ∙ zeros_made kind (take count numbers) ∙ ap (λ n. solid_made kind (take n numbers)) is
+
+-- and the numbers that are made into a solid are as large as their kinds allow
+zero_at : (numbers : List (Option ℤ)) (k : ℕ) → get_or (map or_zero numbers) k (pos 0) ≡ or_zero (get_or numbers k None)
+zero_at [] k = refl
+zero_at (x ∷ xs) zero = refl
+zero_at (x ∷ xs) (suc k) = zero_at xs k
+
+within_kind : (kind : NumberKind) (o : Option ℤ) → IsOfKind kind o → unsigned_abs (or_zero o) ≤ most_of kind
+within_kind kind None h = omega arith
+within_kind kind (Some n) h = h
+
+zeros_within : (list : NumberList) (numbers : List (Option ℤ)) → AreOfKinds list numbers → AllWithinKinds list (map or_zero numbers)
+zeros_within list numbers are k lt =
+    subst (λ (n : ℤ). unsigned_abs n ≤ most_of (kind_at list k)) (sym (zero_at numbers k)) (within_kind (kind_at list k) (get_or numbers k None) (are k (omega (arith, lt, length-map numbers or_zero))))
+
+taken_of_kinds : (list : NumberList) (numbers : List (Option ℤ)) (count : ℕ) → count ≤ length numbers → AreOfKinds list numbers → AreOfKinds list (take count numbers)
+taken_of_kinds list numbers count le are k lt =
+    let below : k < count = omega (arith, lt, length-take-le count numbers le) in
+    subst (IsOfKind (kind_at list k)) (sym (get_or-take count numbers k None below)) (are k (omega (arith, below, le)))
+
+pub filled_within : (list : NumberList) (numbers : List (Option ℤ)) (whole : List ℤ) (count : ℕ) → count ≤ length numbers → take (length (take count numbers)) whole ≡ map or_zero (take count numbers)
+    → AreOfKinds list numbers → AllWithinKinds list (take count whole)
+filled_within list numbers whole count le h are =
+    let same : take count whole ≡ map or_zero (take count numbers) = ap (λ n. take n whole) (sym (length-take-le count numbers le)) ∙ h in
+    subst (AllWithinKinds list) (sym same) (zeros_within list (take count numbers) (taken_of_kinds list numbers count le are))
 
 -- the numbers that were found, and the first bad word
 fault_same : (o : Option Pair) → number_fault o ≡ word_fault (word_of o)

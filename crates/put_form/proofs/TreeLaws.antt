@@ -16,7 +16,9 @@ use Rattle.lattice_core.specs.Vectors.{zero_vector}
 use Rattle.tree_forms.specs.Trees.{Tree, Leaf, Join, leaves, map_leaves}
 use Rattle.comb_tree.specs.Nodes.{Comb, Member, members}
 use Rattle.tcl_words.specs.declared.token.Token.{Token}
-use Rattle.word_values.specs.Atoms.{view_number, all_numbers}
+use Rattle.word_values.specs.Atoms.{all_numbers}
+use Rattle.word_values.specs.Kinds.{numbers_as}
+use Rattle.word_values.specs.declared.atoms.NumberList.TheVariants as lists
 use Rattle.word_values.specs.Groups.{Words, words_of_tokens}
 use Rattle.word_values.specs.Matrices.{identity, has_last_row, is_near_number, is_near, placement_by, turn_number, turn_numbered, placement_in, placement_of_all}
 use Rattle.word_values.specs.Trees.{Given, given_leaves, placement_of, has_name, has_placement, member_of, members_in, tree_if, tree_in, tree_of}
@@ -28,7 +30,7 @@ use Rattle.put_form.proofs.ListLaws.{all_none, all_mapped}
 
 -- the placements that are read are near
 near_component : (c : ℤ) → is_near_number c ≡ true → IsAtMost COORD c
-near_component c h = let small : unsigned_abs c ≤ 16384 = leb-true (unsigned_abs c) 16384 h in (omega (arith, ints, small), omega (arith, ints, small))
+near_component c h = let small : unsigned_abs c ≤ unsigned_abs COORD = leb-true (unsigned_abs c) (unsigned_abs COORD) h in (omega (arith, ints, small), omega (arith, ints, small))
 
 near_shift : (s : V3) → is_near s ≡ true → IsWithin COORD s
 near_shift s h =
@@ -65,7 +67,7 @@ zero_near = record { x = (omega (arith, ints), omega (arith, ints)); y = (omega 
 
 near_matrix : (matrix : Option (List (List ℕ))) → IsNearBy (placement_of matrix)
 near_matrix None = zero_near
-near_matrix (Some atoms) = near_read (all_numbers (map view_number atoms))
+near_matrix (Some atoms) = near_read (all_numbers (numbers_as lists.Matrix atoms))
 
 near_or : (o : Option Placement) → IsNearBy o → IsWithin COORD (unwrap_or o identity).shift
 near_or None h = zero_near

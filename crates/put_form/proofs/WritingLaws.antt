@@ -1,6 +1,5 @@
 -- How the steps of writing come to the text of an object.
-use Rattle.std.proofs.Common.{◌≡◌, ◌++◌, ◌+◌, ◌<◌, ◌∷◌, [], ℕ, suc, ℤ, List, Some, None, refl, ap, ◌∙◌, sym, append_assoc, append-nil, codes, reverse, flat_map, length, length-append, drop, get_or, arith, add-one}
-use Rattle.std.specs.Fmt.{signed_decimal}
+use Rattle.std.proofs.Common.{◌≡◌, ◌++◌, ◌+◌, ◌<◌, ◌∷◌, [], ℕ, suc, ℤ, List, Some, None, cond, refl, ap, ◌∙◌, sym, append_assoc, append-nil, codes, reverse, length, length-append, drop, get_or, arith, add-one, ne_eqb}
 use Rattle.std.proofs.Math.Seq.{drop-cons}
 use Rattle.std.proofs.lemmas.List.{reverse-append, reverse-reverse}
 use Rattle.tree_forms.specs.declared.Op.{Op}
@@ -10,17 +9,35 @@ use Rattle.comb_tree.specs.Nodes.{Comb, Member, leaf, apply, comb_nodes}
 use Rattle.comb_tree.specs.declared.node.CombNode.{CombNode}
 use Rattle.put_form.specs.declared.write_tree.Before.{Before}
 use Rattle.put_form.specs.declared.write_tree.Before.TheVariants.{Operator, LeftSide}
-use Rattle.put_form.specs.Written.{numbers_text, node_text, tree_text, operator_text}
-use Rattle.put_form.specs.WritingSteps.{spaced_text, before_text, owed, after, step_text, step_stack, walked}
+use Rattle.word_values.specs.Kinds.{kind_at}
+use Rattle.word_values.specs.declared.atoms.NumberList.{NumberList}
+use Rattle.put_form.specs.Written.{number_text, words_text, number_words, node_text, tree_text, operator_text}
+use Rattle.put_form.specs.WritingSteps.{placed_texts, before_text, owed, after, step_text, step_stack, walked}
 
 -- a text that was put at the end of a line, and another behind it
 pub two_more : (line first second middle all : List ℕ) → all ≡ middle ++ second → middle ≡ line ++ first → all ≡ line ++ (first ++ second)
 two_more line first second middle all last before = last ∙ ap (λ text. text ++ second) before ∙ append_assoc line first second
 
--- the first number, and each other after a blank
-pub numbers_spaced : (n : ℤ) (rest : List ℤ) → numbers_text (n ∷ rest) ≡ signed_decimal n ++ flat_map spaced_text rest
-numbers_spaced n [] = sym (append-nil (signed_decimal n))
-numbers_spaced n (m ∷ rest) = ap (λ text. signed_decimal n ++ 32 ∷ text) (numbers_spaced m rest)
+-- and two more behind these
+pub four_more : (line first second third fourth a b c all : List ℕ) → a ≡ line ++ first → b ≡ a ++ second → c ≡ b ++ third → all ≡ c ++ fourth → all ≡ line ++ (first ++ (second ++ (third ++ fourth)))
+four_more line first second third fourth a b c all ea eb ec last = simp (last, ec, eb, ea, append_assoc)
+
+-- the numbers, each but the first after a blank
+placed_more : (list : NumberList) (place : ℕ) (n : ℤ) (ns : List ℤ) → number_text (kind_at list place) n ++ placed_texts list (place + 1) ns ≡ words_text (number_words list place (n ∷ ns))
+placed_more list place n [] = append-nil (number_text (kind_at list place) n)
+placed_more list place n (m ∷ ns) =
+    ap (λ text. number_text (kind_at list place) n ++ text)
+    (ap (λ b. (cond b [] (codes " ") ++ number_text (kind_at list (place + 1)) m) ++ placed_texts list (place + 1 + 1) ns) (ne_eqb (place + 1) 0 (λ e. omega (arith, e)))
+    ∙ ap (λ (text : List ℕ). 32 ∷ text) (placed_more list (place + 1) m ns))
+
+pub all_placed : (list : NumberList) (ns : List ℤ) → placed_texts list 0 ns ≡ words_text (number_words list 0 ns)
+all_placed list [] = refl
+all_placed list (n ∷ ns) = placed_more list 0 n ns
+
+-- three words in braces, put at the end of a line one by one
+pub braced : (line a b c d e f g x y z : List ℕ) → a ≡ line ++ 123 ∷ [] → b ≡ a ++ x → c ≡ b ++ 32 ∷ [] → d ≡ c ++ y → e ≡ d ++ 32 ∷ [] → f ≡ e ++ z → g ≡ f ++ 125 ∷ []
+    → g ≡ line ++ 123 ∷ ((x ++ 32 ∷ (y ++ 32 ∷ z)) ++ 125 ∷ [])
+braced line a b c d e f g x y z ea eb ec ed ee ef eg = simp (eg, ef, ee, ed, ec, eb, ea, append_assoc)
 
 apply_text : (o : Op) (stack : List Before) → step_text (apply o) stack ≡ codes "}"
 apply_text U stack = refl

@@ -107,6 +107,6 @@ has_value text tokens None value = true
 has_value text tokens (Some key) value = is_value text tokens (key_of key) value
 
 -- the first pair whose value is none of its attribute, or is a tree with a number out of its range, with a matrix that is no
--- placement, or with a shift over 16,384
+-- placement, or with a shift over `COORD` in size
 abbrev pub bad_pair : List ℕ → List Token → List Pair → Option Pair
 bad_pair text tokens pairs = find (λ (p : Pair). not (has_value text tokens p.key p.value)) pairs

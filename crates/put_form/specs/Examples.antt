@@ -1,5 +1,5 @@
 -- Small commands, and what the definitions make of them, each proved by computing.
-use Rattle.std.specs.Prelude.{◌≡◌, refl, ℕ, pos, negsuc, List, [], ◌∷◌, None, Some, Result, Ok, Err, codes, true}
+use Rattle.std.specs.Prelude.{◌≡◌, refl, ℕ, pos, negsuc, List, [], ◌∷◌, None, Some, Result, Ok, Err, codes, map, true}
 use Rattle.tree_forms.specs.declared.Op.TheVariants.{Minus, X}
 use Rattle.tree_forms.specs.Trees.{Leaf, Join}
 use Rattle.tcl_words.specs.Tokens.{tokens_of}
@@ -15,7 +15,7 @@ use Rattle.object_set.specs.declared.kept.KeptAttr.{KeptAttr}
 use Rattle.put_form.specs.Keeps.{kept_of}
 use Rattle.put_form.specs.Pairs.{pairs_of}
 use Rattle.put_form.specs.Puts.{Put, put_of}
-use Rattle.put_form.specs.Written.{object_lines}
+use Rattle.put_form.specs.Written.{length_text, object_lines}
 use Rattle.put_form.specs.declared.fault.PutFault.{PutFault}
 use Rattle.put_form.specs.declared.fault.PutFault.TheVariants.{NoType, Attr, Tree, Name, Number, Shape}
 
@@ -27,7 +27,7 @@ abbrev put : List ℕ → Put
 put text = put_of text (tokens_of text) (top_words (tokens_of text))
 
 abbrev sphere : Put
-sphere = Ok (codes "s", record { body = bodies.Solid (solids.Sphere (record { centre = vector (pos 1) (negsuc 1) (pos 3); radius = pos 5 })); kept = [] })
+sphere = Ok (codes "s", record { body = bodies.Solid (solids.Sphere (record { centre = vector (pos 10) (negsuc 19) (pos 30); radius = pos 50 })); kept = [] })
 
 a_sphere : put (codes "put s sph V {1 -2 3} r 5") ≡ sphere
 a_sphere = refl
@@ -85,7 +85,16 @@ a_group_for_a_name = refl
 the_first_bad_word : put (codes "put s sph r x V {1 2 y}") ≡ Err (Number 5)
 the_first_bad_word = refl
 
-numbers_before_shapes : put (codes "put s sph r 0 V {1 2 16385}") ≡ Err (Number 7)
+a_normal_of_whole_numbers : put (codes "put h half N {0 0 1.5} d 5") ≡ Err (Number 5)
+a_normal_of_whole_numbers = refl
+
+a_long_normal : put (codes "put h half d 0.5 N {0 16385 0}") ≡ Err (Number 7)
+a_long_normal = refl
+
+two_decimals : put (codes "put s sph V {1 2 3} r 0.25") ≡ Err (Number 7)
+two_decimals = refl
+
+numbers_before_shapes : put (codes "put s sph r 0 V {1 2 16384.1}") ≡ Err (Number 7)
 numbers_before_shapes = refl
 
 no_radius : put (codes "put s sph r 0 V {1 2 3}") ≡ Err (Shape Radius)
@@ -146,9 +155,21 @@ written_sphere : lines sphere ≡ codes "put s sph V {1 -2 3} r 5" ∷ []
 unfolding digits
 written_sphere = refl
 
+lengths_in_millimetres : map length_text (negsuc 4 ∷ pos 0 ∷ pos 30 ∷ pos 163839 ∷ []) ≡ codes "-0.5" ∷ codes "0" ∷ codes "3" ∷ codes "16383.9" ∷ []
+unfolding digits
+lengths_in_millimetres = refl
+
+written_tenths : lines (put (codes "put s sph V {0.50 -0.0 -16384} r 0.1")) ≡ codes "put s sph V {0.5 0 -16384} r 0.1" ∷ []
+unfolding digits
+written_tenths = refl
+
+written_half : lines (put (codes "put h half d -7.5 N {0 0 20.0}")) ≡ codes "put h half N {0 0 20} d -7.5" ∷ []
+unfolding digits
+written_half = refl
+
 -- keys are written in their order, and a placement only where it moves something
-written_combination : lines (put (codes "put c comb tree {+ {l a} {l b {0 0 -1 145 0 1 0 50 1 0 0 25 0 0 0 1}}} rgb 1/2/3 id 7"))
-    ≡ codes "put c comb region no id 7 air 0 los 0 mater 0 rgb {1 2 3} inherit no tree {n {l a} {l b {0 0 -1 145 0 1 0 50 1 0 0 25 0 0 0 1}}}" ∷ []
+written_combination : lines (put (codes "put c comb tree {+ {l a} {l b {0 0 -1 145.5 0 1 0 50 1 0 0 -0.5 0 0 0 1}}} rgb 1/2/3 id 7"))
+    ≡ codes "put c comb region no id 7 air 0 los 0 mater 0 rgb {1 2 3} inherit no tree {n {l a} {l b {0 0 -1 145.5 0 1 0 50 1 0 0 -0.5 0 0 0 1}}}" ∷ []
 unfolding digits
 written_combination = refl
 

@@ -1,11 +1,13 @@
 -- The words of the code: solids.
-use Rattle.std.specs.Prelude.{◌&&◌, ◌==◌, ℕ, ℤ, pos, Bool, true, List, [], ◌∷◌, take, Option, None, Some, unwrap_or, is_some, codes, if◌then◌else◌}
-use Rattle.std.specs.List.{list_all}
+use Rattle.std.specs.Prelude.{◌&&◌, ◌==◌, ◌<◌, ◌≤◌, ℕ, ℤ, pos, Bool, true, List, [], ◌∷◌, length, take, Option, None, Some, unwrap_or, is_some, codes, if◌then◌else◌}
+use Rattle.std.specs.Int.RustNames.{unsigned_abs}
+use Rattle.std.specs.List.{list_all, slice_index_or}
 use Rattle.tcl_words.specs.declared.token.Token.{Token}
-use Rattle.lattice_core.specs.declared.limit.TheConstants.{COORD}
-use Rattle.lattice_core.specs.Limits.{IsAtMost}
+use Rattle.word_values.specs.Kinds.{kind_at, most_of}
 use Rattle.word_values.specs.Solids.{number_count, solid_made}
-use Rattle.put_form.specs.Kinds.{Key, vector_key, number_key, made_as}
+use Rattle.word_values.specs.declared.atoms.NumberKind.{NumberKind}
+use Rattle.word_values.specs.declared.atoms.NumberList.{NumberList}
+use Rattle.put_form.specs.Kinds.{Key, vector_key, normal_key, number_key, made_as}
 use Rattle.put_form.specs.Pairs.{Pair}
 use Rattle.put_form.specs.Solids.{nth_number, is_number, is_radius, is_on, axis_of, pair_numbers}
 use Rattle.put_form.specs.Puts.{Put, unless_fault, name_fault, solid_put}
@@ -26,7 +28,7 @@ vertex_name place =
 abbrev pub key_at : SolidForm → ℕ → Key
 key_at Sphere place = if place == 0 then vector_key (codes "V") else number_key (codes "r")
 key_at Ellipsoid place = vector_key (ellipsoid_name place)
-key_at Half place = if place == 0 then vector_key (codes "N") else number_key (codes "d")
+key_at Half place = if place == 0 then normal_key (codes "N") else number_key (codes "d")
 key_at Arb8 place = vector_key (vertex_name place)
 
 -- the number of a component is the radius on its own axis, and 0 on another
@@ -43,9 +45,14 @@ has_axis Arb8 key r numbers = true
 abbrev pub is_good : List ℕ → List Token → SolidForm → Option ℤ → Pair → Bool
 is_good text tokens form r p = list_all is_some (pair_numbers text tokens form p) && has_axis form p.key r (pair_numbers text tokens form p)
 
-abbrev pub IsNear : Option ℤ → Type 0
-IsNear None = Unit {0}
-IsNear (Some n) = IsAtMost COORD n
+-- a number, where it is there, is at most as large as its kind allows
+abbrev pub IsOfKind : NumberKind → Option ℤ → Type 0
+IsOfKind kind None = Unit {0}
+IsOfKind kind (Some n) = unsigned_abs n ≤ most_of kind
+
+-- each number of a list, by its place
+abbrev pub AreOfKinds : NumberList → List (Option ℤ) → Type 0
+AreOfKinds list numbers = (k : ℕ) → k < length numbers → IsOfKind (kind_at list k) (slice_index_or numbers k None)
 
 abbrev pub or_zero : Option ℤ → ℤ
 or_zero number = unwrap_or number (pos 0)

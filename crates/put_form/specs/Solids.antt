@@ -6,7 +6,8 @@ use Rattle.std.specs.Ordering.{int_eq}
 use Rattle.tcl_words.specs.TopWords.{atom_of}
 use Rattle.tcl_words.specs.declared.token.Token.{Token}
 use Rattle.tcl_words.specs.declared.token.Word.{Word}
-use Rattle.word_values.specs.Atoms.{words_in, solid_number}
+use Rattle.word_values.specs.Atoms.{words_in}
+use Rattle.word_values.specs.Kinds.{number_as}
 use Rattle.put_form.specs.Kinds.{Key, keys_of, vector_key}
 use Rattle.put_form.specs.Pairs.{Pair, pair_of, is_key}
 use Rattle.put_form.specs.declared.kind.SolidForm.{SolidForm}
@@ -28,17 +29,17 @@ single (Some atom) = Some (atom ∷ [])
 abbrev pub value_atoms : List ℕ → List Token → ℕ → Word → Option (List (List ℕ))
 value_atoms text tokens count value = if count == 1 then single (atom_of text tokens value) else of_count count (words_in text tokens value)
 
--- its numbers, each of which may be none
-abbrev pub value_numbers : List ℕ → List Token → ℕ → Word → Option (List (Option ℤ))
-value_numbers text tokens count value = option_map (λ atoms. map solid_number atoms) (value_atoms text tokens count value)
+-- its numbers by its key, each of which may be none
+abbrev pub value_numbers : List ℕ → List Token → Key → Word → Option (List (Option ℤ))
+value_numbers text tokens key value = option_map (λ atoms. map (number_as key.kind) atoms) (value_atoms text tokens key.count value)
 
-abbrev pub numbers_at : List ℕ → List Token → ℕ → Option Pair → Option (List (Option ℤ))
-numbers_at text tokens count None = None
-numbers_at text tokens count (Some p) = value_numbers text tokens count p.value
+abbrev pub numbers_at : List ℕ → List Token → Key → Option Pair → Option (List (Option ℤ))
+numbers_at text tokens key None = None
+numbers_at text tokens key (Some p) = value_numbers text tokens key p.value
 
 -- the numbers of a key, none where it is missing or its value is not in its form
 abbrev pub key_numbers : List ℕ → List Token → List Pair → Key → Option (List (Option ℤ))
-key_numbers text tokens pairs key = numbers_at text tokens key.count (pair_of key.name pairs)
+key_numbers text tokens pairs key = numbers_at text tokens key (pair_of key.name pairs)
 
 abbrev pub appended : Option (List (Option ℤ)) → Option (List (Option ℤ)) → Option (List (Option ℤ))
 appended None rest = None
@@ -66,7 +67,7 @@ or_no_numbers (Some numbers) = numbers
 
 abbrev pub numbers_by : List ℕ → List Token → Word → Option Key → List (Option ℤ)
 numbers_by text tokens value None = []
-numbers_by text tokens value (Some key) = or_no_numbers (value_numbers text tokens key.count value)
+numbers_by text tokens value (Some key) = or_no_numbers (value_numbers text tokens key value)
 
 -- the numbers of a pair, by its own key
 abbrev pub pair_numbers : List ℕ → List Token → SolidForm → Pair → List (Option ℤ)

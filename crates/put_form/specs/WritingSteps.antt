@@ -1,35 +1,43 @@
 -- How the text of an object is put together, in the steps of the code.
-use Rattle.std.specs.Prelude.{ℕ, ℤ, List, [], ◌∷◌, ◌++◌, codes, decimal, reverse}
-use Rattle.std.specs.Fmt.{signed_decimal}
+use Rattle.std.specs.Prelude.{ℕ, ℤ, ◌==◌, ◌+◌, List, [], ◌∷◌, ◌++◌, codes, decimal, reverse, if◌then◌else◌}
 use Rattle.lattice_core.specs.declared.vector.V3.{V3}
 use Rattle.lattice_core.specs.declared.placement.Placement.{Placement}
 use Rattle.name_core.specs.declared.name.Name.{Name}
 use Rattle.region_attr.specs.declared.attr.Attr.{Attr}
+use Rattle.word_values.specs.Kinds.{coordinate_kind, kind_at}
+use Rattle.word_values.specs.declared.atoms.NumberKind.{NumberKind}
+use Rattle.word_values.specs.declared.atoms.NumberList.{NumberList}
 use Rattle.tree_forms.specs.declared.Op.TheVariants as op
 use Rattle.comb_tree.specs.declared.node.CombNode.{CombNode}
 use Rattle.comb_tree.specs.declared.node.CombNode.TheVariants as node
 use Rattle.put_form.specs.declared.write_tree.Before.{Before}
 use Rattle.put_form.specs.declared.write_tree.Before.TheVariants.{Operator, LeftSide}
-use Rattle.put_form.specs.Written.{numbers_text, vector_text, operator_text, matrix_text}
+use Rattle.put_form.specs.Written.{length_text, number_text, words_text, number_words, vector_text, operator_text, matrix_text}
 
-abbrev pub spaced_text : ℤ → List ℕ
-spaced_text n = 32 ∷ signed_decimal n
+-- a number at a place of a list, after a blank where it is not the first
+abbrev pub placed_text : NumberList → ℕ → ℤ → List ℕ
+placed_text list place n = (if place == 0 then [] else codes " ") ++ number_text (kind_at list place) n
+
+-- the numbers from a place on
+abbrev pub placed_texts : NumberList → ℕ → List ℤ → List ℕ
+placed_texts list place [] = []
+placed_texts list place (n ∷ rest) = placed_text list place n ++ placed_texts list (place + 1) rest
 
 -- a vertex and its number, after a blank
 abbrev pub vertex_text : ℕ → V3 → List ℕ
-vertex_text number v = codes " V" ++ (decimal number ++ (codes " " ++ vector_text v))
+vertex_text number v = codes " V" ++ (decimal number ++ (codes " " ++ vector_text coordinate_kind v))
 
--- a vector and a number, each with its key before it
-abbrev pub keyed_text : List ℕ → V3 → List ℕ → ℤ → List ℕ
-keyed_text before vector between number = before ++ (vector_text vector ++ (between ++ signed_decimal number))
+-- a vector of a kind and a length, each with its key before it
+abbrev pub keyed_text : List ℕ → NumberKind → V3 → List ℕ → ℤ → List ℕ
+keyed_text before kind vector between length = before ++ (vector_text kind vector ++ (between ++ length_text length))
 
 abbrev pub numbers_of_attr : Attr → List ℕ
 numbers_of_attr attr =
     codes " id " ++ (decimal attr.id ++ (codes " air " ++ (decimal attr.air ++ (codes " los " ++ (decimal attr.los ++ (codes " mater " ++ decimal attr.mater))))))
 
 -- a group of numbers, after a blank
-abbrev pub group_text : List ℤ → List ℕ
-group_text numbers = codes " {" ++ (numbers_text numbers ++ codes "}")
+abbrev pub group_text : NumberList → List ℤ → List ℕ
+group_text list numbers = codes " {" ++ (words_text (number_words list 0 numbers) ++ codes "}")
 
 abbrev pub leaf_text : Name → Placement → List ℕ
 leaf_text name placement = codes "l " ++ (name ++ matrix_text placement)

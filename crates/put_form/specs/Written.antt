@@ -1,11 +1,18 @@
 -- The one written text of an object: its `put` line, and its `attr set` line where it keeps attributes. Words are parted by
 -- one blank, with none after `{` and before `}`.
-use Rattle.std.specs.Prelude.{ℕ, ℤ, pos, Bool, true, false, ◌&&◌, ◌==◌, ◌+◌, List, [], ◌∷◌, ◌++◌, flat_map, Option, None, Some, codes, decimal, if◌then◌else◌}
+use Rattle.std.specs.Prelude.{ℕ, suc, ℤ, pos, negsuc, Bool, true, false, ◌&&◌, ◌==◌, ◌+◌, ◌/◌, ◌%◌, List, [], ◌∷◌, ◌++◌, flat_map, Option, None, Some, codes, decimal, if◌then◌else◌}
 use Rattle.std.specs.Fmt.{signed_decimal}
+use Rattle.std.specs.Int.RustNames.{unsigned_abs}
 use Rattle.std.specs.Ordering.{int_eq}
+use Rattle.lattice_core.specs.declared.limit.TheConstants.{MILLIMETRE}
 use Rattle.lattice_core.specs.declared.vector.V3.{V3}
 use Rattle.lattice_core.specs.declared.placement.Placement.{Placement}
 use Rattle.lattice_core.specs.Placements.{matrix_of}
+use Rattle.word_values.specs.Kinds.{coordinate_kind, normal_kind, kind_at}
+use Rattle.word_values.specs.declared.atoms.NumberKind.{NumberKind}
+use Rattle.word_values.specs.declared.atoms.NumberKind.TheVariants.{Whole, Length}
+use Rattle.word_values.specs.declared.atoms.NumberList.{NumberList}
+use Rattle.word_values.specs.declared.atoms.NumberList.TheVariants as lists
 use Rattle.tree_forms.specs.declared.Op.{Op}
 use Rattle.tree_forms.specs.declared.Op.TheVariants.{U, N, Minus, X}
 use Rattle.tree_forms.specs.Trees.{Tree, Leaf, Join}
@@ -20,24 +27,52 @@ use Rattle.object_set.specs.declared.kept.KeptAttr.{KeptAttr}
 use Rattle.object_set.specs.declared.object.Body.{Body}
 use Rattle.object_set.specs.declared.object.Body.TheVariants as bodies
 
--- numbers parted by blanks
-abbrev pub numbers_text : List ℤ → List ℕ
-numbers_text [] = []
-numbers_text (n ∷ []) = signed_decimal n
-numbers_text (n ∷ rest) = signed_decimal n ++ 32 ∷ numbers_text rest
+-- how many tenths a millimetre has
+abbrev pub tenths : ℕ
+tenths = unsigned_abs MILLIMETRE
+
+-- the tenths that are left over: a point and one digit, and nothing where there are none
+abbrev pub tenth_text : ℕ → List ℕ
+tenth_text tenth = if tenth == 0 then [] else codes "." ++ decimal tenth
+
+-- so many tenths of a millimetre, in millimetres
+abbrev pub size_text : ℕ → List ℕ
+size_text size = decimal (size / tenths) ++ tenth_text (size % tenths)
+
+-- a length in millimetres: a whole number, or one with a point and one digit
+abbrev pub length_text : ℤ → List ℕ
+length_text (pos n) = size_text n
+length_text (negsuc n) = codes "-" ++ size_text (suc n)
+
+-- a number as it is read: a whole number as it is, and a length in millimetres
+abbrev pub number_text : NumberKind → ℤ → List ℕ
+number_text (Whole most) n = signed_decimal n
+number_text (Length most) n = length_text n
+
+-- words parted by blanks
+abbrev pub words_text : List (List ℕ) → List ℕ
+words_text [] = []
+words_text (w ∷ []) = w
+words_text (w ∷ rest) = w ++ 32 ∷ words_text rest
+
+-- the numbers of a list from a place on, each as a word
+abbrev pub number_words : NumberList → ℕ → List ℤ → List (List ℕ)
+number_words list place [] = []
+number_words list place (n ∷ rest) = number_text (kind_at list place) n ∷ number_words list (place + 1) rest
 
 -- {x y z}
-abbrev pub vector_text : V3 → List ℕ
-vector_text v = codes "{" ++ (numbers_text (v.x ∷ v.y ∷ v.z ∷ []) ++ codes "}")
+abbrev pub vector_text : NumberKind → V3 → List ℕ
+vector_text kind v = codes "{" ++ (words_text (number_text kind v.x ∷ number_text kind v.y ∷ number_text kind v.z ∷ []) ++ codes "}")
 
 -- V1 {x y z} V2 {x y z} .., each after a blank
 abbrev pub vertices_text : ℕ → List V3 → List ℕ
 vertices_text number [] = []
-vertices_text number (v ∷ rest) = codes " V" ++ (decimal number ++ (codes " " ++ (vector_text v ++ vertices_text (number + 1) rest)))
+vertices_text number (v ∷ rest) = codes " V" ++ (decimal number ++ (codes " " ++ (vector_text coordinate_kind v ++ vertices_text (number + 1) rest)))
 
+-- a normal has whole numbers, and all other numbers of solids are lengths
 abbrev pub solid_text : Solid → List ℕ
-solid_text (solids.Sphere s) = codes "sph V " ++ (vector_text s.centre ++ (codes " r " ++ signed_decimal s.radius))
-solid_text (solids.Half h) = codes "half N " ++ (vector_text h.normal ++ (codes " d " ++ signed_decimal h.distance))
+solid_text (solids.Sphere s) = codes "sph V " ++ (vector_text coordinate_kind s.centre ++ (codes " r " ++ length_text s.radius))
+solid_text (solids.Half h) = codes "half N " ++ (vector_text normal_kind h.normal ++ (codes " d " ++ length_text h.distance))
 solid_text (solids.Arb8 a) = codes "arb8" ++ vertices_text 1 a.vertices
 
 abbrev pub truth_text : Bool → List ℕ
@@ -56,9 +91,10 @@ attr_text attr =
 abbrev pub is_zero : V3 → Bool
 is_zero v = int_eq v.x (pos 0) && int_eq v.y (pos 0) && int_eq v.z (pos 0)
 
--- a placement that moves nothing is not written
+-- The sixteen numbers row by row, of which the components of the shift are lengths. A placement that moves nothing is not
+-- written.
 abbrev pub matrix_text : Placement → List ℕ
-matrix_text p = if p.turn.number == 0 && is_zero p.shift then [] else codes " {" ++ (numbers_text (matrix_of p) ++ codes "}")
+matrix_text p = if p.turn.number == 0 && is_zero p.shift then [] else codes " {" ++ (words_text (number_words lists.Matrix 0 (matrix_of p)) ++ codes "}")
 
 abbrev pub operator_text : Op → List ℕ
 operator_text U = codes "u"

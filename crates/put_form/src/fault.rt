@@ -20,8 +20,8 @@ pub enum PutFault {
     /// This word is the first that is no name, where one is wanted, or holds one that is none.
     #[error("word {0} is no name")]
     Name(u32),
-    /// This word is the first with a number or an attribute's value out of its range, or with a matrix that is no placement
-    /// or shifts too far.
+    /// This word is the first with a number that is none of its kind, a whole number or a length, with a number or an
+    /// attribute's value out of its range, or with a matrix that is no placement or shifts too far.
     #[error("word {0} has no such number")]
     Number(u32),
     /// The numbers make no solid.

@@ -14,6 +14,7 @@ mod solid;
 mod solid_keys;
 mod write;
 mod write_attr;
+mod write_number;
 mod write_solid;
 mod write_tree;
 

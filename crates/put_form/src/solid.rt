@@ -1,12 +1,11 @@
 //! Reads solids by their keys and numbers.
-ghost use Rattle.std.specs.Prelude.{All, ◌≡◌, ◌≤◌, map, take, length, IfOk, IfSome, is_some, unwrap_or, pos};
+ghost use Rattle.std.specs.Prelude.{◌≡◌, ◌≤◌, map, take, length, IfOk, IfSome, is_some, unwrap_or, pos};
 ghost use Rattle.std.specs.List.{list_all};
 ghost use Rattle.std.specs.Option.{option_copied, option_map};
 ghost use Rattle.tcl_words.specs.TopWords.{AreTokensIn, IsWordOf};
-ghost use Rattle.lattice_core.specs.declared.limit.TheConstants.{COORD};
-ghost use Rattle.lattice_core.specs.Limits.{IsAtMost};
 ghost use Rattle.word_values.specs.Solids.{number_count, solid_made};
-ghost use Rattle.word_values.specs.Atoms.{solid_number};
+ghost use Rattle.word_values.specs.Kinds.{number_as};
+ghost use Rattle.word_values.specs.declared.atoms.NumberList.TheVariants as lists;
 ghost use Rattle.put_form.specs.Kinds as kinds;
 ghost use Rattle.put_form.specs.Kinds.{made_as};
 ghost use Rattle.put_form.specs.Solids as solids;
@@ -26,7 +25,7 @@ use plane_geom::ShapeFault;
 use solid_set::Solid;
 use std::alloc::Global;
 use tcl_words::{Token, Word, atom_text};
-use word_values::{SOLID_NUMBER, group_atoms, number_to};
+use word_values::{NumberKind, group_atoms};
 
 /// A list of one atom.
 fn single(alloc: Global, atom: Option<&[u8]>) -> Result<Option<Vec<&[u8]>>, Memory>
@@ -77,31 +76,31 @@ fn value_atoms<'a>(
     }
 }
 
-/// The numbers that atoms are, each of which may be none in its range.
-fn solid_numbers(alloc: Global, atoms: &[&[u8]]) -> Result<Vec<Option<i64>>, Memory>
-    ensures { IfOk result (λ v. v.items ≡ map solid_number (map (λ a. a.now) atoms.now)) }
+/// The numbers of a kind that atoms are, each of which may be none in its range.
+fn numbers_as(alloc: Global, kind: NumberKind, atoms: &[&[u8]]) -> Result<Vec<Option<i64>>, Memory>
+    ensures { IfOk result (λ v. v.items ≡ map (number_as kind) (map (λ a. a.now) atoms.now)) }
 {
     let mut numbers = Vec::with_capacity(alloc, atoms.len())?;
     for atom in atoms {
-        numbers.push(number_to(atom, SOLID_NUMBER))?;
+        numbers.push(kind.read(atom))?;
     }
     Ok(numbers)
 }
 
-/// The numbers of a value.
+/// The numbers of a key's value.
 fn value_numbers(
     alloc: Global,
     text: &[u8],
     tokens: &[Token],
-    count: usize,
+    key: &Key,
     value: Word,
 ) -> Result<Option<Vec<Option<i64>>>, Memory>
     requires tokens { AreTokensIn (length text.now) tokens.now }
     requires word { IsWordOf tokens.now value }
-    ensures { IfOk result (λ found. option_map (λ v. v.items) found ≡ solids.value_numbers text.now tokens.now count value) }
+    ensures { IfOk result (λ found. option_map (λ v. v.items) found ≡ solids.value_numbers text.now tokens.now key.now value) }
 {
-    match value_atoms(alloc, text, tokens, count, value)? {
-        Some(atoms) => Ok(Some(solid_numbers(alloc, &atoms)?)),
+    match value_atoms(alloc, text, tokens, key.count(), value)? {
+        Some(atoms) => Ok(Some(numbers_as(alloc, key.kind(), &atoms)?)),
         None => Ok(None),
     }
 }
@@ -119,7 +118,7 @@ fn key_numbers(
     ensures { IfOk result (λ found. option_map (λ v. v.items) found ≡ solids.key_numbers text.now tokens.now pairs.now key.now) }
 {
     match pair_of(key.name(), pairs) {
-        Some(pair) => value_numbers(alloc, text, tokens, key.count(), pair.value()),
+        Some(pair) => value_numbers(alloc, text, tokens, key, pair.value()),
         None => Ok(None),
     }
 }
@@ -198,7 +197,7 @@ fn pair_numbers(
 {
     match key_of_pair(form, pair.key()) {
         Some(key) => {
-            let numbers = value_numbers(alloc, text, tokens, key.count(), pair.value())?;
+            let numbers = value_numbers(alloc, text, tokens, &key, pair.value())?;
             Ok(or_no_numbers(alloc, numbers))
         }
         None => Ok(Vec::new(alloc)),
@@ -354,10 +353,8 @@ fn bad_word(
 
 /// The numbers, those that are none being 0.
 fn whole_numbers(numbers: &[Option<i64>]) -> [i64; 24]
-    requires few { length numbers.now ≤ 24 }
-    requires size { All steps.IsNear numbers.now }
-    ensures numbers { take (length numbers.now) result ≡ map steps.or_zero numbers.now }
-    ensures size { All (IsAtMost COORD) (take (length numbers.now) result) }
+    requires { length numbers.now ≤ 24 }
+    ensures { take (length numbers.now) result ≡ map steps.or_zero numbers.now }
 {
     let mut whole = [0; 24];
     for (i, number) in numbers.iter().enumerate() {
@@ -369,7 +366,7 @@ fn whole_numbers(numbers: &[Option<i64>]) -> [i64; 24]
 /// The solid that the first of the numbers make, or its first fault.
 fn make_solid(form: SolidForm, numbers: &[Option<i64>]) -> Result<Solid, ShapeFault>
     requires count { number_count (made_as form) ≤ length numbers.now }
-    requires size { All steps.IsNear numbers.now }
+    requires sizes { steps.AreOfKinds (lists.Solid (made_as form)) numbers.now }
     ensures { result ≡ solid_made (made_as form) (take (number_count (made_as form)) numbers.now) }
 {
     let kind = form.made_as();
@@ -387,7 +384,7 @@ fn named_solid(
     bad: Option<u32>,
 ) -> Result<(Name, Object), PutFault>
     requires count { number_count (made_as form) ≤ length numbers.now }
-    requires size { All steps.IsNear numbers.now }
+    requires sizes { steps.AreOfKinds (lists.Solid (made_as form)) numbers.now }
     ensures { IsPutRead result (steps.named_solid (option_copied name.entry) form numbers.now bad) }
 {
     let name = read_name(name)?;

@@ -7,12 +7,14 @@ ghost use Rattle.put_form.specs.SolidSteps as steps;
 
 use crate::kind::SolidForm;
 use std::marker::Model;
+use word_values::{NumberKind, coordinate_kind, normal_kind};
 
-/// A key, and how many numbers its value has: one atom, or a group of three.
+/// A key, how many numbers its value has, one atom or a group of three, and of which kind they are.
 #[derive(Drop)]
 pub(crate) struct Key {
     name: &'static [u8],
     count: usize,
+    kind: NumberKind,
 }
 
 impl Model for Key {
@@ -20,7 +22,7 @@ impl Model for Key {
 
     ghost Value = { Key };
 
-    ghost view = { λ s. record { name = s.name.now; count = s.count } };
+    ghost view = { λ s. record { name = s.name.now; count = s.count; kind = s.kind } };
 }
 
 impl Key {
@@ -37,20 +39,45 @@ impl Key {
     {
         self.count
     }
+
+    pub(crate) fn kind(&self) -> NumberKind
+        ensures { result ≡ self.now.kind }
+    {
+        self.kind
+    }
 }
 
-/// The key of three numbers.
+/// The key of three lengths.
 pub(crate) fn vector_key(name: &'static [u8]) -> Key
     ensures { result ≡ kinds.vector_key name.now }
 {
-    Key { name, count: 3 }
+    Key {
+        name,
+        count: 3,
+        kind: coordinate_kind(),
+    }
 }
 
-/// The key of one number.
+/// The key of three whole numbers.
+fn normal_key(name: &'static [u8]) -> Key
+    ensures { result ≡ kinds.normal_key name.now }
+{
+    Key {
+        name,
+        count: 3,
+        kind: normal_kind(),
+    }
+}
+
+/// The key of one length.
 fn number_key(name: &'static [u8]) -> Key
     ensures { result ≡ kinds.number_key name.now }
 {
-    Key { name, count: 1 }
+    Key {
+        name,
+        count: 1,
+        kind: coordinate_kind(),
+    }
 }
 
 /// How many keys a solid has.
@@ -106,7 +133,7 @@ pub(crate) fn key_at(form: SolidForm, place: usize) -> Key
         SolidForm::Ellipsoid => vector_key(ellipsoid_name(place)),
         SolidForm::Half => {
             if place == 0 {
-                vector_key(b"N")
+                normal_key(b"N")
             } else {
                 number_key(b"d")
             }

@@ -3,7 +3,7 @@ ghost use Rattle.std.specs.Prelude.{◌≡◌, ◌++◌, OnOk, decimal};
 ghost use Rattle.put_form.specs.Written.{truth_text, colour_text, attr_text};
 ghost use Rattle.put_form.specs.WritingSteps.{numbers_of_attr};
 
-use crate::write_solid::push_number;
+use crate::write_number::push_number;
 use memory_core::Memory;
 use region_attr::{Attr, Rgb};
 

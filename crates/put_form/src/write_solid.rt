@@ -1,58 +1,14 @@
-//! Numbers and solids, put at the end of a line.
-ghost use Rattle.std.specs.Prelude.{◌≡◌, ◌++◌, OnOk, codes, flat_map};
-ghost use Rattle.put_form.specs.Written.{numbers_text, vector_text, vertices_text, solid_text};
-ghost use Rattle.put_form.specs.WritingSteps.{keyed_text, spaced_text, vertex_text};
+//! Solids, put at the end of a line.
+ghost use Rattle.std.specs.Prelude.{◌≡◌, ◌++◌, OnOk, codes};
+ghost use Rattle.word_values.specs.Kinds.{coordinate_kind, normal_kind};
+ghost use Rattle.put_form.specs.Written.{vertices_text, solid_text};
+ghost use Rattle.put_form.specs.WritingSteps.{keyed_text, vertex_text};
 
-use itoa::{Buffer, Integer};
+use crate::write_number::{push_length, push_number, push_vector};
 use lattice_core::V3;
 use memory_core::Memory;
 use solid_set::Solid;
-
-pub(crate) fn push_number<I: Integer>(line: &mut Vec<u8>, number: I) -> Result<(), Memory>
-    ensures { OnOk result (line.new.items ≡ line.old.items ++ I.text number) }
-{
-    let mut buffer = Buffer::new();
-    line.extend_from_slice(buffer.format(number).as_bytes())?;
-    Ok(())
-}
-
-/// Puts a number, after a blank, at the end of the line.
-fn push_after_blank(line: &mut Vec<u8>, number: i64) -> Result<(), Memory>
-    ensures { OnOk result (line.new.items ≡ line.old.items ++ spaced_text number) }
-{
-    line.push(b' ')?;
-    push_number(line, number)
-}
-
-/// Puts numbers, each after a blank, at the end of the line.
-fn push_spaced(line: &mut Vec<u8>, numbers: &[i64]) -> Result<(), Memory>
-    ensures { OnOk result (line.new.items ≡ line.old.items ++ flat_map spaced_text numbers.now) }
-{
-    for number in numbers {
-        push_after_blank(line, *number)?;
-    }
-    Ok(())
-}
-
-/// Puts numbers, parted by blanks, at the end of the line.
-pub(crate) fn push_numbers(line: &mut Vec<u8>, numbers: &[i64]) -> Result<(), Memory>
-    ensures { OnOk result (line.new.items ≡ line.old.items ++ numbers_text numbers.now) }
-{
-    let Some((first, rest)) = numbers.split_first() else {
-        return Ok(());
-    };
-    push_number(line, *first)?;
-    push_spaced(line, rest)
-}
-
-fn push_vector(line: &mut Vec<u8>, vector: V3) -> Result<(), Memory>
-    ensures { OnOk result (line.new.items ≡ line.old.items ++ vector_text vector) }
-{
-    line.push(b'{')?;
-    push_numbers(line, &[vector.x, vector.y, vector.z])?;
-    line.push(b'}')?;
-    Ok(())
-}
+use word_values::{NumberKind, coordinate_kind, normal_kind};
 
 /// Puts a vertex and its number, as `V1 {0 0 5}` after a blank, at the end of the line.
 fn push_vertex(line: &mut Vec<u8>, number: usize, vertex: V3) -> Result<(), Memory>
@@ -61,7 +17,7 @@ fn push_vertex(line: &mut Vec<u8>, number: usize, vertex: V3) -> Result<(), Memo
     line.extend_from_slice(b" V")?;
     push_number(line, number)?;
     line.push(b' ')?;
-    push_vector(line, vertex)
+    push_vector(line, coordinate_kind(), vertex)
 }
 
 /// Puts the vertices, numbered from 1, at the end of the line.
@@ -74,20 +30,33 @@ fn push_vertices(line: &mut Vec<u8>, vertices: &[V3]) -> Result<(), Memory>
     Ok(())
 }
 
-/// Puts a vector and a number, each with its key before it, at the end of the line.
+/// Puts a vector of a kind and a length, each with its key before it, at the end of the line.
 fn push_keyed(
     line: &mut Vec<u8>,
     before: &[u8],
+    kind: NumberKind,
     vector: V3,
     between: &[u8],
-    number: i64,
+    length: i64,
 ) -> Result<(), Memory>
-    ensures { OnOk result (line.new.items ≡ line.old.items ++ keyed_text before.now vector between.now number) }
+    ensures { OnOk result (line.new.items ≡ line.old.items ++ keyed_text before.now kind vector between.now length) }
 {
     line.extend_from_slice(before)?;
-    push_vector(line, vector)?;
+    push_vector(line, kind, vector)?;
     line.extend_from_slice(between)?;
-    push_number(line, number)
+    push_length(line, length)
+}
+
+fn push_sphere(line: &mut Vec<u8>, centre: V3, radius: i64) -> Result<(), Memory>
+    ensures { OnOk result (line.new.items ≡ line.old.items ++ keyed_text (codes "sph V ") coordinate_kind centre (codes " r ") radius) }
+{
+    push_keyed(line, b"sph V ", coordinate_kind(), centre, b" r ", radius)
+}
+
+fn push_half(line: &mut Vec<u8>, normal: V3, distance: i64) -> Result<(), Memory>
+    ensures { OnOk result (line.new.items ≡ line.old.items ++ keyed_text (codes "half N ") normal_kind normal (codes " d ") distance) }
+{
+    push_keyed(line, b"half N ", normal_kind(), normal, b" d ", distance)
 }
 
 fn push_arb8(line: &mut Vec<u8>, vertices: &[V3]) -> Result<(), Memory>
@@ -101,10 +70,8 @@ pub(crate) fn push_solid(line: &mut Vec<u8>, solid: &Solid) -> Result<(), Memory
     ensures { OnOk result (line.new.items ≡ line.old.items ++ solid_text solid.now) }
 {
     match solid {
-        Solid::Sphere(sphere) => {
-            push_keyed(line, b"sph V ", sphere.centre(), b" r ", sphere.radius())
-        }
-        Solid::Half(half) => push_keyed(line, b"half N ", half.normal(), b" d ", half.distance()),
+        Solid::Sphere(sphere) => push_sphere(line, sphere.centre(), sphere.radius()),
+        Solid::Half(half) => push_half(line, half.normal(), half.distance()),
         Solid::Arb8(arb8) => push_arb8(line, &arb8.vertices()),
     }
 }

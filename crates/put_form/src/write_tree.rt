@@ -5,12 +5,13 @@ ghost use Rattle.std.specs.Prelude.{◌≡◌, ◌≤◌, ◌++◌, ◌∷◌, [
 ghost use Rattle.put_form.specs.Written as written;
 ghost use Rattle.put_form.specs.WritingSteps.{group_text, leaf_text, before_text, owed, after, step_text, step_stack, walked};
 
-use crate::write_solid::push_numbers;
+use crate::write_number::push_numbers;
 use comb_tree::{CombNode, CombTree, Op};
 use lattice_core::Placement;
 use memory_core::Memory;
 use name_core::Name;
 use std::alloc::Global;
+use word_values::NumberList;
 
 /// What stands before a part of a tree.
 #[derive(Clone, Copy)]
@@ -22,11 +23,11 @@ enum Before {
 }
 
 /// Puts a group of numbers, after a blank, at the end of the line.
-fn push_group(line: &mut Vec<u8>, numbers: &[i64]) -> Result<(), Memory>
-    ensures { OnOk result (line.new.items ≡ line.old.items ++ group_text numbers.now) }
+fn push_group(line: &mut Vec<u8>, list: NumberList, numbers: &[i64]) -> Result<(), Memory>
+    ensures { OnOk result (line.new.items ≡ line.old.items ++ group_text list numbers.now) }
 {
     line.extend_from_slice(b" {")?;
-    push_numbers(line, numbers)?;
+    push_numbers(line, list, numbers)?;
     line.push(b'}')?;
     Ok(())
 }
@@ -38,7 +39,7 @@ fn push_matrix(line: &mut Vec<u8>, placement: &Placement) -> Result<(), Memory>
     if *placement == Placement::identity() {
         return Ok(());
     }
-    push_group(line, &placement.matrix())
+    push_group(line, NumberList::Matrix, &placement.matrix())
 }
 
 fn push_leaf(line: &mut Vec<u8>, name: &Name, placement: &Placement) -> Result<(), Memory>

@@ -1,6 +1,4 @@
-use Rattle.std.proofs.Common.{◌≡◌, All, map, take, length}
-use Rattle.lattice_core.specs.declared.limit.TheConstants.{COORD}
-use Rattle.lattice_core.specs.Limits.{IsAtMost}
+use Rattle.std.proofs.Common.{◌≡◌, map, take, length}
 use Rattle.put_form.specs.SolidSteps.{or_zero}
 use Rattle.put_form.proofs.solid.whole_numbers.Given as goal
 
@@ -8,5 +6,4 @@ abbrev pub invariant-loop-i : goal.invariant-loop-i
 invariant-loop-i l = record {
   room : length l.whole ≡ 24;
   numbers : take l.i l.whole ≡ map or_zero (take l.i l.numbers);
-  size : All (IsAtMost COORD) (take l.i l.whole);
 }

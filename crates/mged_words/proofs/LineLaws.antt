@@ -1,10 +1,9 @@
 -- The words of a line, and numbers among them.
-use Rattle.std.proofs.Common.{All, subst, ◌≡◌, ◌<◌, ◌≤◌, ◌+◌, ◌++◌, ◌∷◌, [], ◌∙◌, ℕ, ℤ, List, set, take, length, get_or, drop, map, Option, Some, None, arith, ap, sym, refl}
+use Rattle.std.proofs.Common.{◌≡◌, ◌<◌, ◌≤◌, ◌+◌, ◌++◌, ◌^◌, ◌∷◌, [], ◌∙◌, ℕ, ℤ, List, set, take, length, get_or, drop, map, Option, Some, None, arith, lit<, ap, sym, refl}
 use Rattle.std.specs.Borrow.{Bor}
 use Rattle.std.proofs.lemmas.Grind.{common_steps}
-use Rattle.std.proofs.lemmas.List.Elements.{All-cons, All-append}
-use Rattle.std.proofs.lemmas.List.{drop_more, take_more, map-append}
-use Rattle.std.proofs.Common.{cond, Bool, true, false, ◌==◌, eq-eqb, ne_eqb, Ok, Err, nat_lt, ◌≢◌}
+use Rattle.std.proofs.lemmas.List.{drop_more, take_more, map-append, length-take}
+use Rattle.std.proofs.Common.{cond, Bool, true, false, ◌==◌, ◌||◌, eq-eqb, ne_eqb, Ok, Err, nat_lt, ◌≢◌}
 use Rattle.name_core.specs.NameText.{read_name, read_with, first_bad}
 use Rattle.name_core.specs.declared.name.NameFault.TheVariants.{Empty, Long}
 use Rattle.std.proofs.lemmas.Bool.{cond-true, cond-false}
@@ -13,31 +12,62 @@ use Rattle.word_values.specs.declared.solid.SolidKind.{SolidKind}
 use Rattle.command_set.specs.declared.command.Command.{Command}
 use Rattle.command_set.specs.declared.refusal.Refusal.{Refusal}
 use Rattle.word_values.specs.Solids.{number_count}
-use Rattle.word_values.specs.Atoms.{solid_number, view_number}
+use Rattle.word_values.specs.Kinds.{kind_at, most_of, number_as, numbers_as, numbers_from, plain_kind, point_kind}
+use Rattle.word_values.specs.declared.atoms.NumberKind.{NumberKind}
+use Rattle.word_values.specs.declared.atoms.NumberList.{NumberList}
+use Rattle.word_values.specs.declared.atoms.NumberList.TheVariants as lists
+use Rattle.word_values.proofs.KindLaws.{numbers_append, solid_small}
+use Rattle.lattice_core.specs.declared.limit.TheConstants.{COORD}
+use Rattle.std.specs.Int.RustNames.{unsigned_abs}
 use Rattle.mged_words.specs.Commands.{unless_refused, kind_command, solid_command, numbers_fault, in_command, nirt_command, shot_command, direction_of}
 use Rattle.command_set.specs.declared.command.Command.TheVariants.{Bad}
-use Rattle.command_set.specs.declared.refusal.Refusal.TheVariants.{Syntax}
+use Rattle.command_set.specs.declared.refusal.Refusal.TheVariants.{Syntax, Number}
+
+-- a number of the kind that its place has
+pub placed : (list : NumberList) (place : ℕ) (kind : NumberKind) (atom : List ℕ) (o : Option ℤ) → kind ≡ kind_at list place → o ≡ number_as kind atom → o ≡ number_as (kind_at list place) atom
+placed list place kind atom o is h = h ∙ ap (λ (k : NumberKind). number_as k atom) is
 
 -- one number more
-pub next_fault : (f : List ℕ → Option ℤ) (atoms : List (Bor (List ℕ))) (word i : ℕ) (d : Bor (List ℕ)) (n : ℤ) → i < length atoms → Some n ≡ f (get_or atoms i d).now
-    → numbers_fault (word + (i + 1)) 1 (map f (map (λ (a : Bor (List ℕ)). a.now) (drop (i + 1) atoms))) ≡ numbers_fault (word + i) 1 (map f (map (λ (a : Bor (List ℕ)). a.now) (drop i atoms)))
-next_fault f atoms word i d n lt is =
-    let rest : List (Option ℤ) = map f (map (λ (a : Bor (List ℕ)). a.now) (drop (i + 1) atoms)) in
+pub next_fault : (list : NumberList) (atoms : List (Bor (List ℕ))) (word i : ℕ) (d : Bor (List ℕ)) (n : ℤ) → i < length atoms → Some n ≡ number_as (kind_at list i) (get_or atoms i d).now
+    → numbers_fault (word + (i + 1)) 1 (numbers_from list (i + 1) (map (λ (a : Bor (List ℕ)). a.now) (drop (i + 1) atoms))) ≡ numbers_fault (word + i) 1 (numbers_from list i (map (λ (a : Bor (List ℕ)). a.now) (drop i atoms)))
+next_fault list atoms word i d n lt is =
+    let rest : List (Option ℤ) = numbers_from list (i + 1) (map (λ (a : Bor (List ℕ)). a.now) (drop (i + 1) atoms)) in
     let sum : word + (i + 1) ≡ (word + i) + 1 = omega arith in
     ap (λ w. numbers_fault w 1 rest) sum ∙ ap (λ o. numbers_fault (word + i) 1 (o ∷ rest)) is
-    ∙ sym (ap (λ (xs : List (Bor (List ℕ))). numbers_fault (word + i) 1 (map f (map (λ (a : Bor (List ℕ)). a.now) xs))) (drop_more atoms i d lt))
+    ∙ sym (ap (λ (xs : List (Bor (List ℕ))). numbers_fault (word + i) 1 (numbers_from list i (map (λ (a : Bor (List ℕ)). a.now) xs))) (drop_more atoms i d lt))
 
-pub next_read : (f : List ℕ → Option ℤ) (atoms : List (Bor (List ℕ))) (out : List ℤ) (i : ℕ) (d : Bor (List ℕ)) (n : ℤ) → i < length atoms → length out ≡ length atoms → Some n ≡ f (get_or atoms i d).now
-    → map f (map (λ (a : Bor (List ℕ)). a.now) (take i atoms)) ≡ map (λ (m : ℤ). Some m) (take i out)
-    → map f (map (λ (a : Bor (List ℕ)). a.now) (take (i + 1) atoms)) ≡ map (λ (m : ℤ). Some m) (take (i + 1) (set out i n))
-next_read f atoms out i d n lt len is h =
+-- a number that is none
+pub first_fault : (list : NumberList) (atoms : List (Bor (List ℕ))) (word i : ℕ) (d : Bor (List ℕ)) → i < length atoms → None ≡ number_as (kind_at list i) (get_or atoms i d).now
+    → numbers_fault (word + i) 1 (numbers_from list i (map (λ (a : Bor (List ℕ)). a.now) (drop i atoms))) ≡ Some (Number (word + i))
+first_fault list atoms word i d lt is =
+    let rest : List (Option ℤ) = numbers_from list (i + 1) (map (λ (a : Bor (List ℕ)). a.now) (drop (i + 1) atoms)) in
+    ap (λ (xs : List (Bor (List ℕ))). numbers_fault (word + i) 1 (numbers_from list i (map (λ (a : Bor (List ℕ)). a.now) xs))) (drop_more atoms i d lt)
+    ∙ sym (ap (λ o. numbers_fault (word + i) 1 (o ∷ rest)) is)
+
+pub next_read : (list : NumberList) (atoms : List (Bor (List ℕ))) (out : List ℤ) (i : ℕ) (d : Bor (List ℕ)) (n : ℤ) → i < length atoms → length out ≡ length atoms → Some n ≡ number_as (kind_at list i) (get_or atoms i d).now
+    → numbers_as list (map (λ (a : Bor (List ℕ)). a.now) (take i atoms)) ≡ map (λ (m : ℤ). Some m) (take i out)
+    → numbers_as list (map (λ (a : Bor (List ℕ)). a.now) (take (i + 1) atoms)) ≡ map (λ (m : ℤ). Some m) (take (i + 1) (set out i n))
+next_read list atoms out i d n lt len is h =
     let now : Bor (List ℕ) → List ℕ = λ a. a.now in
-    let left : map f (map now (take (i + 1) atoms)) ≡ map f (map now (take i atoms)) ++ Some n ∷ [] =
-    ap (λ (xs : List (Bor (List ℕ))). map f (map now xs)) (take_more atoms i d lt)
-    ∙ ap (map f) (map-append now (take i atoms) (get_or atoms i d ∷ [])) ∙ map-append f (map now (take i atoms)) ((get_or atoms i d).now ∷ [])
-    ∙ ap (λ o. map f (map now (take i atoms)) ++ o ∷ []) (sym is) in
+    let before : List (List ℕ) = map now (take i atoms) in
+    let count : 0 + length before ≡ i = omega (arith, lt, length-map (take i atoms) now, length-take i atoms) in
+    let left : numbers_as list (map now (take (i + 1) atoms)) ≡ numbers_as list before ++ Some n ∷ [] =
+    ap (λ (xs : List (Bor (List ℕ))). numbers_as list (map now xs)) (take_more atoms i d lt)
+    ∙ ap (numbers_as list) (map-append now (take i atoms) (get_or atoms i d ∷ [])) ∙ numbers_append list 0 before ((get_or atoms i d).now ∷ [])
+    ∙ ap (λ (k : ℕ). numbers_as list before ++ number_as (kind_at list k) (get_or atoms i d).now ∷ []) count
+    ∙ ap (λ o. numbers_as list before ++ o ∷ []) (sym is) in
     let right : take (i + 1) (set out i n) ≡ take i out ++ n ∷ [] = grind (arith, common_steps) in
     left ∙ ap (λ xs. xs ++ Some n ∷ []) h ∙ sym (ap (map (λ (m : ℤ). Some m)) right ∙ map-append (λ (m : ℤ). Some m) (take i out) (n ∷ []))
+
+matrix_small : (far : Bool) → most_of (cond far point_kind plain_kind) < 2 ^ 62
+matrix_small true = lit< tt
+matrix_small false = lit< tt
+
+-- the numbers of a line are read as such of 64 bits
+pub kinds_small : (list : NumberList) (place : ℕ) → most_of (kind_at list place) < 2 ^ 62
+kinds_small (lists.Solid kind) place = let small : most_of (kind_at (lists.Solid kind) place) ≤ unsigned_abs COORD = solid_small kind place in omega (arith, small)
+kinds_small lists.Point place = lit< tt
+kinds_small lists.Matrix place = matrix_small (place == 3 || place == 7 || place == 11)
 
 -- too few words behind `in`
 pub in_short : (atoms : List (Bor (List ℕ))) → length atoms < 2 → Bad Syntax ≡ in_command (map (λ (a : Bor (List ℕ)). a.now) atoms)
@@ -56,7 +86,7 @@ nirt_short (a ∷ b ∷ c ∷ d ∷ e ∷ rest) lt = absurd (omega (arith, lt))
 
 -- at least five
 pub nirt_long : (atoms : List (Bor (List ℕ))) (d : Bor (List ℕ)) → 5 ≤ length atoms
-    → nirt_command (map (λ (a : Bor (List ℕ)). a.now) atoms) ≡ shot_command (map view_number (map (λ (a : Bor (List ℕ)). a.now) (take 3 atoms))) (direction_of (get_or atoms 3 d).now) (map (λ (a : Bor (List ℕ)). a.now) (drop 4 atoms))
+    → nirt_command (map (λ (a : Bor (List ℕ)). a.now) atoms) ≡ shot_command (numbers_as lists.Point (map (λ (a : Bor (List ℕ)). a.now) (take 3 atoms))) (direction_of (get_or atoms 3 d).now) (map (λ (a : Bor (List ℕ)). a.now) (drop 4 atoms))
 nirt_long (a ∷ b ∷ c ∷ e ∷ f ∷ rest) d le = refl
 nirt_long [] d le = absurd (omega (arith, le))
 nirt_long (a ∷ []) d le = absurd (omega (arith, le))
@@ -64,28 +94,20 @@ nirt_long (a ∷ b ∷ []) d le = absurd (omega (arith, le))
 nirt_long (a ∷ b ∷ c ∷ []) d le = absurd (omega (arith, le))
 nirt_long (a ∷ b ∷ c ∷ e ∷ []) d le = absurd (omega (arith, le))
 
-all_one : {X : Type 0} (P : X → Type 0) (x : X) → P x → All P (x ∷ [])
-all_one P x h = All-cons P x [] h (λ i d lt. absurd (omega (arith, lt)))
-
-pub next_within : (P : ℤ → Type 0) (out : List ℤ) (i : ℕ) (n : ℤ) → i < length out → P n → All P (take i out) → All P (take (i + 1) (set out i n))
-next_within P out i n lt h all =
-    let more : take i out ++ n ∷ [] ≡ take (i + 1) (set out i n) = sym (grind (arith, common_steps)) in
-    subst (All P) more (All-append P (take i out) (n ∷ []) all (all_one P n h))
-
 -- a kind of solid with as many numbers as it takes, or with others
 pub kind_right : (name : List ℕ) (kind : Option SolidKind) (k : SolidKind) (atoms : List (Bor (List ℕ))) → kind ≡ Some k → length atoms ≡ number_count k
-    → kind_command name kind (map (λ (a : Bor (List ℕ)). a.now) atoms) ≡ solid_command name k (map solid_number (map (λ (a : Bor (List ℕ)). a.now) atoms))
+    → kind_command name kind (map (λ (a : Bor (List ℕ)). a.now) atoms) ≡ solid_command name k (numbers_as (lists.Solid k) (map (λ (a : Bor (List ℕ)). a.now) atoms))
 kind_right name kind k atoms is count =
     let words : List (List ℕ) = map (λ (a : Bor (List ℕ)). a.now) atoms in
     ap (λ (o : Option SolidKind). kind_command name o words) is
-    ∙ cond-true (length words == number_count k) (solid_command name k (map solid_number words)) (Bad Syntax) (eq-eqb _ _ (length-map atoms (λ (a : Bor (List ℕ)). a.now) ∙ count))
+    ∙ cond-true (length words == number_count k) (solid_command name k (numbers_as (lists.Solid k) words)) (Bad Syntax) (eq-eqb _ _ (length-map atoms (λ (a : Bor (List ℕ)). a.now) ∙ count))
 
 pub kind_wrong : (name : List ℕ) (kind : Option SolidKind) (k : SolidKind) (atoms : List (Bor (List ℕ))) → kind ≡ Some k → length atoms ≢ number_count k
     → kind_command name kind (map (λ (a : Bor (List ℕ)). a.now) atoms) ≡ Bad Syntax
 kind_wrong name kind k atoms is other =
     let words : List (List ℕ) = map (λ (a : Bor (List ℕ)). a.now) atoms in
     ap (λ (o : Option SolidKind). kind_command name o words) is
-    ∙ cond-false (length words == number_count k) (solid_command name k (map solid_number words)) (Bad Syntax)
+    ∙ cond-false (length words == number_count k) (solid_command name k (numbers_as (lists.Solid k) words)) (Bad Syntax)
     (ne_eqb _ _ (λ e. other (sym (length-map atoms (λ (a : Bor (List ℕ)). a.now)) ∙ e)))
 
 pub past_fault : (t : Bool) (refusal : Refusal) (rest : List (Option Refusal)) (command : Command) → t ≡ true

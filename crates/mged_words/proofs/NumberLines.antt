@@ -1,5 +1,5 @@
 -- A line of names and numbers that are parted by single blanks is read as its command.
-use Rattle.std.proofs.Common.{◌≡◌, ◌<◌, ◌+◌, ◌++◌, ◌==◌, ◌&&◌, ◌||◌, ◌∙◌, ℕ, ℤ, pos, negsuc, ◌≤ℤ◌, suc, Bool, true, false, cond, List, [], ◌∷◌, length, drop, take, map, get_or, codes, Option, Some, None, is_none, is_ok, unwrap_or, Ok, IsTrue, arith, refl, ap, sym, subst, length-append, eqb-true}
+use Rattle.std.proofs.Common.{◌≡◌, ◌<◌, ◌≤◌, ◌+◌, ◌++◌, ◌==◌, ◌&&◌, ◌||◌, ◌∙◌, ℕ, ℤ, pos, negsuc, ◌≤ℤ◌, suc, Bool, true, false, cond, inl, inr, List, [], ◌∷◌, length, drop, take, map, get_or, codes, Option, Some, None, is_none, is_ok, unwrap_or, Ok, IsTrue, arith, refl, ap, sym, subst, length-append, eqb-true}
 use Rattle.std.specs.List.{AllByRecursion, list_all, cons_option, range_with_len, slice_range}
 use Rattle.std.specs.Prelude.{filter_map}
 use Rattle.std.specs.Option.{option_map}
@@ -22,19 +22,26 @@ use Rattle.name_core.specs.NameText.{IsName, read_name}
 use Rattle.name_core.proofs.NameLaws.{accepted}
 use Rattle.tcl_words.specs.Bytes.{is_atom}
 use Rattle.tcl_words.specs.Faults.{is_bad_at}
-use Rattle.tcl_words.specs.Numbers.{AreDigits, is_tail, is_zero, number_of}
-use Rattle.tcl_words.specs.NumberForm.{Sign, NoSign, Plus, Minus, sign_text, IsNumber}
+use Rattle.tcl_words.specs.Numbers.{AreDigits, is_tail, is_zero, number_of, tenths_of}
+use Rattle.tcl_words.specs.NumberForm.{Sign, NoSign, Plus, Minus, sign_text, IsNumber, IsTenth, IsLength}
 use Rattle.tcl_words.specs.Pieces.{pieces}
 use Rattle.tcl_words.specs.TopWords.{atom_of, top_words, word_at}
 use Rattle.tcl_words.specs.declared.token.Token.{Token}
 use Rattle.tcl_words.specs.declared.token.Word.{Word}
 use Rattle.tcl_words.proofs.Forms.{read_form}
+use Rattle.tcl_words.proofs.Lengths.{some_length}
 use Rattle.tcl_words.proofs.Written.{AtomBytes}
 use Rattle.region_attr.specs.Attrs.{is_setting, known_takes}
 use Rattle.region_attr.specs.Keys.{key_of}
 use Rattle.region_attr.specs.declared.key.Key.{Key}
 use Rattle.solid_set.specs.declared.solid.Solid.{Solid}
-use Rattle.word_values.specs.Atoms.{all_atoms, all_numbers, kept_to, number_to, solid_number, view_number}
+use Rattle.word_values.specs.Atoms.{all_atoms, all_numbers}
+use Rattle.word_values.specs.Kinds.{kind_at, number_as, numbers_as, numbers_from, plain_kind, point_kind}
+use Rattle.word_values.specs.declared.atoms.NumberKind.{NumberKind}
+use Rattle.word_values.specs.declared.atoms.NumberKind.TheVariants.{Whole, Length}
+use Rattle.word_values.specs.declared.atoms.NumberList.{NumberList}
+use Rattle.word_values.specs.declared.atoms.NumberList.TheVariants as lists
+use Rattle.word_values.proofs.KindLaws.{kept_back, numbers_length}
 use Rattle.word_values.specs.Matrices.{placement_in, placement_of_all, placement_read, identity}
 use Rattle.word_values.specs.Solids.{kind_of, number_count, solid_made}
 use Rattle.word_values.specs.declared.solid.SolidKind.{SolidKind}
@@ -47,8 +54,8 @@ use Rattle.command_set.specs.declared.command.Query.TheVariants.{Shot}
 use Rattle.command_set.specs.declared.refusal.Refusal.{Refusal}
 use Rattle.command_set.specs.declared.refusal.Refusal.TheVariants.{Syntax, Number, View}
 use Rattle.lattice_core.specs.declared.view.ViewFault.TheVariants.{World}
-use Rattle.mged_words.specs.Commands.{unless_refused, name_fault, names_fault, numbers_fault, solid_object, make_command, solid_command, kind_command, direction_of, is_in_world, is_from_world, world_fault, ray_of, shot_command, from_zero, view_numbers, view_refusal, picture_command, check_command, placement_fault, matrix_command, sixteen_command, matrix_words, matrix_step, place_with, setting_fault, set_command, set_with, worded_command, command_of_words, command_read, command_of}
-use Rattle.mged_words.specs.OneLine.{AreNames, AreNumbers, IsAtom, IsAtomByte, line_of, kind_word, direction_word}
+use Rattle.mged_words.specs.Commands.{unless_refused, name_fault, names_fault, numbers_fault, solid_object, make_command, solid_command, kind_command, direction_of, is_in_world, is_from_world, world_fault, ray_of, shot_command, from_zero, side_number, size_numbers, view_numbers, view_refusal, picture_command, check_command, placement_fault, matrix_command, sixteen_command, matrix_words, matrix_step, place_with, setting_fault, set_command, set_with, worded_command, command_of_words, command_read, command_of}
+use Rattle.mged_words.specs.OneLine.{AreNames, AreNumbers, AreViewNumbers, IsAtom, IsAtomByte, line_of, kind_word, direction_word}
 use Rattle.mged_words.proofs.SettingLaws.{no_key}
 use Rattle.mged_words.proofs.OneLineLaws.{IsAtomWord, HasAtoms, atoms, atoms_from, line_is, line_read, line_command, name_good, names_good, all_there, fine_names, one_word, word_here, text_here, rest_here, unless_both}
 
@@ -59,6 +66,9 @@ digit_atom b is = grind (arith, nat_tests)
 
 digit_good : (b : ℕ) → is_ascii_digit b ≡ true → is_bad_at b 0 ≡ false
 digit_good b is = grind (arith, nat_tests)
+
+tenth_good : (tenth : ℕ) → tenth ≤ 9 → is_ascii_digit (48 + tenth) ≡ true
+tenth_good tenth small = grind (arith, nat_tests)
 
 digits_good : (ds : List ℕ) → AreDigits ds → AtomBytes 0 ds
 digits_good [] are = tt
@@ -93,20 +103,30 @@ bytes_append : (xs ys : List ℕ) → AtomBytes 0 xs → AtomBytes 0 ys → Atom
 bytes_append [] ys h k = k
 bytes_append (x ∷ xs) ys h k = (h.0, h.1, bytes_append xs ys h.2 k)
 
+-- what stands behind the digits of a length
+tenths_good : (tail : List ℕ) (tenth : ℕ) → IsTenth tail tenth → AtomBytes 0 tail
+tenths_good tail tenth (inl whole) = tail_good tail whole.0
+tenths_good tail tenth (inr form) =
+    let digit : is_ascii_digit (48 + tenth) ≡ true = tenth_good tenth form.one_digit in
+    subst (AtomBytes 0) (sym form.spelled) (refl, refl, (digit_atom (48 + tenth) digit, digit_good (48 + tenth) digit, zeros_good form.zeros form.are_zeros))
+
+-- a sign, digits, and what stands behind them
+spelled_word : (atom : List ℕ) (sign : Sign) (digits tail : List ℕ) → atom ≡ sign_text sign ++ (digits ++ tail) → 0 < length digits → AreDigits digits → AtomBytes 0 tail → IsAtomWord atom
+spelled_word atom sign digits tail spelled some are good =
+    let rest : List ℕ = digits ++ tail in
+    let long : 0 < length (sign_text sign ++ rest) = omega (arith, length-append (sign_text sign) rest, length-append digits tail, some) in
+    let bytes : AtomBytes 0 (sign_text sign ++ rest) = bytes_append (sign_text sign) rest (sign_good sign) (bytes_append digits tail (digits_good digits are) good) in
+    subst IsAtomWord (sym spelled) (long, bytes)
+
 number_word : (atom : List ℕ) (n : ℤ) → number_of atom ≡ Some n → IsAtomWord atom
-number_word atom n is =
-    let form : IsNumber atom n = read_form atom n is in
-    let rest : List ℕ = form.digits ++ form.tail in
-    let some : 0 < length (sign_text form.sign ++ rest) = omega (arith, length-append (sign_text form.sign) rest, length-append form.digits form.tail, form.some) in
-    let bytes : AtomBytes 0 (sign_text form.sign ++ rest) = bytes_append (sign_text form.sign) rest (sign_good form.sign) (bytes_append form.digits form.tail (digits_good form.digits form.are_digits) (tail_good form.tail form.zeros)) in
-    subst IsAtomWord (sym form.spelled) (some, bytes)
+number_word atom n is = let form : IsNumber atom n = read_form atom n is in spelled_word atom form.sign form.digits form.tail form.spelled form.some form.are_digits (tail_good form.tail form.zeros)
 
-kept_some : (most : ℕ) (o : Option ℤ) (n : ℤ) → kept_to most o ≡ Some n → (m : ℤ) × (o ≡ Some m)
-kept_some most None n h = absurd cc
-kept_some most (Some m) n h = (m, refl)
+length_word : (atom : List ℕ) (n : ℤ) → tenths_of atom ≡ Some n → IsAtomWord atom
+length_word atom n is = let form : IsLength atom n = some_length atom (Some n) (sym is) in spelled_word atom form.sign form.digits form.tail form.spelled form.some form.are_digits (tenths_good form.tail form.tenth form.after)
 
-ranged_word : (most : ℕ) (atom : List ℕ) (n : ℤ) → number_to most atom ≡ Some n → IsAtomWord atom
-ranged_word most atom n h = let found = kept_some most (number_of atom) n h in number_word atom found.0 found.1
+kind_word_good : (kind : NumberKind) (atom : List ℕ) (n : ℤ) → number_as kind atom ≡ Some n → IsAtomWord atom
+kind_word_good (Whole most) atom n h = number_word atom n (kept_back most (number_of atom) n h).0
+kind_word_good (Length most) atom n h = length_word atom n (kept_back most (tenths_of atom) n h).0
 
 first_read : (o p : Option ℤ) (os ps : List (Option ℤ)) → o ∷ os ≡ p ∷ ps → o ≡ p
 first_read o p os ps h = ap (λ (xs : List (Option ℤ)). get_or xs 0 None) h
@@ -114,12 +134,14 @@ first_read o p os ps h = ap (λ (xs : List (Option ℤ)). get_or xs 0 None) h
 rest_read : (o p : Option ℤ) (os ps : List (Option ℤ)) → o ∷ os ≡ p ∷ ps → os ≡ ps
 rest_read o p os ps h = ap (λ (xs : List (Option ℤ)). drop 1 xs) h
 
-numbers_words : (most : ℕ) (words : List (List ℕ)) (numbers : List ℤ) → map (number_to most) words ≡ map (λ (n : ℤ). Some n) numbers → AllByRecursion IsAtomWord words
-numbers_words most [] numbers h = tt
-numbers_words most (w ∷ ws) [] h = absurd cc
-numbers_words most (w ∷ ws) (n ∷ ns) h =
+numbers_words : (list : NumberList) (place : ℕ) (words : List (List ℕ)) (numbers : List ℤ) → numbers_from list place words ≡ map (λ (n : ℤ). Some n) numbers → AllByRecursion IsAtomWord words
+numbers_words list place [] numbers h = tt
+numbers_words list place (w ∷ ws) [] h = absurd cc
+numbers_words list place (w ∷ ws) (n ∷ ns) h =
     let some : List ℤ → List (Option ℤ) = map (λ (m : ℤ). Some m) in
-    (ranged_word most w n (first_read (number_to most w) (Some n) (map (number_to most) ws) (some ns) h), numbers_words most ws ns (rest_read (number_to most w) (Some n) (map (number_to most) ws) (some ns) h))
+    let one : Option ℤ = number_as (kind_at list place) w in
+    let rest : List (Option ℤ) = numbers_from list (place + 1) ws in
+    (kind_word_good (kind_at list place) w n (first_read one (Some n) rest (some ns) h), numbers_words list (place + 1) ws ns (rest_read one (Some n) rest (some ns) h))
 
 -- ---- numbers that are numbers are not refused
 
@@ -144,14 +166,14 @@ kind_good Rpp = (omega arith, (refl, refl, (refl, refl, (refl, refl, tt))))
 kind_good Arb8 = (omega arith, (refl, refl, (refl, refl, (refl, refl, (refl, refl, tt)))))
 kind_good Sphere = (omega arith, (refl, refl, (refl, refl, (refl, refl, tt))))
 
-pub in_line : (name : List ℕ) (kind : SolidKind) (words : List (List ℕ)) (numbers : List ℤ) (solid : Solid) → IsName name → length words ≡ number_count kind → AreNumbers solid_number words numbers
+pub in_line : (name : List ℕ) (kind : SolidKind) (words : List (List ℕ)) (numbers : List ℤ) (solid : Solid) → IsName name → length words ≡ number_count kind → AreNumbers (lists.Solid kind) words numbers
     → solid_made kind (map (λ (n : ℤ). Some n) numbers) ≡ Ok solid → command_of (line_of (codes "in") (name ∷ kind_word kind ∷ words)) ≡ Edit (Make name (solid_object solid))
 in_line name kind words numbers solid is len are made =
     let read : List (Option ℤ) = map (λ (n : ℤ). Some n) numbers in
     let named : AreNames (name ∷ []) = (is, tt) in
-    line_command (codes "in") (name ∷ kind_word kind ∷ words) (λ line tokens w rest. refl) (omega arith, (refl, refl, (refl, refl, tt))) (name_good name is, (kind_good kind, numbers_words 16384 words numbers are))
+    line_command (codes "in") (name ∷ kind_word kind ∷ words) (λ line tokens w rest. refl) (omega arith, (refl, refl, (refl, refl, tt))) (name_good name is, (kind_good kind, numbers_words (lists.Solid kind) 0 words numbers are))
     ∙ ap (λ (o : Option SolidKind). kind_command name o words) (kind_again kind)
-    ∙ cond-true (length words == number_count kind) (solid_command name kind (map solid_number words)) (Bad Syntax) (eq-eqb _ _ len)
+    ∙ cond-true (length words == number_count kind) (solid_command name kind (numbers_as (lists.Solid kind) words)) (Bad Syntax) (eq-eqb _ _ len)
     ∙ ap (solid_command name kind) are
     ∙ unless_both (name_fault 2 name) (numbers_fault 4 1 read) (make_command name (solid_made kind read)) (fine_names 2 1 (name ∷ []) named) (all_fine 4 1 numbers)
     ∙ ap (make_command name) made
@@ -183,15 +205,15 @@ from_world origin h =
     ∙ ap (λ (t : Bool). t && is_in_world origin.z) (inside origin.y h.y)
     ∙ inside origin.z h.z
 
-pub nirt_line : (x y z : List ℕ) (origin : V3) (dir : Dir) (first : List ℕ) (rest : List (List ℕ)) → AreNumbers view_number (x ∷ y ∷ z ∷ []) (origin.x ∷ origin.y ∷ origin.z ∷ []) → IsWithin WORLD origin
+pub nirt_line : (x y z : List ℕ) (origin : V3) (dir : Dir) (first : List ℕ) (rest : List (List ℕ)) → AreNumbers lists.Point (x ∷ y ∷ z ∷ []) (origin.x ∷ origin.y ∷ origin.z ∷ []) → IsWithin WORLD origin
     → AreNames (first ∷ rest) → command_of (line_of (codes "nirt") (x ∷ y ∷ z ∷ direction_word dir ∷ first ∷ rest)) ≡ Query (Shot (ray_of origin dir) (first ∷ rest))
 nirt_line x y z origin dir first rest are within named =
     let numbers : List ℤ = origin.x ∷ origin.y ∷ origin.z ∷ [] in
     let read : List (Option ℤ) = map (λ (n : ℤ). Some n) numbers in
-    let good = numbers_words 999999999 (x ∷ y ∷ z ∷ []) numbers are in
+    let good = numbers_words lists.Point 0 (x ∷ y ∷ z ∷ []) numbers are in
     line_command (codes "nirt") (x ∷ y ∷ z ∷ direction_word dir ∷ first ∷ rest) (λ line tokens w others. refl) (omega arith, (refl, refl, (refl, refl, (refl, refl, (refl, refl, tt)))))
     (good.0, (good.1.0, (good.1.1.0, (direction_good dir, names_good (first ∷ rest) named))))
-    ∙ ap (λ (o : Option Dir). shot_command (map view_number (x ∷ y ∷ z ∷ [])) o (first ∷ rest)) (direction_again dir)
+    ∙ ap (λ (o : Option Dir). shot_command (numbers_as lists.Point (x ∷ y ∷ z ∷ [])) o (first ∷ rest)) (direction_again dir)
     ∙ ap (λ (ns : List (Option ℤ)). shot_command ns (Some dir) (first ∷ rest)) are
     ∙ unless_three (names_fault 6 1 (first ∷ rest)) (numbers_fault 2 1 read) (world_fault origin) (Query (Shot (ray_of origin dir) (first ∷ rest)))
     (fine_names 6 1 (first ∷ rest) named) (all_fine 2 1 numbers) (cond-true (is_from_world origin) None (Some (View World)) (from_world origin within))
@@ -201,10 +223,6 @@ nirt_line x y z origin dir first rest are within named =
 unless_four : (one two three four : Option Refusal) (command : Command) → one ≡ None → two ≡ None → three ≡ None → four ≡ None → unless_refused (one ∷ two ∷ three ∷ four ∷ []) command ≡ command
 unless_four one two three four command h k l m = ap (λ (o : Option Refusal). unless_refused (o ∷ two ∷ three ∷ four ∷ []) command) h ∙ unless_three two three four command k l m
 
--- the numbers of a view, of which those of its corner may be less than 0
-abbrev sized : List (Option ℤ) → List (Option ℤ)
-sized numbers = take 3 numbers ++ map from_zero (drop 3 numbers)
-
 cell_kept : (cell : ℤ) → pos 1 ≤ℤ cell → from_zero (Some cell) ≡ Some cell
 cell_kept (pos n) h = refl
 cell_kept (negsuc n) h = absurd (omega (arith, ints, h))
@@ -212,17 +230,28 @@ cell_kept (negsuc n) h = absurd (omega (arith, ints, h))
 abbrev six_of : views.View → List ℤ
 six_of view = view.corner.x ∷ view.corner.y ∷ view.corner.z ∷ view.cell ∷ pos view.w ∷ pos view.h ∷ []
 
-view_words : (x y z cell w h : List ℕ) (view : views.View) → AreNumbers view_number (x ∷ y ∷ z ∷ cell ∷ w ∷ h ∷ []) (six_of view) → pos 1 ≤ℤ view.cell
-    → view_numbers (x ∷ y ∷ z ∷ []) (cell ∷ w ∷ h ∷ []) ≡ map (λ (n : ℤ). Some n) (six_of view)
-view_words x y z cell w h view are some =
-    ap sized are ∙ ap (λ (o : Option ℤ). Some view.corner.x ∷ Some view.corner.y ∷ Some view.corner.z ∷ o ∷ Some (pos view.w) ∷ Some (pos view.h) ∷ []) (cell_kept view.cell some)
+abbrev corner_of : views.View → List (Option ℤ)
+corner_of view = Some view.corner.x ∷ Some view.corner.y ∷ Some view.corner.z ∷ []
 
-pub rt_line : (file x y z cell w h : List ℕ) (view : views.View) (first : List ℕ) (rest : List (List ℕ)) → IsName file → AreNumbers view_number (x ∷ y ∷ z ∷ cell ∷ w ∷ h ∷ []) (six_of view) → IsChecked view → AreNames (first ∷ rest)
+view_words : (x y z cell w h : List ℕ) (view : views.View) → AreViewNumbers x y z cell w h view → pos 1 ≤ℤ view.cell → view_numbers (x ∷ y ∷ z ∷ []) (cell ∷ w ∷ h ∷ []) ≡ map (λ (n : ℤ). Some n) (six_of view)
+view_words x y z cell w h view are some =
+    ap (λ (xs : List (Option ℤ)). xs ++ size_numbers (cell ∷ w ∷ h ∷ [])) are.read_corner
+    ∙ ap (λ (o : Option ℤ). corner_of view ++ from_zero o ∷ side_number w ∷ side_number h ∷ []) are.read_cell
+    ∙ ap (λ (o : Option ℤ). corner_of view ++ o ∷ side_number w ∷ side_number h ∷ []) (cell_kept view.cell some)
+    ∙ ap (λ (o : Option ℤ). corner_of view ++ Some view.cell ∷ from_zero o ∷ side_number h ∷ []) are.read_columns
+    ∙ ap (λ (o : Option ℤ). corner_of view ++ Some view.cell ∷ Some (pos view.w) ∷ from_zero o ∷ []) are.read_rows
+
+view_atoms : (x y z cell w h : List ℕ) (view : views.View) → AreViewNumbers x y z cell w h view → AllByRecursion IsAtomWord (x ∷ y ∷ z ∷ cell ∷ w ∷ h ∷ [])
+view_atoms x y z cell w h view are =
+    let corner = numbers_words lists.Point 0 (x ∷ y ∷ z ∷ []) (view.corner.x ∷ view.corner.y ∷ view.corner.z ∷ []) are.read_corner in
+    (corner.0, (corner.1.0, (corner.1.1.0, (kind_word_good point_kind cell view.cell are.read_cell, (kind_word_good plain_kind w (pos view.w) are.read_columns, (kind_word_good plain_kind h (pos view.h) are.read_rows, tt))))))
+
+pub rt_line : (file x y z cell w h : List ℕ) (view : views.View) (first : List ℕ) (rest : List (List ℕ)) → IsName file → AreViewNumbers x y z cell w h view → IsChecked view → AreNames (first ∷ rest)
     → command_of (line_of (codes "rt") (file ∷ direction_word view.dir ∷ x ∷ y ∷ z ∷ cell ∷ w ∷ h ∷ first ∷ rest)) ≡ Shoot (Picture file view (first ∷ rest))
 rt_line file x y z cell w h view first rest is are checked named =
     let six : List ℤ = six_of view in
     let read : List (Option ℤ) = map (λ (n : ℤ). Some n) six in
-    let good = numbers_words 999999999 (x ∷ y ∷ z ∷ cell ∷ w ∷ h ∷ []) six are in
+    let good = view_atoms x y z cell w h view are in
     let one : AreNames (file ∷ []) = (is, tt) in
     line_command (codes "rt") (file ∷ direction_word view.dir ∷ x ∷ y ∷ z ∷ cell ∷ w ∷ h ∷ first ∷ rest) (λ line tokens w others. refl) (omega arith, (refl, refl, (refl, refl, tt)))
     (name_good file is, (direction_good view.dir, (good.0, (good.1.0, (good.1.1.0, (good.1.1.1.0, (good.1.1.1.1.0, (good.1.1.1.1.1.0, names_good (first ∷ rest) named))))))))
@@ -231,12 +260,12 @@ rt_line file x y z cell w h view first rest is are checked named =
     ∙ unless_four (name_fault 2 file) (names_fault 10 1 (first ∷ rest)) (numbers_fault 4 1 read) (view_refusal view) (Shoot (Picture file view (first ∷ rest)))
     (fine_names 2 1 (file ∷ []) one) (fine_names 10 1 (first ∷ rest) named) (all_fine 4 1 six) (fine_view view checked)
 
-pub rtcheck_line : (x y z cell w h : List ℕ) (view : views.View) (first : List ℕ) (rest : List (List ℕ)) → AreNumbers view_number (x ∷ y ∷ z ∷ cell ∷ w ∷ h ∷ []) (six_of view) → IsChecked view → AreNames (first ∷ rest)
+pub rtcheck_line : (x y z cell w h : List ℕ) (view : views.View) (first : List ℕ) (rest : List (List ℕ)) → AreViewNumbers x y z cell w h view → IsChecked view → AreNames (first ∷ rest)
     → command_of (line_of (codes "rtcheck") (direction_word view.dir ∷ x ∷ y ∷ z ∷ cell ∷ w ∷ h ∷ first ∷ rest)) ≡ Shoot (Check view (first ∷ rest))
 rtcheck_line x y z cell w h view first rest are checked named =
     let six : List ℤ = six_of view in
     let read : List (Option ℤ) = map (λ (n : ℤ). Some n) six in
-    let good = numbers_words 999999999 (x ∷ y ∷ z ∷ cell ∷ w ∷ h ∷ []) six are in
+    let good = view_atoms x y z cell w h view are in
     line_command (codes "rtcheck") (direction_word view.dir ∷ x ∷ y ∷ z ∷ cell ∷ w ∷ h ∷ first ∷ rest) (λ line tokens w others. refl)
     (omega arith, (refl, refl, (refl, refl, (refl, refl, (refl, refl, (refl, refl, (refl, refl, (refl, refl, tt))))))))
     (direction_good view.dir, (good.0, (good.1.0, (good.1.1.0, (good.1.1.1.0, (good.1.1.1.1.0, (good.1.1.1.1.1.0, names_good (first ∷ rest) named)))))))
@@ -289,7 +318,7 @@ words_matrix line tokens (w ∷ v ∷ more) words are len =
     (ap all_atoms are ∙ all_there words, cond-false (length (w ∷ v ∷ more) == 1) 0 1 (ne_eqb (length (w ∷ v ∷ more)) 1 (λ e. omega (arith, e))))
 
 placed_words : (line : List ℕ) (tokens : List Token) (ws : List Word) (comb member : List ℕ) (words : List (List ℕ)) → map (atom_of line tokens) ws ≡ map (λ (x : List ℕ). Some x) (codes "place" ∷ comb ∷ member ∷ words) → length words ≡ 16
-    → command_of_words line tokens ws ≡ matrix_command comb member 1 (map view_number words)
+    → command_of_words line tokens ws ≡ matrix_command comb member 1 (numbers_as lists.Matrix words)
 placed_words line tokens [] comb member words are len = absurd cc
 placed_words line tokens (a ∷ []) comb member words are len = absurd cc
 placed_words line tokens (a ∷ b ∷ []) comb member words are len = absurd cc
@@ -304,22 +333,22 @@ placed_words line tokens (a ∷ b ∷ c ∷ ws) comb member words are len =
     ∙ ap (place_with line tokens ws (Some comb)) (first_atom line tokens c ws member words three)
     ∙ ap (λ (s : ℕ). sixteen_command comb member s (matrix_words line tokens ws)) matrix.1
     ∙ ap (sixteen_command comb member 1) matrix.0
-    ∙ cond-true (length words == 16) (matrix_command comb member 1 (map view_number words)) (Bad Syntax) (eq-eqb _ _ len)
+    ∙ cond-true (length words == 16) (matrix_command comb member 1 (numbers_as lists.Matrix words)) (Bad Syntax) (eq-eqb _ _ len)
 
-pub place_line : (comb member : List ℕ) (words : List (List ℕ)) (placement : Placement) → IsName comb → IsName member → placement_read (map view_number words) ≡ Some placement
+pub place_line : (comb member : List ℕ) (words : List (List ℕ)) (placement : Placement) → IsName comb → IsName member → placement_read (numbers_as lists.Matrix words) ≡ Some placement
     → command_of (line_of (codes "place") (comb ∷ member ∷ words)) ≡ Edit (Place comb member placement)
 place_line comb member words placement h k read =
-    let whole = whole_of (all_numbers (map view_number words)) placement read in
+    let whole = whole_of (all_numbers (numbers_as lists.Matrix words)) placement read in
     let numbers : List ℤ = whole.0 in
-    let are : map view_number words ≡ map (λ (n : ℤ). Some n) numbers = all_back (map view_number words) numbers whole.1 in
-    let len : length words ≡ 16 = sym (length-map words view_number) ∙ ap length are ∙ length-map numbers (λ (n : ℤ). Some n) ∙ whole.2 in
+    let are : numbers_as lists.Matrix words ≡ map (λ (n : ℤ). Some n) numbers = all_back (numbers_as lists.Matrix words) numbers whole.1 in
+    let len : length words ≡ 16 = sym (numbers_length lists.Matrix 0 words) ∙ ap length are ∙ length-map numbers (λ (n : ℤ). Some n) ∙ whole.2 in
     let named : AreNames (comb ∷ member ∷ []) = (h, (k, tt)) in
     let line : List ℕ = line_of (codes "place") (comb ∷ member ∷ words) in
     let every : List (List ℕ) = codes "place" ∷ comb ∷ member ∷ words in
-    words_line (codes "place") (comb ∷ member ∷ words) (matrix_command comb member 1 (map view_number words)) (omega arith, (refl, refl, (refl, refl, (refl, refl, (refl, refl, (refl, refl, tt))))))
-    (name_good comb h, (name_good member k, numbers_words 999999999 words numbers are))
+    words_line (codes "place") (comb ∷ member ∷ words) (matrix_command comb member 1 (numbers_as lists.Matrix words)) (omega arith, (refl, refl, (refl, refl, (refl, refl, (refl, refl, (refl, refl, tt))))))
+    (name_good comb h, (name_good member k, numbers_words lists.Matrix 0 words numbers are))
     (λ tokens pieces_are. placed_words line tokens (top_words tokens) comb member words (atoms_from line tokens tokens every every 0 pieces_are refl pieces_are) len)
-    ∙ unless_three (names_fault 2 1 (comb ∷ member ∷ [])) (numbers_fault 4 1 (map view_number words)) (placement_fault 4 (placement_read (map view_number words))) (Edit (Place comb member (unwrap_or (placement_read (map view_number words)) identity)))
+    ∙ unless_three (names_fault 2 1 (comb ∷ member ∷ [])) (numbers_fault 4 1 (numbers_as lists.Matrix words)) (placement_fault 4 (placement_read (numbers_as lists.Matrix words))) (Edit (Place comb member (unwrap_or (placement_read (numbers_as lists.Matrix words)) identity)))
     (fine_names 2 1 (comb ∷ member ∷ []) named) (ap (numbers_fault 4 1) are ∙ all_fine 4 1 numbers) (ap (placement_fault 4) read)
     ∙ ap (λ (o : Option Placement). Edit (Place comb member (unwrap_or o identity))) read
 

@@ -27,7 +27,9 @@ use Rattle.plane_geom.specs.declared.fault.ShapeFault.{ShapeFault}
 use Rattle.solid_set.specs.declared.solid.Solid.{Solid}
 use Rattle.object_set.specs.declared.kept.KeptAttr.{KeptAttr}
 use Rattle.object_set.specs.declared.object.Body.TheVariants as bodies
-use Rattle.word_values.specs.Atoms.{atoms_in, solid_number, value_of, view_number}
+use Rattle.word_values.specs.Atoms.{atoms_in, value_of}
+use Rattle.word_values.specs.Kinds.{numbers_as}
+use Rattle.word_values.specs.declared.atoms.NumberList.TheVariants as lists
 use Rattle.word_values.specs.Groups.{words_of_tokens}
 use Rattle.word_values.specs.Matrices.{placement_read, identity}
 use Rattle.word_values.specs.Solids.{kind_of, number_count, solid_made, vector_at}
@@ -56,7 +58,7 @@ use Rattle.command_set.specs.declared.refusal.Refusal.{Refusal}
 use Rattle.command_set.specs.declared.refusal.Refusal.TheVariants.{Syntax, Name, Number, View, Shape}
 use Rattle.lattice_core.specs.declared.view.ViewFault.TheVariants.{World}
 use Rattle.mged_words.specs.Commands.{unless_refused, name_fault, names_fault, numbers_fault, placement_fault, setting_fault, make_command, solid_command, kind_command, in_command, direction_of, world_fault, is_from_world, ray_of, shot_command, nirt_command, view_numbers, view_of, view_refusal, picture_command, rt_command, check_command, rtcheck_command, operator_of, entry_of, entry_before, entries_of, region_command, r_command, g_command, rm_command, kill_command, mvall_command, save_command, ls_command, sixteen_command, matrix_command, matrix_step, matrix_words, place_with, place_command, set_with, cattr_command, with_atoms, atom_command, named_command, worded_command, refusal_of_put, put_made, put_command, title_command, kept_command, keep_command, is_set, attr_command, l_command, tree_command, command_of_words, command_read, command_of}
-use Rattle.mged_words.specs.Order.{numbered, ranged, Wanted, names_alone, nothing, every_second, name_at, shape_fault, solid_wanted, in_wanted, shot_wanted, nirt_wanted, view_wanted, rt_wanted, rtcheck_wanted, wanted_behind, wanted_of_atoms, matrix_numbers, with_numbers, place_wanted, setting_at, cattr_wanted, key_name, key_names, attr_wanted, spelled_leaves, leaf_names, tree_names, value_numbers, given_shape, object_wanted, put_wanted, wanted_after, wanted_worded, wanted_of_words, wanted_read, wanted_of_line, names_of_line, first_unnamed, first_out, or_else, first_of, first_refusal, told, TellsFirst, told_name, TellsNames}
+use Rattle.mged_words.specs.Order.{numbered, ranged, Wanted, names_alone, nothing, every_second, name_at, shape_fault, made_wanted, solid_wanted, in_wanted, shot_wanted, nirt_wanted, view_wanted, rt_wanted, rtcheck_wanted, wanted_behind, wanted_of_atoms, matrix_numbers, with_numbers, place_wanted, setting_at, cattr_wanted, key_name, key_names, attr_wanted, spelled_leaves, leaf_names, tree_names, value_numbers, given_shape, object_wanted, put_wanted, wanted_after, wanted_worded, wanted_of_words, wanted_read, wanted_of_line, names_of_line, first_unnamed, first_out, or_else, first_of, first_refusal, told, TellsFirst, told_name, TellsNames}
 
 -- ---- lists of refusals
 
@@ -201,11 +203,11 @@ made_told : (name : List ℕ) (made : Result Solid ShapeFault) → told (make_co
 made_told name (Ok solid) = refl
 made_told name (Err fault) = refl
 
-kind_told : (name : List ℕ) (kind : Option SolidKind) (atoms : List (List ℕ)) → TellsFirst (kind_command name kind atoms) (solid_wanted name kind (map solid_number atoms))
+kind_told : (name : List ℕ) (kind : Option SolidKind) (atoms : List (List ℕ)) → TellsFirst (kind_command name kind atoms) (solid_wanted name kind atoms)
 kind_told name None atoms = inl refl
 kind_told name (Some kind) atoms =
-    let numbers : List (Option ℤ) = map solid_number atoms in
-    if_told (length atoms == number_count kind) (solid_command name kind numbers) (solid_wanted name (Some kind) numbers)
+    let numbers : List (Option ℤ) = numbers_as (lists.Solid kind) atoms in
+    if_told (length atoms == number_count kind) (solid_command name kind numbers) (made_wanted name kind numbers)
     (inr (told_list (name_fault 2 name ∷ numbers_fault 4 1 numbers ∷ []) (make_command name (solid_made kind numbers))
     ∙ or_both (name_is 2 name) (or_both (numbers_are 4 1 numbers) (ap (λ (o : Option Refusal). or_else o None) (made_told name (solid_made kind numbers))))))
 
@@ -231,7 +233,7 @@ nirt_told (a ∷ []) = inl refl
 nirt_told (a ∷ b ∷ []) = inl refl
 nirt_told (a ∷ b ∷ c ∷ []) = inl refl
 nirt_told (a ∷ b ∷ c ∷ d ∷ []) = inl refl
-nirt_told (x ∷ y ∷ z ∷ dir ∷ name ∷ rest) = shot_told (map view_number (x ∷ y ∷ z ∷ [])) (direction_of dir) (name ∷ rest)
+nirt_told (x ∷ y ∷ z ∷ dir ∷ name ∷ rest) = shot_told (numbers_as lists.Point (x ∷ y ∷ z ∷ [])) (direction_of dir) (name ∷ rest)
 
 -- a file's name, and the other names
 file_then : (t : Bool) (word : ℕ) (bad : Option ℕ) (rest : Option Refusal) → or_else (cond t None (Some (Name word))) (or_else (option_map Name bad) rest) ≡ or_else (option_map Name (cond t bad (Some word))) rest
@@ -318,7 +320,7 @@ matrix_told comb member step numbers =
 sixteen_told : (comb member : List ℕ) (step : ℕ) (atoms : Option (List (List ℕ))) → TellsFirst (sixteen_command comb member step atoms) (with_numbers (numbered 2 1 (comb ∷ member ∷ [])) (matrix_numbers step atoms))
 sixteen_told comb member step None = inl refl
 sixteen_told comb member step (Some atoms) =
-    if_told (length atoms == 16) (matrix_command comb member step (map view_number atoms)) (with_numbers (numbered 2 1 (comb ∷ member ∷ [])) (matrix_numbers step (Some atoms))) (matrix_told comb member step (map view_number atoms))
+    if_told (length atoms == 16) (matrix_command comb member step (numbers_as lists.Matrix atoms)) (with_numbers (numbered 2 1 (comb ∷ member ∷ [])) (matrix_numbers step (Some atoms))) (matrix_told comb member step (numbers_as lists.Matrix atoms))
 
 place_with_told : (line : List ℕ) (tokens : List Token) (words : List Word) (comb member : Option (List ℕ))
     → TellsFirst (place_with line tokens words comb member) (with_numbers (name_at 2 comb ++ name_at 3 member) (matrix_numbers (matrix_step words) (matrix_words line tokens words)))

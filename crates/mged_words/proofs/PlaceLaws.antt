@@ -11,7 +11,9 @@ use Rattle.command_set.specs.declared.command.Edit.TheVariants.{Place}
 use Rattle.command_set.specs.declared.refusal.Refusal.{Refusal}
 use Rattle.command_set.specs.declared.refusal.Refusal.TheVariants.{Syntax, Number}
 use Rattle.word_values.specs.Matrices.{placement_in, placement_of_all, placement_read, identity}
-use Rattle.word_values.specs.Atoms.{all_numbers, view_number}
+use Rattle.word_values.specs.Atoms.{all_numbers}
+use Rattle.word_values.specs.Kinds.{numbers_as}
+use Rattle.word_values.specs.declared.atoms.NumberList.TheVariants as lists
 use Rattle.mged_words.specs.Commands.{name_fault, numbers_fault, placement_fault, matrix_command, sixteen_command, unless_refused}
 use Rattle.mged_words.specs.Readings.{matrix_read, or_refused}
 use Rattle.mged_words.proofs.ListLaws.{unnamed}
@@ -56,7 +58,7 @@ six_wrong comb member step atoms n =
     sym (cond-false (length (map (λ (a : Bor (List ℕ)). a.now) atoms) == 16) _ _ (ne_eqb _ _ (λ e. n (sym (length-map atoms (λ (a : Bor (List ℕ)). a.now)) ∙ e))))
 
 six_is : (comb member : List ℕ) (step : ℕ) (atoms : List (Bor (List ℕ))) → length atoms ≡ 16
-    → sixteen_command comb member step (Some (map (λ (a : Bor (List ℕ)). a.now) atoms)) ≡ matrix_command comb member step (map view_number (map (λ (a : Bor (List ℕ)). a.now) atoms))
+    → sixteen_command comb member step (Some (map (λ (a : Bor (List ℕ)). a.now) atoms)) ≡ matrix_command comb member step (numbers_as lists.Matrix (map (λ (a : Bor (List ℕ)). a.now) atoms))
 six_is comb member step atoms n =
     cond-true (length (map (λ (a : Bor (List ℕ)). a.now) atoms) == 16) _ _ (eq-eqb _ _ (length-map atoms (λ (a : Bor (List ℕ)). a.now) ∙ n))
 
@@ -70,21 +72,21 @@ placed comb member numbers = Edit (Place comb member (unwrap_or (placement_read 
 pub six_bad_comb : (comb member : List ℕ) (step : ℕ) (atoms : List (Bor (List ℕ))) (refusal : Refusal) → length atoms ≡ 16 → name_fault 2 comb ≡ Some refusal
     → Bad refusal ≡ sixteen_command comb member step (Some (map (λ (a : Bor (List ℕ)). a.now) atoms))
 six_bad_comb comb member step atoms refusal n h =
-    let numbers : List (Option ℤ) = map view_number (map (λ (a : Bor (List ℕ)). a.now) atoms) in
+    let numbers : List (Option ℤ) = numbers_as lists.Matrix (map (λ (a : Bor (List ℕ)). a.now) atoms) in
     bad_first 2 1 comb (member ∷ []) (later_faults step numbers) (placed comb member numbers) refusal h ∙ sym (six_is comb member step atoms n)
 
 pub six_bad_member : (comb member : List ℕ) (step : ℕ) (atoms : List (Bor (List ℕ))) (refusal : Refusal) → length atoms ≡ 16 → name_fault 2 comb ≡ None → name_fault 3 member ≡ Some refusal
     → Bad refusal ≡ sixteen_command comb member step (Some (map (λ (a : Bor (List ℕ)). a.now) atoms))
 six_bad_member comb member step atoms refusal n fine h =
-    let numbers : List (Option ℤ) = map view_number (map (λ (a : Bor (List ℕ)). a.now) atoms) in
+    let numbers : List (Option ℤ) = numbers_as lists.Matrix (map (λ (a : Bor (List ℕ)). a.now) atoms) in
     bad_rest 2 1 comb (member ∷ []) (later_faults step numbers) (placed comb member numbers) refusal fine (unnamed (is_ok (read_name member)) 3 None refusal h) ∙ sym (six_is comb member step atoms n)
 
 -- after the names were read
 six_named : (comb member : List ℕ) (step : ℕ) (atoms : List (Bor (List ℕ))) → length atoms ≡ 16 → name_fault 2 comb ≡ None → name_fault 3 member ≡ None
     → sixteen_command comb member step (Some (map (λ (a : Bor (List ℕ)). a.now) atoms))
-    ≡ unless_refused (later_faults step (map view_number (map (λ (a : Bor (List ℕ)). a.now) atoms))) (placed comb member (map view_number (map (λ (a : Bor (List ℕ)). a.now) atoms)))
+    ≡ unless_refused (later_faults step (numbers_as lists.Matrix (map (λ (a : Bor (List ℕ)). a.now) atoms))) (placed comb member (numbers_as lists.Matrix (map (λ (a : Bor (List ℕ)). a.now) atoms)))
 six_named comb member step atoms n fine good =
-    let numbers : List (Option ℤ) = map view_number (map (λ (a : Bor (List ℕ)). a.now) atoms) in
+    let numbers : List (Option ℤ) = numbers_as lists.Matrix (map (λ (a : Bor (List ℕ)). a.now) atoms) in
     six_is comb member step atoms n ∙ ap (λ (o : Option Refusal). unless_refused (o ∷ later_faults step numbers) (placed comb member numbers)) (good_first 2 1 comb (member ∷ []) fine ∙ good_first 3 1 member [] good)
 
 placed_by : (one two : Option Refusal) (comb member : List ℕ) (p q : Placement) → or_refused (one ∷ two ∷ []) q ≡ Ok p → Edit (Place comb member p) ≡ unless_refused (one ∷ two ∷ []) (Edit (Place comb member q))
@@ -98,14 +100,14 @@ refused_by None (Some x) command q refusal h = let same : refusal ≡ x = cc in 
 refused_by None None command q refusal h = absurd cc
 
 pub six_placed : (comb member : List ℕ) (step : ℕ) (atoms : List (Bor (List ℕ))) (p : Placement) → length atoms ≡ 16 → name_fault 2 comb ≡ None → name_fault 3 member ≡ None
-    → matrix_read step (map view_number (map (λ (a : Bor (List ℕ)). a.now) atoms)) ≡ Ok p → Edit (Place comb member p) ≡ sixteen_command comb member step (Some (map (λ (a : Bor (List ℕ)). a.now) atoms))
+    → matrix_read step (numbers_as lists.Matrix (map (λ (a : Bor (List ℕ)). a.now) atoms)) ≡ Ok p → Edit (Place comb member p) ≡ sixteen_command comb member step (Some (map (λ (a : Bor (List ℕ)). a.now) atoms))
 six_placed comb member step atoms p n fine good is =
-    let numbers : List (Option ℤ) = map view_number (map (λ (a : Bor (List ℕ)). a.now) atoms) in
+    let numbers : List (Option ℤ) = numbers_as lists.Matrix (map (λ (a : Bor (List ℕ)). a.now) atoms) in
     placed_by (numbers_fault 4 step numbers) (placement_fault 4 (placement_read numbers)) comb member p (unwrap_or (placement_read numbers) identity) is ∙ sym (six_named comb member step atoms n fine good)
 
 pub six_refused : (comb member : List ℕ) (step : ℕ) (atoms : List (Bor (List ℕ))) (refusal : Refusal) → length atoms ≡ 16 → name_fault 2 comb ≡ None → name_fault 3 member ≡ None
-    → matrix_read step (map view_number (map (λ (a : Bor (List ℕ)). a.now) atoms)) ≡ Err refusal → Bad refusal ≡ sixteen_command comb member step (Some (map (λ (a : Bor (List ℕ)). a.now) atoms))
+    → matrix_read step (numbers_as lists.Matrix (map (λ (a : Bor (List ℕ)). a.now) atoms)) ≡ Err refusal → Bad refusal ≡ sixteen_command comb member step (Some (map (λ (a : Bor (List ℕ)). a.now) atoms))
 six_refused comb member step atoms refusal n fine good is =
-    let numbers : List (Option ℤ) = map view_number (map (λ (a : Bor (List ℕ)). a.now) atoms) in
+    let numbers : List (Option ℤ) = numbers_as lists.Matrix (map (λ (a : Bor (List ℕ)). a.now) atoms) in
     refused_by (numbers_fault 4 step numbers) (placement_fault 4 (placement_read numbers)) (placed comb member numbers) (unwrap_or (placement_read numbers) identity) refusal is
     ∙ sym (six_named comb member step atoms n fine good)

@@ -15,7 +15,9 @@ use Rattle.transcript.specs.Merge.{Entry, entry}
 use Rattle.transcript.specs.Lines.{Lacks}
 use Rattle.transcript.proofs.LineLaws.{lacks_append}
 use Rattle.transcript.proofs.TranscriptLaws.{computed}
-use Rattle.word_values.specs.Atoms.{atoms_in, solid_number, value_of, view_number}
+use Rattle.word_values.specs.Atoms.{atoms_in, value_of}
+use Rattle.word_values.specs.Kinds.{numbers_as}
+use Rattle.word_values.specs.declared.atoms.NumberList.TheVariants as lists
 use Rattle.mged_words.specs.Commands.{unless_refused, name_fault, names_fault, members_fault, numbers_fault, placement_fault, setting_fault, make_command, solid_command, kind_command, in_command, direction_of, world_fault, is_from_world, is_in_world, ray_of, shot_command, nirt_command, view_numbers, view_of, view_refusal, picture_command, rt_command, check_command, rtcheck_command, entry_of, entries_of, region_command, r_command, g_command, rm_command, kill_command, mvall_command, save_command, ls_command, sixteen_command, matrix_command, matrix_step, matrix_words, place_with, place_command, set_command, set_with, cattr_command, with_atoms, atom_command, named_command, worded_command, refusal_of_put, put_made, put_command, title_command, keep_fault, pairs_or_none, kept_command, keep_command, is_set, attr_command, l_command, tree_command, command_of_words, command_read, command_of}
 use Rattle.word_values.specs.Matrices.{placement_read, identity}
 use Rattle.mged_words.specs.Readable.{ArePlain, ArePlainPairs, IsPlain, IsPlainRefusal, IsReadable}
@@ -151,7 +153,7 @@ either_plain false x y h k = k
 kind_plain : (name : List ℕ) (kind : Option SolidKind) (atoms : List (List ℕ)) → IsPlain (kind_command name kind atoms)
 kind_plain name None atoms = plain_syntax
 kind_plain name (Some kind) atoms =
-    either_plain (length atoms == number_count kind) (solid_command name kind (map solid_number atoms)) (Bad Syntax) (solid_plain name kind (map solid_number atoms)) plain_syntax
+    either_plain (length atoms == number_count kind) (solid_command name kind (numbers_as (lists.Solid kind) atoms)) (Bad Syntax) (solid_plain name kind (numbers_as (lists.Solid kind) atoms)) plain_syntax
 
 in_plain : (atoms : List (List ℕ)) → IsPlain (in_command atoms)
 in_plain [] = plain_syntax
@@ -182,7 +184,7 @@ nirt_plain (a ∷ []) = plain_syntax
 nirt_plain (a ∷ b ∷ []) = plain_syntax
 nirt_plain (a ∷ b ∷ c ∷ []) = plain_syntax
 nirt_plain (a ∷ b ∷ c ∷ d ∷ []) = plain_syntax
-nirt_plain (x ∷ y ∷ z ∷ dir ∷ name ∷ rest) = shot_plain (map view_number (x ∷ y ∷ z ∷ [])) (direction_of dir) (name ∷ rest)
+nirt_plain (x ∷ y ∷ z ∷ dir ∷ name ∷ rest) = shot_plain (numbers_as lists.Point (x ∷ y ∷ z ∷ [])) (direction_of dir) (name ∷ rest)
 
 may_fault : (found : Option ViewFault) → MayBePlain (option_map View found)
 may_fault None = tt
@@ -296,7 +298,7 @@ matrix_plain comb member step numbers =
 sixteen_plain : (comb member : List ℕ) (step : ℕ) (atoms : Option (List (List ℕ))) → IsPlain (sixteen_command comb member step atoms)
 sixteen_plain comb member step None = plain_syntax
 sixteen_plain comb member step (Some atoms) =
-    either_plain (length atoms == 16) (matrix_command comb member step (map view_number atoms)) (Bad Syntax) (matrix_plain comb member step (map view_number atoms)) plain_syntax
+    either_plain (length atoms == 16) (matrix_command comb member step (numbers_as lists.Matrix atoms)) (Bad Syntax) (matrix_plain comb member step (numbers_as lists.Matrix atoms)) plain_syntax
 
 with_plain : (line : List ℕ) (tokens : List Token) (words : List Word) (comb member : Option (List ℕ)) → IsPlain (place_with line tokens words comb member)
 with_plain line tokens words None member = plain_syntax

@@ -1,5 +1,5 @@
 -- The numbers of a view, and the view that they make.
-use Rattle.std.proofs.Common.{All, ◌≡◌, ◌<◌, ◌≤◌, ◌+◌, ◌-◌, ◌++◌, ◌∷◌, [], ◌∙◌, ℕ, ℤ, pos, List, length, get_or, drop, take, map, Option, Some, None, Result, Ok, Err, arith, ap, sym, refl, subst, IfErr, IsOk}
+use Rattle.std.proofs.Common.{◌≡◌, ◌<◌, ◌≤◌, ◌+◌, ◌-◌, ◌++◌, ◌∷◌, [], ◌∙◌, ℕ, ℤ, pos, List, length, get_or, drop, take, map, Option, Some, None, Result, Ok, Err, arith, ap, sym, refl, subst, IfErr, IsOk}
 use Rattle.std.specs.Option.{option_map}
 use Rattle.std.specs.Int.RustNames.{unsigned_abs}
 use Rattle.std.specs.Borrow.{Bor}
@@ -18,9 +18,10 @@ use Rattle.command_set.specs.declared.command.Command.TheVariants.{Bad, Shoot}
 use Rattle.command_set.specs.declared.command.Shoot.TheVariants.{Picture, Check}
 use Rattle.command_set.specs.declared.refusal.Refusal.{Refusal}
 use Rattle.command_set.specs.declared.refusal.Refusal.TheVariants.{Syntax, Number, View}
-use Rattle.word_values.specs.Atoms.{view_number}
+use Rattle.word_values.specs.Kinds.{numbers_as, AllWithinKinds}
+use Rattle.word_values.specs.declared.atoms.NumberList.TheVariants as lists
 use Rattle.word_values.specs.Solids.{vector_at}
-use Rattle.mged_words.specs.Commands.{unless_refused, name_fault, names_fault, numbers_fault, size_number, view_of, view_refusal, direction_of, picture_command, check_command, rt_command, rtcheck_command}
+use Rattle.mged_words.specs.Commands.{unless_refused, name_fault, names_fault, numbers_fault, cell_number, side_number, size_numbers, view_of, view_refusal, direction_of, picture_command, check_command, rt_command, rtcheck_command}
 use Rattle.mged_words.specs.Readings.{or_refused, six_numbers, view_read, view_unless_fault}
 
 -- a view without a fault, or its fault as a refusal
@@ -42,11 +43,11 @@ err_same {T} {G} (Ok v) x refusal h is same = absurd h.1
 err_same {T} {G} (Err e) x refusal h is same = ap (λ (f : Refusal). let made : Result T Refusal = Err f in made) (is e h.1) ∙ same
 
 -- a third size that is none
-pub third_bad : (atoms : List (Bor (List ℕ))) (word : ℕ) (d : Bor (List ℕ)) (cell w : ℕ) (refusal : Refusal) → length atoms ≡ 3 → size_number (get_or atoms 0 d).now ≡ Some (pos cell) → size_number (get_or atoms 1 d).now ≡ Some (pos w)
-    → size_number (get_or atoms 2 d).now ≡ None → refusal ≡ Number (word + 2) → numbers_fault word 1 (map size_number (map (λ (a : Bor (List ℕ)). a.now) atoms)) ≡ Some refusal
+pub third_bad : (atoms : List (Bor (List ℕ))) (word : ℕ) (d : Bor (List ℕ)) (cell : ℤ) (w : ℕ) (refusal : Refusal) → length atoms ≡ 3 → cell_number (get_or atoms 0 d).now ≡ Some cell → side_number (get_or atoms 1 d).now ≡ Some (pos w)
+    → side_number (get_or atoms 2 d).now ≡ None → refusal ≡ Number (word + 2) → numbers_fault word 1 (size_numbers (map (λ (a : Bor (List ℕ)). a.now) atoms)) ≡ Some refusal
 third_bad (a ∷ b ∷ c ∷ []) word d cell w refusal n h k l is =
-    ap (λ (o : Option ℤ). numbers_fault word 1 (o ∷ size_number b.now ∷ size_number c.now ∷ [])) h
-    ∙ ap (λ (o : Option ℤ). numbers_fault (word + 1) 1 (o ∷ size_number c.now ∷ [])) k
+    ap (λ (o : Option ℤ). numbers_fault word 1 (o ∷ side_number b.now ∷ side_number c.now ∷ [])) h
+    ∙ ap (λ (o : Option ℤ). numbers_fault (word + 1) 1 (o ∷ side_number c.now ∷ [])) k
     ∙ ap (λ (o : Option ℤ). numbers_fault (word + 1 + 1) 1 (o ∷ [])) l
     ∙ (let sum : word + 1 + 1 ≡ word + 2 = omega arith in ap (λ (m : ℕ). Some (Number m)) sum)
     ∙ ap (λ (r : Refusal). Some r) (sym is)
@@ -66,7 +67,7 @@ refused_by : (fault : Option Refusal) (refusal : Refusal) (rest : List (Option R
 refused_by fault refusal rest view h = sym (ap (λ (o : Option Refusal). or_refused (o ∷ rest) view) h)
 
 six : (atoms : List (Bor (List ℕ))) → length atoms ≡ 6
-    → six_numbers (map (λ (a : Bor (List ℕ)). a.now) atoms) ≡ map view_number (map (λ (a : Bor (List ℕ)). a.now) (take 3 atoms)) ++ map size_number (map (λ (a : Bor (List ℕ)). a.now) (take (length atoms - 3) (drop 3 atoms)))
+    → six_numbers (map (λ (a : Bor (List ℕ)). a.now) atoms) ≡ numbers_as lists.Point (map (λ (a : Bor (List ℕ)). a.now) (take 3 atoms)) ++ size_numbers (map (λ (a : Bor (List ℕ)). a.now) (take (length atoms - 3) (drop 3 atoms)))
 six (a ∷ b ∷ c ∷ d ∷ e ∷ f ∷ []) n = refl
 six [] n = absurd (omega (arith, n))
 six (a ∷ []) n = absurd (omega (arith, n))
@@ -79,11 +80,11 @@ six (a ∷ b ∷ c ∷ d ∷ e ∷ f ∷ g ∷ more) n = absurd (omega (arith, n
 bad_numbers : (word : ℕ) (dir : Dir) (numbers : List (Option ℤ)) (refusal : Refusal) → numbers_fault word 1 numbers ≡ Some refusal → Err refusal ≡ view_read word dir numbers
 bad_numbers word dir numbers refusal h = refused_by (numbers_fault word 1 numbers) refusal _ _ h
 
-pub bad_corner : (word : ℕ) (dir : Dir) (atoms : List (Bor (List ℕ))) (refusal : Refusal) → length atoms ≡ 6 → numbers_fault word 1 (map view_number (map (λ (a : Bor (List ℕ)). a.now) (take 3 atoms))) ≡ Some refusal
+pub bad_corner : (word : ℕ) (dir : Dir) (atoms : List (Bor (List ℕ))) (refusal : Refusal) → length atoms ≡ 6 → numbers_fault word 1 (numbers_as lists.Point (map (λ (a : Bor (List ℕ)). a.now) (take 3 atoms))) ≡ Some refusal
     → Err refusal ≡ view_read word dir (six_numbers (map (λ (a : Bor (List ℕ)). a.now) atoms))
 bad_corner word dir atoms refusal n h =
-    let xs : List (Option ℤ) = map view_number (map (λ (a : Bor (List ℕ)). a.now) (take 3 atoms)) in
-    let ys : List (Option ℤ) = map size_number (map (λ (a : Bor (List ℕ)). a.now) (take (length atoms - 3) (drop 3 atoms))) in
+    let xs : List (Option ℤ) = numbers_as lists.Point (map (λ (a : Bor (List ℕ)). a.now) (take 3 atoms)) in
+    let ys : List (Option ℤ) = size_numbers (map (λ (a : Bor (List ℕ)). a.now) (take (length atoms - 3) (drop 3 atoms))) in
     bad_numbers word dir (xs ++ ys) refusal (fault_first word xs ys refusal h) ∙ sym (ap (view_read word dir) (six atoms n))
 
 sizes_fault : (word : ℕ) (corner : List ℤ) (ys : List (Option ℤ)) (refusal : Refusal) → length corner ≡ 3 → numbers_fault (word + 3) 1 ys ≡ Some refusal → numbers_fault word 1 (map (λ (n : ℤ). Some n) corner ++ ys) ≡ Some refusal
@@ -94,37 +95,37 @@ sizes_fault word (x ∷ y ∷ []) ys refusal n h = absurd (omega (arith, n))
 sizes_fault word (x ∷ y ∷ z ∷ v ∷ more) ys refusal n h = absurd (omega (arith, n))
 
 pub bad_sizes : (word : ℕ) (dir : Dir) (atoms : List (Bor (List ℕ))) (corner : List ℤ) (refusal : Refusal) → length atoms ≡ 6 → length corner ≡ 3
-    → map view_number (map (λ (a : Bor (List ℕ)). a.now) (take 3 atoms)) ≡ map (λ (n : ℤ). Some n) corner
-    → numbers_fault (word + 3) 1 (map size_number (map (λ (a : Bor (List ℕ)). a.now) (take (length atoms - 3) (drop 3 atoms)))) ≡ Some refusal
+    → numbers_as lists.Point (map (λ (a : Bor (List ℕ)). a.now) (take 3 atoms)) ≡ map (λ (n : ℤ). Some n) corner
+    → numbers_fault (word + 3) 1 (size_numbers (map (λ (a : Bor (List ℕ)). a.now) (take (length atoms - 3) (drop 3 atoms)))) ≡ Some refusal
     → Err refusal ≡ view_read word dir (six_numbers (map (λ (a : Bor (List ℕ)). a.now) atoms))
 bad_sizes word dir atoms corner refusal n m read h =
-    let ys : List (Option ℤ) = map size_number (map (λ (a : Bor (List ℕ)). a.now) (take (length atoms - 3) (drop 3 atoms))) in
+    let ys : List (Option ℤ) = size_numbers (map (λ (a : Bor (List ℕ)). a.now) (take (length atoms - 3) (drop 3 atoms))) in
     bad_numbers word dir (map (λ (k : ℤ). Some k) corner ++ ys) refusal (sizes_fault word corner ys refusal m h)
     ∙ sym (ap (view_read word dir) (six atoms n) ∙ ap (λ (xs : List (Option ℤ)). view_read word dir (xs ++ ys)) read)
 
-whole_view : (word : ℕ) (dir : Dir) (corner : List ℤ) (cell w h : ℕ) → length corner ≡ 3
-    → view_unless_fault (record { corner = vector_at (map (λ (n : ℤ). Some n) corner) 0; dir = dir; cell = pos cell; w = w; h = h })
-    ≡ view_read word dir (map (λ (n : ℤ). Some n) corner ++ Some (pos cell) ∷ Some (pos w) ∷ Some (pos h) ∷ [])
+whole_view : (word : ℕ) (dir : Dir) (corner : List ℤ) (cell : ℤ) (w h : ℕ) → length corner ≡ 3
+    → view_unless_fault (record { corner = vector_at (map (λ (n : ℤ). Some n) corner) 0; dir = dir; cell = cell; w = w; h = h })
+    ≡ view_read word dir (map (λ (n : ℤ). Some n) corner ++ Some cell ∷ Some (pos w) ∷ Some (pos h) ∷ [])
 whole_view word dir (x ∷ y ∷ z ∷ []) cell w h n = refl
 whole_view word dir [] cell w h n = absurd (omega (arith, n))
 whole_view word dir (x ∷ []) cell w h n = absurd (omega (arith, n))
 whole_view word dir (x ∷ y ∷ []) cell w h n = absurd (omega (arith, n))
 whole_view word dir (x ∷ y ∷ z ∷ v ∷ more) cell w h n = absurd (omega (arith, n))
 
-pub good_view : (word : ℕ) (dir : Dir) (atoms : List (Bor (List ℕ))) (corner : List ℤ) (cell w h : ℕ) → length atoms ≡ 6 → length corner ≡ 3
-    → map view_number (map (λ (a : Bor (List ℕ)). a.now) (take 3 atoms)) ≡ map (λ (n : ℤ). Some n) corner
-    → map size_number (map (λ (a : Bor (List ℕ)). a.now) (take (length atoms - 3) (drop 3 atoms))) ≡ Some (pos cell) ∷ Some (pos w) ∷ Some (pos h) ∷ []
-    → view_unless_fault (record { corner = vector_at (map (λ (n : ℤ). Some n) corner) 0; dir = dir; cell = pos cell; w = w; h = h }) ≡ view_read word dir (six_numbers (map (λ (a : Bor (List ℕ)). a.now) atoms))
+pub good_view : (word : ℕ) (dir : Dir) (atoms : List (Bor (List ℕ))) (corner : List ℤ) (cell : ℤ) (w h : ℕ) → length atoms ≡ 6 → length corner ≡ 3
+    → numbers_as lists.Point (map (λ (a : Bor (List ℕ)). a.now) (take 3 atoms)) ≡ map (λ (n : ℤ). Some n) corner
+    → size_numbers (map (λ (a : Bor (List ℕ)). a.now) (take (length atoms - 3) (drop 3 atoms))) ≡ Some cell ∷ Some (pos w) ∷ Some (pos h) ∷ []
+    → view_unless_fault (record { corner = vector_at (map (λ (n : ℤ). Some n) corner) 0; dir = dir; cell = cell; w = w; h = h }) ≡ view_read word dir (six_numbers (map (λ (a : Bor (List ℕ)). a.now) atoms))
 good_view word dir atoms corner cell w h n m read sizes =
-    let ys : List (Option ℤ) = map size_number (map (λ (a : Bor (List ℕ)). a.now) (take (length atoms - 3) (drop 3 atoms))) in
+    let ys : List (Option ℤ) = size_numbers (map (λ (a : Bor (List ℕ)). a.now) (take (length atoms - 3) (drop 3 atoms))) in
     whole_view word dir corner cell w h m
     ∙ sym (ap (view_read word dir) (six atoms n) ∙ ap (λ (xs : List (Option ℤ)). view_read word dir (xs ++ ys)) read ∙ ap (λ (zs : List (Option ℤ)). view_read word dir (map (λ (k : ℤ). Some k) corner ++ zs)) sizes)
 
-near : (n : ℤ) → unsigned_abs n ≤ 999999999 → IsAtMost VIEW_NUMBER n
+near : (n : ℤ) → unsigned_abs n ≤ unsigned_abs VIEW_NUMBER → IsAtMost VIEW_NUMBER n
 near n h = (omega (arith, ints, h), omega (arith, ints, h))
 
-pub corner_near : (corner : List ℤ) → length corner ≡ 3 → All (λ (n : ℤ). unsigned_abs n ≤ 999999999) corner → IsWithin VIEW_NUMBER (vector_at (map (λ (n : ℤ). Some n) corner) 0)
-corner_near (x ∷ y ∷ z ∷ []) n all = record { x = near x (all 0 (pos 0) (omega arith)); y = near y (all 1 (pos 0) (omega arith)); z = near z (all 2 (pos 0) (omega arith)) }
+pub corner_near : (corner : List ℤ) → length corner ≡ 3 → AllWithinKinds lists.Point corner → IsWithin VIEW_NUMBER (vector_at (map (λ (n : ℤ). Some n) corner) 0)
+corner_near (x ∷ y ∷ z ∷ []) n all = record { x = near x (all 0 (omega arith)); y = near y (all 1 (omega arith)); z = near z (all 2 (omega arith)) }
 corner_near [] n all = absurd (omega (arith, n))
 corner_near (x ∷ []) n all = absurd (omega (arith, n))
 corner_near (x ∷ y ∷ []) n all = absurd (omega (arith, n))

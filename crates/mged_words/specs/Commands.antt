@@ -36,7 +36,9 @@ use Rattle.command_set.specs.declared.refusal.Refusal.{Refusal}
 use Rattle.command_set.specs.declared.refusal.Refusal.TheVariants.{Syntax, Name, Number, View, Shape}
 use Rattle.lattice_core.specs.declared.view.ViewFault.TheVariants.{World}
 use Rattle.word_values.specs.declared.solid.SolidKind.{SolidKind}
-use Rattle.word_values.specs.Atoms.{atoms_in, words_in, solid_number, view_number, value_of}
+use Rattle.word_values.specs.Atoms.{atoms_in, words_in, value_of}
+use Rattle.word_values.specs.Kinds.{number_as, numbers_as, plain_kind, point_kind}
+use Rattle.word_values.specs.declared.atoms.NumberList.TheVariants as lists
 use Rattle.word_values.specs.Solids.{kind_of, number_count, solid_made, vector_at, nth_number}
 use Rattle.word_values.specs.Matrices.{placement_read, identity}
 use Rattle.object_set.specs.declared.kept.KeptAttr.{KeptAttr}
@@ -86,7 +88,7 @@ solid_command name kind numbers =
 
 abbrev pub kind_command : List ℕ → Option SolidKind → List (List ℕ) → Command
 kind_command name None atoms = Bad Syntax
-kind_command name (Some kind) atoms = if length atoms == number_count kind then solid_command name kind (map solid_number atoms) else Bad Syntax
+kind_command name (Some kind) atoms = if length atoms == number_count kind then solid_command name kind (numbers_as (lists.Solid kind) atoms) else Bad Syntax
 
 abbrev pub in_command : List (List ℕ) → Command
 in_command [] = Bad Syntax
@@ -126,7 +128,7 @@ shot_command numbers (Some dir) names =
     unless_refused (names_fault 6 1 names ∷ numbers_fault 2 1 numbers ∷ world_fault (vector_at numbers 0) ∷ []) (Query (Shot (ray_of (vector_at numbers 0) dir) names))
 
 abbrev pub nirt_command : List (List ℕ) → Command
-nirt_command (x ∷ y ∷ z ∷ dir ∷ name ∷ rest) = shot_command (map view_number (x ∷ y ∷ z ∷ [])) (direction_of dir) (name ∷ rest)
+nirt_command (x ∷ y ∷ z ∷ dir ∷ name ∷ rest) = shot_command (numbers_as lists.Point (x ∷ y ∷ z ∷ [])) (direction_of dir) (name ∷ rest)
 nirt_command _ = Bad Syntax
 
 abbrev pub from_zero : Option ℤ → Option ℤ
@@ -134,13 +136,22 @@ from_zero None = None
 from_zero (Some (pos n)) = Some (pos n)
 from_zero (Some (negsuc n)) = None
 
--- the cell of a view in millimetres, or how many columns or rows it has
-abbrev pub size_number : List ℕ → Option ℤ
-size_number atom = from_zero (view_number atom)
+-- the cell of a view, a length
+abbrev pub cell_number : List ℕ → Option ℤ
+cell_number atom = from_zero (number_as point_kind atom)
+
+-- how many columns or rows a view has, a whole number
+abbrev pub side_number : List ℕ → Option ℤ
+side_number atom = from_zero (number_as plain_kind atom)
+
+-- `CELL W H`
+abbrev pub size_numbers : List (List ℕ) → List (Option ℤ)
+size_numbers [] = []
+size_numbers (cell ∷ sides) = cell_number cell ∷ map side_number sides
 
 -- the numbers of a view: `X Y Z` of its corner, and then `CELL W H`
 abbrev pub view_numbers : List (List ℕ) → List (List ℕ) → List (Option ℤ)
-view_numbers corner sizes = map view_number corner ++ map size_number sizes
+view_numbers corner sizes = numbers_as lists.Point corner ++ size_numbers sizes
 
 -- the view in a direction by its numbers
 abbrev pub view_of : Dir → List (Option ℤ) → views.View
@@ -260,7 +271,7 @@ matrix_command comb member step numbers =
 
 abbrev pub sixteen_command : List ℕ → List ℕ → ℕ → Option (List (List ℕ)) → Command
 sixteen_command comb member step None = Bad Syntax
-sixteen_command comb member step (Some atoms) = if length atoms == 16 then matrix_command comb member step (map view_number atoms) else Bad Syntax
+sixteen_command comb member step (Some atoms) = if length atoms == 16 then matrix_command comb member step (numbers_as lists.Matrix atoms) else Bad Syntax
 
 -- the words of a matrix: those in a single group, or the words themselves
 abbrev pub matrix_words : List ℕ → List Token → List Word → Option (List (List ℕ))

@@ -1,5 +1,6 @@
 -- Small scripts and lines, and what the definitions make of them.
-use Rattle.std.specs.Prelude.{◌≡◌, refl, ℕ, ℤ, pos, negsuc, [], ◌∷◌, true, false, Some, Ok, Err, codes}
+use Rattle.std.specs.Prelude.{◌≡◌, refl, ℕ, ℤ, pos, negsuc, ◌-ℤ◌, [], ◌∷◌, true, false, Some, Ok, Err, codes}
+use Rattle.lattice_core.specs.declared.limit.TheConstants.{COORD, VIEW_NUMBER, WORLD}
 use Rattle.lattice_core.specs.declared.ray.Dir.{Dir}
 use Rattle.lattice_core.specs.declared.ray.Dir.TheVariants.{MinusX, PlusX, PlusY, MinusZ}
 use Rattle.lattice_core.specs.declared.view.View as views
@@ -37,8 +38,16 @@ names_before_numbers = refl
 pub too_large : command_of (codes "in t sph 16385 0 0 1") ≡ Bad (Number 4)
 too_large = refl
 
-pub not_whole : command_of (codes "in t sph 1.5 0 0 1") ≡ Bad (Number 4)
-not_whole = refl
+pub a_tenth_too_large : command_of (codes "in t sph 16384.1 0 0 1") ≡ Bad (Number 4)
+a_tenth_too_large = refl
+
+-- a length has one digit behind its point, and zeros
+pub finer_than_a_tenth : command_of (codes "in t sph 0.25 0 0 1") ≡ Bad (Number 4)
+finer_than_a_tenth = refl
+
+-- a normal is no length: its numbers are whole
+pub normal_not_whole : command_of (codes "in h half 1.5 0 0 5") ≡ Bad (Number 4)
+normal_not_whole = refl
 
 pub numbers_before_shapes : command_of (codes "in t sph 0 0 x 0") ≡ Bad (Number 6)
 numbers_before_shapes = refl
@@ -52,15 +61,28 @@ no_normal = refl
 pub outside_the_world : command_of (codes "nirt 524289 0 0 +x s") ≡ Bad (View World)
 outside_the_world = refl
 
--- a group of one atom counts as that atom, and numbers have signs and zeros after the point
-pub a_sphere : command_of (codes "in  {s} sph 0 0 0 +5.0") ≡ Edit (Make (codes "s") (solid_object (solids.Sphere (record { centre = vector (pos 0) (pos 0) (pos 0); radius = pos 5 }))))
+pub a_tenth_outside : command_of (codes "nirt 524288.1 0 0 +x s") ≡ Bad (View World)
+a_tenth_outside = refl
+
+-- a group of one atom counts as that atom, and numbers have signs and zeros after the point; lengths count tenths
+pub a_sphere : command_of (codes "in  {s} sph 0 0 0 +5.0") ≡ Edit (Make (codes "s") (solid_object (solids.Sphere (record { centre = vector (pos 0) (pos 0) (pos 0); radius = pos 50 }))))
 a_sphere = refl
 
-pub a_shot : command_of (codes "nirt 1 2 3 -x s") ≡ Query (Shot (ray_of (vector (pos 1) (pos 2) (pos 3)) MinusX) (codes "s" ∷ []))
+pub a_small_sphere : command_of (codes "in s sph 0 -0.10 16384 0.5") ≡ Edit (Make (codes "s") (solid_object (solids.Sphere (record { centre = vector (pos 0) (negsuc 0) COORD; radius = pos 5 }))))
+a_small_sphere = refl
+
+-- three whole numbers, and a length
+pub a_half_space : command_of (codes "in h half 1 0 -2 0.5") ≡ Edit (Make (codes "h") (solid_object (solids.Half (record { normal = vector (pos 1) (pos 0) (negsuc 1); distance = pos 5 }))))
+a_half_space = refl
+
+pub a_shot : command_of (codes "nirt 1 2 3 -x s") ≡ Query (Shot (ray_of (vector (pos 10) (pos 20) (pos 30)) MinusX) (codes "s" ∷ []))
 a_shot = refl
 
+pub a_shot_between : command_of (codes "nirt 0.1 -524288 0.90 +y s") ≡ Query (Shot (ray_of (vector (pos 1) (pos 0 -ℤ WORLD) (pos 9)) PlusY) (codes "s" ∷ []))
+a_shot_between = refl
+
 -- a shot at several names, in the order of the line; one may be given twice
-pub a_shot_at_three : command_of (codes "nirt 1 2 3 -x s {t} s") ≡ Query (Shot (ray_of (vector (pos 1) (pos 2) (pos 3)) MinusX) (codes "s" ∷ codes "t" ∷ codes "s" ∷ []))
+pub a_shot_at_three : command_of (codes "nirt 1 2 3 -x s {t} s") ≡ Query (Shot (ray_of (vector (pos 10) (pos 20) (pos 30)) MinusX) (codes "s" ∷ codes "t" ∷ codes "s" ∷ []))
 a_shot_at_three = refl
 
 pub a_shot_at_nothing : command_of (codes "nirt 1 2 3 -x") ≡ Bad Syntax
@@ -141,6 +163,16 @@ placed_by_words = refl
 pub placed_by_a_group : command_of (codes "place c m {1 0 0 0 0 1 0 0 0 0 1 0 0 0 0 1}") ≡ Edit (Place (codes "c") (codes "m") identity)
 placed_by_a_group = refl
 
+-- the fourth, the eighth and the twelfth number are lengths, and all others are whole
+pub shifted_by_tenths : command_of (codes "place c m 1 0 0 0.5 0 1 0 -16384 0 0 1 2.0 0 0 0 1") ≡ Edit (Place (codes "c") (codes "m") (record identity { shift = vector (pos 5) (pos 0 -ℤ COORD) (pos 20) }))
+shifted_by_tenths = refl
+
+pub turned_by_tenths : command_of (codes "place c m 1 0 0.5 0 0 1 0 0 0 0 1 0 0 0 0 1") ≡ Bad (Number 6)
+turned_by_tenths = refl
+
+pub last_row_in_tenths : command_of (codes "place c m 1 0 0 0 0 1 0 0 0 0 1 0 0 0 0 0.1") ≡ Bad (Number 19)
+last_row_in_tenths = refl
+
 -- a number among the words has its own word, and one in a group the group's
 pub last_number : command_of (codes "place c m 1 0 0 0 0 1 0 0 0 0 1 0 0 0 0 x") ≡ Bad (Number 19)
 last_number = refl
@@ -156,6 +188,9 @@ a_scaling = refl
 
 pub shifted_too_far : command_of (codes "place c m 1 0 0 0 0 1 0 16385 0 0 1 0 0 0 0 1") ≡ Bad (Number 4)
 shifted_too_far = refl
+
+pub shifted_a_tenth_too_far : command_of (codes "place c m 1 0 0 0 0 1 0 16384.1 0 0 1 0 0 0 0 1") ≡ Bad (Number 4)
+shifted_a_tenth_too_far = refl
 
 -- a carriage return and a tab are blanks
 pub carriage_return_at_the_end : command_of (codes "kill a\r") ≡ Edit (Kill (codes "a" ∷ []))
@@ -276,7 +311,7 @@ first_of_an_origin = refl
 pub second_of_an_origin : command_of (codes "nirt 524289 - 0 +x s") ≡ Bad (Number 3)
 second_of_an_origin = refl
 
-pub third_of_an_origin : command_of (codes "nirt 524289 0 0.5 +x s") ≡ Bad (Number 4)
+pub third_of_an_origin : command_of (codes "nirt 524289 0 0.05 +x s") ≡ Bad (Number 4)
 third_of_an_origin = refl
 
 -- zeros after a point, or none, change nothing
@@ -309,15 +344,15 @@ pub hollow_face : command_of (codes "in a arb8 0 0 0 10 0 0 3 3 0 0 10 0 0 0 10 
 hollow_face = refl
 
 -- a view by its corner, its direction, its cell, its columns and its rows
-abbrev view : ℤ → ℤ → ℤ → Dir → ℕ → ℕ → ℕ → views.View
-view x y z dir cell w h = record { corner = vector x y z; dir = dir; cell = pos cell; w = w; h = h }
+abbrev view : ℤ → ℤ → ℤ → Dir → ℤ → ℕ → ℕ → views.View
+view x y z dir cell w h = record { corner = vector x y z; dir = dir; cell = cell; w = w; h = h }
 
 -- a picture, and the report of overlaps in the same view
-pub a_picture : command_of (codes "rt cup.ppm -z -1105 1104 1500 10 222 200 all {s}") ≡ Shoot (Picture (codes "cup.ppm") (view (negsuc 1104) (pos 1104) (pos 1500) MinusZ 10 222 200) (codes "all" ∷ codes "s" ∷ []))
+pub a_picture : command_of (codes "rt cup.ppm -z -1105 1104 1500 10 222 200 all {s}") ≡ Shoot (Picture (codes "cup.ppm") (view (negsuc 11049) (pos 11040) (pos 15000) MinusZ (pos 100) 222 200) (codes "all" ∷ codes "s" ∷ []))
 unfolding view_refusal
 a_picture = refl
 
-pub a_check : command_of (codes "rtcheck -z -1105 1104 1500 10 222 200 all s") ≡ Shoot (Check (view (negsuc 1104) (pos 1104) (pos 1500) MinusZ 10 222 200) (codes "all" ∷ codes "s" ∷ []))
+pub a_check : command_of (codes "rtcheck -z -1105 1104 1500 10 222 200 all s") ≡ Shoot (Check (view (negsuc 11049) (pos 11040) (pos 15000) MinusZ (pos 100) 222 200) (codes "all" ∷ codes "s" ∷ []))
 unfolding view_refusal
 a_check = refl
 
@@ -357,6 +392,14 @@ columns_below_zero = refl
 pub too_many_rows : command_of (codes "rtcheck +x 0 0 0 0 0 1000000000 s") ≡ Bad (Number 8)
 too_many_rows = refl
 
+-- a cell is a length, and columns and rows are whole numbers
+pub finest_cell : command_of (codes "rtcheck +x 0 0 0.1 0.1 1 1 s") ≡ Shoot (Check (view (pos 0) (pos 0) (pos 1) PlusX (pos 1) 1 1) (codes "s" ∷ []))
+unfolding view_refusal
+finest_cell = refl
+
+pub columns_in_tenths : command_of (codes "rt f +x 0 0 0 0.1 32.5 1 s") ≡ Bad (Number 8)
+columns_in_tenths = refl
+
 -- the view is looked at last: its pixels, its sides, its cell, and then where its rays start
 pub no_columns : command_of (codes "rt f +x 524289 0 0 0 -0 2049 s") ≡ Bad (View Pixels)
 unfolding view_refusal
@@ -374,18 +417,19 @@ pub corner_outside : command_of (codes "rtcheck +x 524289 0 0 1 1 1 s") ≡ Bad 
 unfolding view_refusal
 corner_outside = refl
 
--- the last column starts a millimetre too far out: columns follow one another along x from left to right, when seen along y
-pub last_column_outside : command_of (codes "rt f +y 524288 0 0 1 2 1 s") ≡ Bad (View World)
+-- the last column starts a tenth of a millimetre too far out: columns follow one another along x from left to right, when
+-- seen along y
+pub last_column_outside : command_of (codes "rt f +y 524288 0 0 0.1 2 1 s") ≡ Bad (View World)
 unfolding view_refusal
 last_column_outside = refl
 
 -- there is no second column that a long cell could move out of the world
-pub one_pixel_of_any_cell : command_of (codes "rt f +y 524288 0 0 999999999 1 1 s") ≡ Shoot (Picture (codes "f") (view (pos 524288) (pos 0) (pos 0) PlusY 999999999 1 1) (codes "s" ∷ []))
+pub one_pixel_of_any_cell : command_of (codes "rt f +y 524288 0 0 999999999.9 1 1 s") ≡ Shoot (Picture (codes "f") (view WORLD (pos 0) (pos 0) PlusY VIEW_NUMBER 1 1) (codes "s" ∷ []))
 unfolding view_refusal
 one_pixel_of_any_cell = refl
 
 -- the most columns and rows, over nearly the whole world
-pub whole_world : command_of (codes "rtcheck +x 0 524288 524288 512 2048 2048 s") ≡ Shoot (Check (view (pos 0) (pos 524288) (pos 524288) PlusX 512 2048 2048) (codes "s" ∷ []))
+pub whole_world : command_of (codes "rtcheck +x 0 524288 524288 512 2048 2048 s") ≡ Shoot (Check (view (pos 0) WORLD WORLD PlusX (pos 5120) 2048 2048) (codes "s" ∷ []))
 unfolding view_refusal
 whole_world = refl
 
@@ -432,7 +476,7 @@ pub at_sign_behind_a_blank : script_of (codes " @2 ls") ≡ Ok (entry 1 (Bad Syn
 at_sign_behind_a_blank = refl
 
 -- one object as a line
-pub a_put : command_of (codes "put s sph r 5 V {0 0 0}") ≡ Edit (Make (codes "s") (solid_object (solids.Sphere (record { centre = vector (pos 0) (pos 0) (pos 0); radius = pos 5 }))))
+pub a_put : command_of (codes "put s sph r 5 V {0 0 0}") ≡ Edit (Make (codes "s") (solid_object (solids.Sphere (record { centre = vector (pos 0) (pos 0) (pos 0); radius = pos 50 }))))
 a_put = refl
 
 -- a group where the object's name is wanted, which a text of a model has as a name that is none

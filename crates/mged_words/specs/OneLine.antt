@@ -1,11 +1,15 @@
 -- Lines of words that are parted by single blanks.
-use Rattle.std.specs.Prelude.{◌≡◌, ◌<◌, ℕ, ℤ, true, false, List, ◌∷◌, [], ◌++◌, Option, Some, map, flat_map, length, codes}
+use Rattle.std.specs.Prelude.{◌≡◌, ◌<◌, ℕ, ℤ, pos, true, false, List, ◌∷◌, [], ◌++◌, Some, map, flat_map, length, codes}
 use Rattle.std.specs.List.{AllByRecursion}
 use Rattle.lattice_core.specs.declared.ray.Dir.{Dir}
 use Rattle.lattice_core.specs.declared.ray.Dir.TheVariants.{PlusX, MinusX, PlusY, MinusY, PlusZ, MinusZ}
+use Rattle.lattice_core.specs.declared.view.View.{View}
 use Rattle.name_core.specs.NameText.{IsName}
 use Rattle.tcl_words.specs.Bytes.{is_atom}
 use Rattle.tcl_words.specs.Faults.{is_bad_at}
+use Rattle.word_values.specs.Kinds.{number_as, numbers_as, plain_kind, point_kind}
+use Rattle.word_values.specs.declared.atoms.NumberList.{NumberList}
+use Rattle.word_values.specs.declared.atoms.NumberList.TheVariants as lists
 use Rattle.word_values.specs.declared.solid.SolidKind.{SolidKind}
 use Rattle.word_values.specs.declared.solid.SolidKind.TheVariants.{Half, Rpp, Arb8, Sphere}
 use Rattle.tree_forms.specs.declared.Op.{Op}
@@ -71,6 +75,13 @@ pub record IsAtom (word : List ℕ) : Type 0 where
   pub some : 0 < length word
   pub bytes : AllByRecursion IsAtomByte word
 
--- words that are read as these numbers
-abbrev pub AreNumbers : (List ℕ → Option ℤ) → List (List ℕ) → List ℤ → Type 0
-AreNumbers read words numbers = map read words ≡ map (λ (n : ℤ). Some n) numbers
+-- words that are read as these numbers, each by its place in a list
+abbrev pub AreNumbers : NumberList → List (List ℕ) → List ℤ → Type 0
+AreNumbers list words numbers = numbers_as list words ≡ map (λ (n : ℤ). Some n) numbers
+
+-- words that are read as the numbers of a view: `X Y Z` of its corner, and then `CELL W H`
+pub record AreViewNumbers (x y z cell w h : List ℕ) (view : View) : Type 0 where
+  pub read_corner : AreNumbers lists.Point (x ∷ y ∷ z ∷ []) (view.corner.x ∷ view.corner.y ∷ view.corner.z ∷ [])
+  pub read_cell : number_as point_kind cell ≡ Some view.cell
+  pub read_columns : number_as plain_kind w ≡ Some (pos view.w)
+  pub read_rows : number_as plain_kind h ≡ Some (pos view.h)

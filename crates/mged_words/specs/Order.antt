@@ -16,7 +16,9 @@ use Rattle.lattice_core.specs.Views.{view_fault}
 use Rattle.plane_geom.specs.declared.fault.ShapeFault.{ShapeFault}
 use Rattle.solid_set.specs.declared.solid.Solid.{Solid}
 use Rattle.region_attr.specs.Attrs.{is_setting}
-use Rattle.word_values.specs.Atoms.{atoms_in, solid_number, value_of, view_number}
+use Rattle.word_values.specs.Atoms.{atoms_in, value_of}
+use Rattle.word_values.specs.Kinds.{numbers_as}
+use Rattle.word_values.specs.declared.atoms.NumberList.TheVariants as lists
 use Rattle.word_values.specs.Groups.{words_of_tokens}
 use Rattle.word_values.specs.Matrices.{placement_read}
 use Rattle.word_values.specs.Solids.{kind_of, number_count, solid_made, vector_at}
@@ -83,13 +85,16 @@ abbrev pub shape_fault : Result Solid ShapeFault → Option ShapeFault
 shape_fault (Ok solid) = None
 shape_fault (Err fault) = Some fault
 
-abbrev pub solid_wanted : List ℕ → Option SolidKind → List (Option ℤ) → Wanted
-solid_wanted name None numbers = nothing
-solid_wanted name (Some kind) numbers = record { names = numbered 2 1 (name ∷ []); numbers = ranged 4 1 numbers; view = None; shape = shape_fault (solid_made kind numbers) }
+abbrev pub made_wanted : List ℕ → SolidKind → List (Option ℤ) → Wanted
+made_wanted name kind numbers = record { names = numbered 2 1 (name ∷ []); numbers = ranged 4 1 numbers; view = None; shape = shape_fault (solid_made kind numbers) }
+
+abbrev pub solid_wanted : List ℕ → Option SolidKind → List (List ℕ) → Wanted
+solid_wanted name None atoms = nothing
+solid_wanted name (Some kind) atoms = made_wanted name kind (numbers_as (lists.Solid kind) atoms)
 
 -- `in NAME KIND` and numbers
 abbrev pub in_wanted : List (List ℕ) → Wanted
-in_wanted (name ∷ kind ∷ atoms) = solid_wanted name (kind_of kind) (map solid_number atoms)
+in_wanted (name ∷ kind ∷ atoms) = solid_wanted name (kind_of kind) atoms
 in_wanted _ = nothing
 
 -- a ray starts in the world
@@ -101,7 +106,7 @@ shot_wanted numbers names = record { names = numbered 6 1 names; numbers = range
 
 -- `nirt X Y Z DIR NAME ..`
 abbrev pub nirt_wanted : List (List ℕ) → Wanted
-nirt_wanted (x ∷ y ∷ z ∷ dir ∷ names) = shot_wanted (map view_number (x ∷ y ∷ z ∷ [])) names
+nirt_wanted (x ∷ y ∷ z ∷ dir ∷ names) = shot_wanted (numbers_as lists.Point (x ∷ y ∷ z ∷ [])) names
 nirt_wanted _ = nothing
 
 -- the names of a line and the numbers of its view, of which the first has this word
@@ -136,7 +141,7 @@ wanted_of_atoms word (Some atoms) = wanted_behind word atoms
 -- The numbers of a matrix, and then whether it is that of a placement that is not too far: this is asked of its first word.
 abbrev pub matrix_numbers : ℕ → Option (List (List ℕ)) → List (ℕ × Bool)
 matrix_numbers step None = []
-matrix_numbers step (Some atoms) = ranged 4 step (map view_number atoms) ++ (4, is_some (placement_read (map view_number atoms))) ∷ []
+matrix_numbers step (Some atoms) = ranged 4 step (numbers_as lists.Matrix atoms) ++ (4, is_some (placement_read (numbers_as lists.Matrix atoms))) ∷ []
 
 abbrev pub with_numbers : List (ℕ × List ℕ) → List (ℕ × Bool) → Wanted
 with_numbers names numbers = record { names = names; numbers = numbers; view = None; shape = None }

@@ -11,16 +11,17 @@ ghost use Rattle.name_core.specs.NameText.{IsName};
 ghost use Rattle.tree_forms.specs.declared.Op.TheVariants.{U};
 ghost use Rattle.region_attr.specs.Attrs.{is_setting};
 ghost use Rattle.solid_set.specs.declared.solid.Solid.{Solid};
-ghost use Rattle.word_values.specs.Atoms.{solid_number, view_number};
+ghost use Rattle.word_values.specs.Kinds.{numbers_as};
 ghost use Rattle.word_values.specs.Matrices.{placement_read};
 ghost use Rattle.word_values.specs.Solids.{number_count, solid_made};
+ghost use Rattle.word_values.specs.declared.atoms.NumberList.TheVariants as lists;
 ghost use Rattle.word_values.specs.declared.solid.SolidKind.{SolidKind};
 ghost use Rattle.command_set.specs.declared.command.Command.TheVariants as command;
 ghost use Rattle.command_set.specs.declared.command.Edit.TheVariants as edits;
 ghost use Rattle.command_set.specs.declared.command.Query.TheVariants as queries;
 ghost use Rattle.command_set.specs.declared.command.Shoot.TheVariants as shoots;
 ghost use Rattle.mged_words.specs.Commands.{command_of, entry_of, ray_of, solid_object};
-ghost use Rattle.mged_words.specs.OneLine.{AreMembers, AreNames, AreNumbers, IsAtom, Member, direction_word, kind_word, line_of, member_words, new_entry};
+ghost use Rattle.mged_words.specs.OneLine.{AreMembers, AreNames, AreNumbers, AreViewNumbers, IsAtom, Member, direction_word, kind_word, line_of, member_words, new_entry};
 ghost use Rattle.mged_words.specs.Order.{TellsFirst, TellsNames, names_of_line, wanted_of_line};
 ghost use Rattle.mged_words.specs.declared.script.TheConstants.{LINE_COUNT, LINE_SIZE, SCRIPT_SIZE};
 
@@ -54,10 +55,10 @@ pub fn each_has_a_line()
 
 /// Each command of names and numbers or of one value has a line that reads as it, however its numbers are written.
 pub fn each_with_numbers_has_a_line()
-    ensures make { (name : List ℕ) (kind : SolidKind) (words : List (List ℕ)) (numbers : List ℤ) (solid : Solid) → IsName name → length words ≡ number_count kind → AreNumbers solid_number words numbers → solid_made kind (map (λ (n : ℤ). Some n) numbers) ≡ Ok solid → command_of (line_of (codes "in") (name ∷ kind_word kind ∷ words)) ≡ command.Edit (edits.Make name (solid_object solid)) }
-    ensures shot { (x y z : List ℕ) (origin : V3) (dir : Dir) (first : List ℕ) (rest : List (List ℕ)) → AreNumbers view_number (x ∷ y ∷ z ∷ []) (origin.x ∷ origin.y ∷ origin.z ∷ []) → IsWithin WORLD origin → AreNames (first ∷ rest) → command_of (line_of (codes "nirt") (x ∷ y ∷ z ∷ direction_word dir ∷ first ∷ rest)) ≡ command.Query (queries.Shot (ray_of origin dir) (first ∷ rest)) }
-    ensures picture { (file x y z cell w h : List ℕ) (view : View) (first : List ℕ) (rest : List (List ℕ)) → IsName file → AreNumbers view_number (x ∷ y ∷ z ∷ cell ∷ w ∷ h ∷ []) (view.corner.x ∷ view.corner.y ∷ view.corner.z ∷ view.cell ∷ pos view.w ∷ pos view.h ∷ []) → IsChecked view → AreNames (first ∷ rest) → command_of (line_of (codes "rt") (file ∷ direction_word view.dir ∷ x ∷ y ∷ z ∷ cell ∷ w ∷ h ∷ first ∷ rest)) ≡ command.Shoot (shoots.Picture file view (first ∷ rest)) }
-    ensures check { (x y z cell w h : List ℕ) (view : View) (first : List ℕ) (rest : List (List ℕ)) → AreNumbers view_number (x ∷ y ∷ z ∷ cell ∷ w ∷ h ∷ []) (view.corner.x ∷ view.corner.y ∷ view.corner.z ∷ view.cell ∷ pos view.w ∷ pos view.h ∷ []) → IsChecked view → AreNames (first ∷ rest) → command_of (line_of (codes "rtcheck") (direction_word view.dir ∷ x ∷ y ∷ z ∷ cell ∷ w ∷ h ∷ first ∷ rest)) ≡ command.Shoot (shoots.Check view (first ∷ rest)) }
-    ensures place { (comb member : List ℕ) (words : List (List ℕ)) (placement : Placement) → IsName comb → IsName member → placement_read (map view_number words) ≡ Some placement → command_of (line_of (codes "place") (comb ∷ member ∷ words)) ≡ command.Edit (edits.Place comb member placement) }
+    ensures make { (name : List ℕ) (kind : SolidKind) (words : List (List ℕ)) (numbers : List ℤ) (solid : Solid) → IsName name → length words ≡ number_count kind → AreNumbers (lists.Solid kind) words numbers → solid_made kind (map (λ (n : ℤ). Some n) numbers) ≡ Ok solid → command_of (line_of (codes "in") (name ∷ kind_word kind ∷ words)) ≡ command.Edit (edits.Make name (solid_object solid)) }
+    ensures shot { (x y z : List ℕ) (origin : V3) (dir : Dir) (first : List ℕ) (rest : List (List ℕ)) → AreNumbers lists.Point (x ∷ y ∷ z ∷ []) (origin.x ∷ origin.y ∷ origin.z ∷ []) → IsWithin WORLD origin → AreNames (first ∷ rest) → command_of (line_of (codes "nirt") (x ∷ y ∷ z ∷ direction_word dir ∷ first ∷ rest)) ≡ command.Query (queries.Shot (ray_of origin dir) (first ∷ rest)) }
+    ensures picture { (file x y z cell w h : List ℕ) (view : View) (first : List ℕ) (rest : List (List ℕ)) → IsName file → AreViewNumbers x y z cell w h view → IsChecked view → AreNames (first ∷ rest) → command_of (line_of (codes "rt") (file ∷ direction_word view.dir ∷ x ∷ y ∷ z ∷ cell ∷ w ∷ h ∷ first ∷ rest)) ≡ command.Shoot (shoots.Picture file view (first ∷ rest)) }
+    ensures check { (x y z cell w h : List ℕ) (view : View) (first : List ℕ) (rest : List (List ℕ)) → AreViewNumbers x y z cell w h view → IsChecked view → AreNames (first ∷ rest) → command_of (line_of (codes "rtcheck") (direction_word view.dir ∷ x ∷ y ∷ z ∷ cell ∷ w ∷ h ∷ first ∷ rest)) ≡ command.Shoot (shoots.Check view (first ∷ rest)) }
+    ensures place { (comb member : List ℕ) (words : List (List ℕ)) (placement : Placement) → IsName comb → IsName member → placement_read (numbers_as lists.Matrix words) ≡ Some placement → command_of (line_of (codes "place") (comb ∷ member ∷ words)) ≡ command.Edit (edits.Place comb member placement) }
     ensures set { (name key value : List ℕ) → IsName name → IsTrue (is_setting key value) → IsAtom value → command_of (line_of (codes "cattr") (name ∷ key ∷ value ∷ [])) ≡ command.Edit (edits.Set name (record { key = key; value = value })) }
 {}

@@ -1,8 +1,7 @@
 //! Reads the commands that make solids.
-ghost use Rattle.std.specs.Prelude.{All, ◌≡◌, length, map, Some};
-ghost use Rattle.lattice_core.specs.declared.limit.TheConstants.{COORD};
-ghost use Rattle.lattice_core.specs.Limits.{IsAtMost};
-ghost use Rattle.word_values.specs.Atoms.{solid_number};
+ghost use Rattle.std.specs.Prelude.{◌≡◌, length, map, Some};
+ghost use Rattle.word_values.specs.Kinds.{AllWithinKinds, numbers_as};
+ghost use Rattle.word_values.specs.declared.atoms.NumberList.TheVariants as lists;
 ghost use Rattle.word_values.specs.Solids as solids;
 ghost use Rattle.mged_words.specs.Commands as commands;
 ghost use Rattle.mged_words.specs.Readings.{IsRead};
@@ -13,7 +12,7 @@ use command_set::{Command, Edit, HeldObject, Refusal};
 use name_core::Name;
 use object_set::Object;
 use std::alloc::Global;
-use word_values::{SOLID_NUMBER, SolidKind};
+use word_values::{NumberList, SolidKind};
 
 /// Makes the solid of a kind by its numbers.
 fn make_command(
@@ -23,7 +22,7 @@ fn make_command(
     numbers: &[i64],
 ) -> Result<Command, LineFault>
     requires count { length numbers.now ≡ solids.number_count kind }
-    requires size { All (IsAtMost COORD) numbers.now }
+    requires sizes { AllWithinKinds (lists.Solid kind) numbers.now }
     ensures { IsRead result (commands.make_command name (solids.solid_made kind (map (λ n. Some n) numbers.now))) }
 {
     match kind.make(numbers) {
@@ -43,11 +42,11 @@ fn numbers_command(
     atoms: &[&[u8]],
 ) -> Result<Command, LineFault>
     requires { length atoms.now ≡ solids.number_count kind }
-    ensures { IsRead result (commands.numbers_command name kind (map solid_number (map (λ a. a.now) atoms.now))) }
+    ensures { IsRead result (commands.numbers_command name kind (numbers_as (lists.Solid kind) (map (λ a. a.now) atoms.now))) }
 {
     let mut numbers = [0; 24];
     let numbers = &mut numbers[..atoms.len()];
-    if let Some(refusal) = read_numbers(atoms, 4, SOLID_NUMBER, numbers) {
+    if let Some(refusal) = read_numbers(atoms, 4, NumberList::Solid(kind), numbers) {
         return Err(LineFault::Refused(refusal));
     }
     make_command(alloc, name, kind, numbers)
@@ -61,7 +60,7 @@ fn solid_command(
     atoms: &[&[u8]],
 ) -> Result<Command, LineFault>
     requires { length atoms.now ≡ solids.number_count kind }
-    ensures { IsRead result (commands.solid_command name.now kind (map solid_number (map (λ a. a.now) atoms.now))) }
+    ensures { IsRead result (commands.solid_command name.now kind (numbers_as (lists.Solid kind) (map (λ a. a.now) atoms.now))) }
 {
     match Name::read(name) {
         Ok(name) => numbers_command(alloc, name, kind, atoms),

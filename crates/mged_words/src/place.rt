@@ -2,7 +2,8 @@
 ghost use Rattle.std.specs.Prelude.{All, ◌≡◌, Some, cond, length, map, IfOk};
 ghost use Rattle.std.specs.Option.{option_map};
 ghost use Rattle.tcl_words.specs.TopWords.{AreTokensIn, IsWordOf};
-ghost use Rattle.word_values.specs.Atoms.{view_number};
+ghost use Rattle.word_values.specs.Kinds.{numbers_as};
+ghost use Rattle.word_values.specs.declared.atoms.NumberList.TheVariants as lists;
 ghost use Rattle.mged_words.specs.Commands as commands;
 ghost use Rattle.mged_words.specs.Readings.{IsRead, matrix_read};
 
@@ -14,7 +15,7 @@ use lattice_core::Placement;
 use memory_core::Memory;
 use std::alloc::Global;
 use tcl_words::{Token, Word, atom_text};
-use word_values::{VIEW_NUMBER, group_atoms, placement_of, word_atoms};
+use word_values::{NumberList, group_atoms, placement_of, word_atoms};
 
 /// The refusal of a number of a matrix: each number of a group has the word of the group.
 fn matrix_refusal(is_group: bool, refusal: Refusal) -> Refusal
@@ -30,10 +31,10 @@ fn matrix_refusal(is_group: bool, refusal: Refusal) -> Refusal
 /// Reads the placement of sixteen numbers. Those of a group all have its number.
 fn read_placement(is_group: bool, atoms: &[&[u8]]) -> Result<NearPlacement, Refusal>
     requires { length atoms.now ≡ 16 }
-    ensures { result ≡ matrix_read (cond is_group 0 1) (map view_number (map (λ a. a.now) atoms.now)) }
+    ensures { result ≡ matrix_read (cond is_group 0 1) (numbers_as lists.Matrix (map (λ a. a.now) atoms.now)) }
 {
     let mut numbers = [0; 16];
-    if let Some(refusal) = read_numbers(atoms, 4, VIEW_NUMBER, &mut numbers) {
+    if let Some(refusal) = read_numbers(atoms, 4, NumberList::Matrix, &mut numbers) {
         return Err(matrix_refusal(is_group, refusal));
     }
     match placement_of(&numbers) {

@@ -1,6 +1,7 @@
 //! Reads the commands that shoot rays.
 ghost use Rattle.std.specs.Prelude.{◌≡◌, ◌<◌, ◌^◌, length, map, Some, IfOk};
-ghost use Rattle.word_values.specs.Atoms.{view_number};
+ghost use Rattle.word_values.specs.Kinds.{numbers_as};
+ghost use Rattle.word_values.specs.declared.atoms.NumberList.TheVariants as lists;
 ghost use Rattle.mged_words.specs.Commands as commands;
 ghost use Rattle.mged_words.specs.Readings.{IsRead};
 
@@ -11,7 +12,7 @@ use command_set::{Command, NameList, Query, Refusal, ViewFault, WorldRay};
 use lattice_core::{Dir, Ray};
 use std::alloc::Global;
 use tcl_words::is_word;
-use word_values::{VIEW_NUMBER, vector_at};
+use word_values::{NumberList, vector_at};
 
 pub(crate) fn direction(word: &[u8]) -> Option<Dir>
     ensures { result ≡ commands.direction_of word.now }
@@ -52,11 +53,11 @@ fn shot_command(
 ) -> Result<Command, LineFault>
     requires numbers { length atoms.now ≡ 3 }
     requires few { length names.now < 2 ^ 31 }
-    ensures { IsRead result (commands.shot_command (map view_number (map (λ a. a.now) atoms.now)) (Some dir) (map (λ a. a.now) names.now)) }
+    ensures { IsRead result (commands.shot_command (numbers_as lists.Point (map (λ a. a.now) atoms.now)) (Some dir) (map (λ a. a.now) names.now)) }
 {
     let names = NameList::of_vec(read_names(alloc, names, 6)?);
     let mut numbers = [0; 3];
-    if let Some(refusal) = read_numbers(atoms, 2, VIEW_NUMBER, &mut numbers) {
+    if let Some(refusal) = read_numbers(atoms, 2, NumberList::Point, &mut numbers) {
         return Err(LineFault::Refused(refusal));
     }
     let origin = vector_at(&numbers, 0);

@@ -1,6 +1,6 @@
 //! Reads the commands that shoot each ray of a view.
-ghost use Rattle.std.specs.Prelude.{◌≡◌, ◌+◌, ◌<◌, ◌≤◌, ◌^◌, ◌∷◌, [], None, Some, length, map, pos, IfErr, IfOk};
-ghost use Rattle.lattice_core.specs.declared.limit.TheConstants.{VIEW_NUMBER as VIEW_LIMIT};
+ghost use Rattle.std.specs.Prelude.{◌≡◌, ◌+◌, ◌<◌, ◌^◌, ◌∷◌, [], None, Some, length, map, pos, IfErr, IfOk};
+ghost use Rattle.lattice_core.specs.declared.limit.TheConstants.{VIEW_NUMBER};
 ghost use Rattle.lattice_core.specs.Limits.{IsAtMost, IsWithin};
 ghost use Rattle.mged_words.specs.Commands as commands;
 ghost use Rattle.mged_words.specs.Readings.{IsRead, six_numbers, view_read, view_unless_fault};
@@ -12,25 +12,37 @@ use crate::shot::direction;
 use command_set::{CheckedView, Command, NameList, Refusal, Shoot};
 use lattice_core::{Dir, View};
 use std::alloc::Global;
-use word_values::{VIEW_NUMBER, number_to, vector_at};
+use word_values::{NumberList, plain_kind, point_kind, vector_at};
 
-/// The cell of a view in millimetres, and how many columns and rows it has.
+/// The cell of a view in tenths of a millimetre, and how many columns and rows it has.
 #[derive(Clone, Copy)]
 struct Sizes {
-    cell: u32,
+    cell: i64,
     w: u32,
     h: u32,
 }
 
-/// Reads one of the sizes of a view, which the word of a number is.
-fn read_size(atom: &[u8], word: u32) -> Result<u32, Refusal>
-    ensures size { IfOk result (λ size. commands.size_number atom.now ≡ Some (pos size)) }
-    ensures within { IfOk result (λ size. size ≤ 999999999) }
-    ensures none { IfErr result (λ _. commands.size_number atom.now ≡ None) }
+/// Reads the cell of a view, the word of this number.
+fn read_cell(atom: &[u8], word: u32) -> Result<i64, Refusal>
+    ensures cell { IfOk result (λ cell. commands.cell_number atom.now ≡ Some cell) }
+    ensures within { IfOk result (λ cell. IsAtMost VIEW_NUMBER cell) }
+    ensures none { IfErr result (λ _. commands.cell_number atom.now ≡ None) }
     ensures fault { IfErr result (λ refusal. refusal ≡ Refusal.Number word) }
 {
-    match number_to(atom, VIEW_NUMBER) {
-        Some(size) if 0 <= size => Ok(size as u32),
+    match point_kind().read(atom) {
+        Some(cell) if 0 <= cell => Ok(cell),
+        _ => Err(Refusal::Number(word)),
+    }
+}
+
+/// Reads how many columns or rows a view has, the word of this number.
+fn read_side(atom: &[u8], word: u32) -> Result<u32, Refusal>
+    ensures side { IfOk result (λ side. commands.side_number atom.now ≡ Some (pos side)) }
+    ensures none { IfErr result (λ _. commands.side_number atom.now ≡ None) }
+    ensures fault { IfErr result (λ refusal. refusal ≡ Refusal.Number word) }
+{
+    match plain_kind().read(atom) {
+        Some(side) if 0 <= side => Ok(side as u32),
         _ => Err(Refusal::Number(word)),
     }
 }
@@ -39,20 +51,20 @@ fn read_size(atom: &[u8], word: u32) -> Result<u32, Refusal>
 fn read_sizes(atoms: &[&[u8]], word: u32) -> Result<Sizes, Refusal>
     requires three { length atoms.now ≡ 3 }
     requires few { word + 3 < 2 ^ 32 }
-    ensures sizes { IfOk result (λ sizes. map commands.size_number (map (λ a. a.now) atoms.now) ≡ Some (pos sizes.cell) ∷ Some (pos sizes.w) ∷ Some (pos sizes.h) ∷ []) }
-    ensures within { IfOk result (λ sizes. sizes.cell ≤ 999999999) }
-    ensures fault { IfErr result (λ refusal. commands.numbers_fault word 1 (map commands.size_number (map (λ a. a.now) atoms.now)) ≡ Some refusal) }
+    ensures sizes { IfOk result (λ sizes. commands.size_numbers (map (λ a. a.now) atoms.now) ≡ Some sizes.cell ∷ Some (pos sizes.w) ∷ Some (pos sizes.h) ∷ []) }
+    ensures within { IfOk result (λ sizes. IsAtMost VIEW_NUMBER sizes.cell) }
+    ensures fault { IfErr result (λ refusal. commands.numbers_fault word 1 (commands.size_numbers (map (λ a. a.now) atoms.now)) ≡ Some refusal) }
 {
-    let cell = read_size(atoms[0], word)?;
-    let w = read_size(atoms[1], word + 1)?;
-    let h = read_size(atoms[2], word + 2)?;
+    let cell = read_cell(atoms[0], word)?;
+    let w = read_side(atoms[1], word + 1)?;
+    let h = read_side(atoms[2], word + 2)?;
     Ok(Sizes { cell, w, h })
 }
 
 /// The view, or why it is refused.
 fn checked(view: View) -> Result<CheckedView, Refusal>
-    requires corner { IsWithin VIEW_LIMIT view.corner }
-    requires cell { IsAtMost VIEW_LIMIT view.cell }
+    requires corner { IsWithin VIEW_NUMBER view.corner }
+    requires cell { IsAtMost VIEW_NUMBER view.cell }
     ensures { result ≡ view_unless_fault view }
 {
     match CheckedView::of_view(view) {
@@ -68,14 +80,14 @@ fn read_view(dir: Dir, atoms: &[&[u8]], word: u32) -> Result<CheckedView, Refusa
     ensures { result ≡ view_read word dir (six_numbers (map (λ a. a.now) atoms.now)) }
 {
     let mut corner = [0; 3];
-    if let Some(refusal) = read_numbers(&atoms[..3], word, VIEW_NUMBER, &mut corner) {
+    if let Some(refusal) = read_numbers(&atoms[..3], word, NumberList::Point, &mut corner) {
         return Err(refusal);
     }
     let sizes = read_sizes(&atoms[3..], word + 3)?;
     checked(View {
         corner: vector_at(&corner, 0),
         dir,
-        cell: i64::from(sizes.cell),
+        cell: sizes.cell,
         w: sizes.w,
         h: sizes.h,
     })

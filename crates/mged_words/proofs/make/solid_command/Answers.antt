@@ -1,6 +1,7 @@
 use Rattle.std.proofs.Common.{◌∙◌, subst, sym, ap, map, List, ℤ, Option, [], ◌∷◌, is_ok}
 use Rattle.name_core.specs.NameText.{read_name}
-use Rattle.word_values.specs.Atoms.{solid_number}
+use Rattle.word_values.specs.Kinds.{numbers_as}
+use Rattle.word_values.specs.declared.atoms.NumberList.TheVariants as lists
 use Rattle.mged_words.specs.Readings.{IsRead}
 use Rattle.mged_words.specs.Commands.{numbers_command, numbers_fault, make_command}
 use Rattle.word_values.specs.Solids.{solid_made}
@@ -10,7 +11,7 @@ use Rattle.mged_words.proofs.make.solid_command.Goals as goal
 
 pub returns-in-Ok : goal.returns-in-Ok
 returns-in-Ok c =
-    let numbers : List (Option ℤ) = map solid_number (map (λ a. a.now) c.args.atoms.now) in
+    let numbers : List (Option ℤ) = numbers_as (lists.Solid c.args.kind) (map (λ a. a.now) c.args.atoms.now) in
     let read = sym c.read.ensures.exact ∙ c.in-Ok.is in
     subst (IsRead c.numbers_command.result)
     (ap (λ name. numbers_command name c.args.kind numbers) (read_same c.args.name.now c.in-Ok.name read)

@@ -2,7 +2,8 @@ use Rattle.std.proofs.Common.{ap, sym, subst, ◌∙◌, [], List, ℕ, Option, 
 use Rattle.std.specs.Borrow.{Bor}
 use Rattle.lattice_core.specs.declared.ray.Dir.{Dir}
 use Rattle.command_set.specs.declared.command.Command.{Command}
-use Rattle.word_values.specs.Atoms.{view_number}
+use Rattle.word_values.specs.Kinds.{numbers_as}
+use Rattle.word_values.specs.declared.atoms.NumberList.TheVariants as lists
 use Rattle.mged_words.specs.Commands.{shot_command}
 use Rattle.mged_words.specs.Readings.{IsRead}
 use Rattle.mged_words.proofs.LineLaws.{nirt_short, nirt_long}
@@ -11,7 +12,7 @@ use Rattle.mged_words.proofs.shot.nirt_command.Goals as goal
 
 -- the command of a direction and of these names
 abbrev shot_with : List (Bor (List ℕ)) → Option Dir → List (Bor (List ℕ)) → Command
-shot_with atoms dir names = shot_command (map view_number (map (λ (a : Bor (List ℕ)). a.now) (take 3 atoms))) dir (map (λ (a : Bor (List ℕ)). a.now) names)
+shot_with atoms dir names = shot_command (numbers_as lists.Point (map (λ (a : Bor (List ℕ)). a.now) (take 3 atoms))) dir (map (λ (a : Bor (List ℕ)). a.now) names)
 
 pub returns-then-atoms-lt5 : goal.returns-then-atoms-lt5
 returns-then-atoms-lt5 c = nirt_short c.args.atoms.now c.if-atoms-lt5.true

@@ -1,11 +1,7 @@
-use Rattle.std.proofs.Common.{◌≡◌, ◌∙◌, ap, sym, subst, arith, ℤ, pos, List, FitsSigned}
-use Rattle.std.proofs.lemmas.Int.{ints, to_z-of_z, fits_signed_from_abs}
-use Rattle.std.specs.Int.RustNames.{unsigned_abs}
-use mir.Val.{to_z, of_z}
-use mir.Syntax.{w64}
+use Rattle.std.proofs.Common.{◌≡◌, ◌∙◌, ap, sym, subst, arith, ℤ, List}
 use Rattle.lattice_core.specs.declared.limit.TheConstants.{VIEW_NUMBER}
 use Rattle.lattice_core.specs.declared.vector.V3.{V3}
-use Rattle.lattice_core.specs.Limits.{IsAtMost, IsWithin}
+use Rattle.lattice_core.specs.Limits.{IsWithin}
 use Rattle.mged_words.specs.Readings.{view_unless_fault}
 use Rattle.mged_words.proofs.ViewLines.{err_same, bad_corner, bad_sizes, good_view, corner_near}
 use Rattle.mged_words.proofs.views.read_view.Goals as goal
@@ -22,17 +18,8 @@ returns-in_err-sizes c =
 pub checked-requires-clause-corner : goal.checked-requires-clause-corner
 checked-requires-clause-corner c = subst (IsWithin VIEW_NUMBER) (sym c.vector_at.ensures.value) (corner_near c.read_numbers.new.out (omega (arith, c.read_numbers.auto.out)) c.in_default.ensures.within)
 
-pub checked-requires-clause-cell : goal.checked-requires-clause-cell
-checked-requires-clause-cell c =
-    let fits : FitsSigned w64 c.from.result = fits_signed_from_abs w64 c.from.result (omega (arith, ap unsigned_abs c.from.ensures, c.in_ok-sizes.ensures.within)) in
-    let same : to_z w64 (of_z w64 c.from.result) ≡ pos c.in_ok-sizes.sizes.cell = to_z-of_z w64 c.from.result fits ∙ c.from.ensures in
-    subst (IsAtMost VIEW_NUMBER) (sym same) (omega (arith, ints, c.in_ok-sizes.ensures.within), omega (arith, ints, c.in_ok-sizes.ensures.within))
-
 pub returns : goal.returns
 returns c =
-    let fits : FitsSigned w64 c.from.result = fits_signed_from_abs w64 c.from.result (omega (arith, ap unsigned_abs c.from.ensures, c.in_ok-sizes.ensures.within)) in
-    let same : to_z w64 (of_z w64 c.from.result) ≡ pos c.in_ok-sizes.sizes.cell = to_z-of_z w64 c.from.result fits ∙ c.from.ensures in
     c.checked.ensures
-    ∙ ap (λ (z : ℤ). view_unless_fault (record { corner = c.vector_at.result; dir = c.args.dir; cell = z; w = c.in_ok-sizes.sizes.w; h = c.in_ok-sizes.sizes.h })) same
-    ∙ ap (λ (v : V3). view_unless_fault (record { corner = v; dir = c.args.dir; cell = pos c.in_ok-sizes.sizes.cell; w = c.in_ok-sizes.sizes.w; h = c.in_ok-sizes.sizes.h })) c.vector_at.ensures.value
+    ∙ ap (λ (v : V3). view_unless_fault (record { corner = v; dir = c.args.dir; cell = c.in_ok-sizes.sizes.cell; w = c.in_ok-sizes.sizes.w; h = c.in_ok-sizes.sizes.h })) c.vector_at.ensures.value
     ∙ good_view c.args.word c.args.dir c.args.atoms.now c.read_numbers.new.out c.in_ok-sizes.sizes.cell c.in_ok-sizes.sizes.w c.in_ok-sizes.sizes.h c.requires.six (omega (arith, c.read_numbers.auto.out)) c.in_default.ensures.read c.in_ok-sizes.ensures.sizes

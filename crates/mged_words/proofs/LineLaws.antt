@@ -9,16 +9,15 @@ use Rattle.name_core.specs.declared.name.NameFault.TheVariants.{Empty, Long}
 use Rattle.std.proofs.lemmas.Bool.{cond-true, cond-false}
 use Rattle.std.proofs.lemmas.List.{length-map}
 use Rattle.word_values.specs.declared.solid.SolidKind.{SolidKind}
+use Rattle.word_values.specs.declared.solid.SolidKind.TheVariants as solids
 use Rattle.command_set.specs.declared.command.Command.{Command}
 use Rattle.command_set.specs.declared.refusal.Refusal.{Refusal}
 use Rattle.word_values.specs.Solids.{number_count}
-use Rattle.word_values.specs.Kinds.{kind_at, most_of, number_as, numbers_as, numbers_from, plain_kind, point_kind}
+use Rattle.word_values.specs.Kinds.{coordinate_kind, kind_at, most_of, normal_kind, number_as, numbers_as, numbers_from, plain_kind, point_kind}
 use Rattle.word_values.specs.declared.atoms.NumberKind.{NumberKind}
 use Rattle.word_values.specs.declared.atoms.NumberList.{NumberList}
 use Rattle.word_values.specs.declared.atoms.NumberList.TheVariants as lists
-use Rattle.word_values.proofs.KindLaws.{numbers_append, solid_small}
-use Rattle.lattice_core.specs.declared.limit.TheConstants.{COORD}
-use Rattle.std.specs.Int.RustNames.{unsigned_abs}
+use Rattle.word_values.proofs.KindLaws.{numbers_append}
 use Rattle.mged_words.specs.Commands.{unless_refused, kind_command, solid_command, numbers_fault, in_command, nirt_command, shot_command, direction_of}
 use Rattle.command_set.specs.declared.command.Command.TheVariants.{Bad}
 use Rattle.command_set.specs.declared.refusal.Refusal.TheVariants.{Syntax, Number}
@@ -59,15 +58,18 @@ next_read list atoms out i d n lt len is h =
     let right : take (i + 1) (set out i n) ≡ take i out ++ n ∷ [] = grind (arith, common_steps) in
     left ∙ ap (λ xs. xs ++ Some n ∷ []) h ∙ sym (ap (map (λ (m : ℤ). Some m)) right ∙ map-append (λ (m : ℤ). Some m) (take i out) (n ∷ []))
 
-matrix_small : (far : Bool) → most_of (cond far point_kind plain_kind) < 2 ^ 62
-matrix_small true = lit< tt
-matrix_small false = lit< tt
+either_small : (b : Bool) (one other : NumberKind) → most_of one < 2 ^ 62 → most_of other < 2 ^ 62 → most_of (cond b one other) < 2 ^ 62
+either_small true one other h k = h
+either_small false one other h k = k
 
--- the numbers of a line are read as such of 64 bits
+-- each number of a line fits 64 bits
 pub kinds_small : (list : NumberList) (place : ℕ) → most_of (kind_at list place) < 2 ^ 62
-kinds_small (lists.Solid kind) place = let small : most_of (kind_at (lists.Solid kind) place) ≤ unsigned_abs COORD = solid_small kind place in omega (arith, small)
+kinds_small (lists.Solid solids.Half) place = either_small (nat_lt place 3) normal_kind coordinate_kind (lit< tt) (lit< tt)
+kinds_small (lists.Solid solids.Rpp) place = lit< tt
+kinds_small (lists.Solid solids.Arb8) place = lit< tt
+kinds_small (lists.Solid solids.Sphere) place = lit< tt
 kinds_small lists.Point place = lit< tt
-kinds_small lists.Matrix place = matrix_small (place == 3 || place == 7 || place == 11)
+kinds_small lists.Matrix place = either_small (place == 3 || place == 7 || place == 11) point_kind plain_kind (lit< tt) (lit< tt)
 
 -- too few words behind `in`
 pub in_short : (atoms : List (Bor (List ℕ))) → length atoms < 2 → Bad Syntax ≡ in_command (map (λ (a : Bor (List ℕ)). a.now) atoms)

@@ -4,7 +4,9 @@ use Rattle.std.specs.Option.{option_map}
 use Rattle.std.specs.Int.RustNames.{unsigned_abs}
 use Rattle.std.specs.Borrow.{Bor}
 use Rattle.std.specs.Result.{IsErr, IsErrAnd}
-use Rattle.std.proofs.lemmas.Int.{ints}
+use Rattle.std.proofs.lemmas.Int.{ints, to_z-of_z, fits_signed_from_abs}
+use mir.Val.{to_z, of_z}
+use mir.Syntax.{w64}
 use Rattle.lattice_core.specs.declared.ray.Dir.{Dir}
 use Rattle.lattice_core.specs.declared.view.View as views
 use Rattle.lattice_core.specs.declared.view.ViewFault.{ViewFault}
@@ -41,6 +43,33 @@ err_told {T} {G} (Err e) refusal P h is p = subst P (sym (is e h.1)) p
 pub err_same : {T : Type 0} {G : Refusal → Type 0} (r x : Result T Refusal) (refusal : Refusal) → IsErr r × IsErrAnd r G → ((e : Refusal) → G e → e ≡ refusal) → Err refusal ≡ x → r ≡ x
 err_same {T} {G} (Ok v) x refusal h is same = absurd h.1
 err_same {T} {G} (Err e) x refusal h is same = ap (λ (f : Refusal). let made : Result T Refusal = Err f in made) (is e h.1) ∙ same
+
+-- a second size that is none
+pub second_bad : (atoms : List (Bor (List ℕ))) (word : ℕ) (d : Bor (List ℕ)) (cell : ℤ) (refusal : Refusal) → length atoms ≡ 3 → cell_number (get_or atoms 0 d).now ≡ Some cell → side_number (get_or atoms 1 d).now ≡ None
+    → refusal ≡ Number (word + 1) → numbers_fault word 1 (size_numbers (map (λ (a : Bor (List ℕ)). a.now) atoms)) ≡ Some refusal
+second_bad (a ∷ b ∷ c ∷ []) word d cell refusal n h k is =
+    ap (λ (o : Option ℤ). numbers_fault word 1 (o ∷ side_number b.now ∷ side_number c.now ∷ [])) h
+    ∙ ap (λ (o : Option ℤ). numbers_fault (word + 1) 1 (o ∷ side_number c.now ∷ [])) k
+    ∙ ap (λ (r : Refusal). Some r) (sym is)
+second_bad [] word d cell refusal n h k is = absurd (omega (arith, n))
+second_bad (a ∷ []) word d cell refusal n h k is = absurd (omega (arith, n))
+second_bad (a ∷ b ∷ []) word d cell refusal n h k is = absurd (omega (arith, n))
+second_bad (a ∷ b ∷ c ∷ e ∷ more) word d cell refusal n h k is = absurd (omega (arith, n))
+
+pub three_sizes : (atoms : List (Bor (List ℕ))) (d : Bor (List ℕ)) (cell : ℤ) (w h : ℕ) → length atoms ≡ 3 → cell_number (get_or atoms 0 d).now ≡ Some cell → side_number (get_or atoms 1 d).now ≡ Some (pos w)
+    → side_number (get_or atoms 2 d).now ≡ Some (pos h) → size_numbers (map (λ (a : Bor (List ℕ)). a.now) atoms) ≡ Some cell ∷ Some (pos w) ∷ Some (pos h) ∷ []
+three_sizes (a ∷ b ∷ c ∷ []) d cell w h n one two three =
+    ap (λ (o : Option ℤ). o ∷ side_number b.now ∷ side_number c.now ∷ []) one
+    ∙ ap (λ (o : Option ℤ). Some cell ∷ o ∷ side_number c.now ∷ []) two
+    ∙ ap (λ (o : Option ℤ). Some cell ∷ Some (pos w) ∷ o ∷ []) three
+three_sizes [] d cell w h n one two three = absurd (omega (arith, n))
+three_sizes (a ∷ []) d cell w h n one two three = absurd (omega (arith, n))
+three_sizes (a ∷ b ∷ []) d cell w h n one two three = absurd (omega (arith, n))
+three_sizes (a ∷ b ∷ c ∷ e ∷ more) d cell w h n one two three = absurd (omega (arith, n))
+
+-- a cell of a view fits 64 bits
+pub cell_fits : (cell : ℤ) → IsAtMost VIEW_NUMBER cell → to_z w64 (of_z w64 cell) ≡ cell
+cell_fits cell h = to_z-of_z w64 cell (fits_signed_from_abs w64 cell (omega (arith, ints, h.0, h.1)))
 
 -- a third size that is none
 pub third_bad : (atoms : List (Bor (List ℕ))) (word : ℕ) (d : Bor (List ℕ)) (cell : ℤ) (w : ℕ) (refusal : Refusal) → length atoms ≡ 3 → cell_number (get_or atoms 0 d).now ≡ Some cell → side_number (get_or atoms 1 d).now ≡ Some (pos w)

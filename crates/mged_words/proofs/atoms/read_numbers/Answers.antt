@@ -1,12 +1,19 @@
-use Rattle.std.proofs.Common.{arith, ap, ◌≡◌, ◌≤◌, ◌∙◌, ◌<◌, ◌^◌, ℕ, ℤ, List, length, FitsSigned, Option, Some, subst, sym}
+use Rattle.std.proofs.Common.{arith, ap, ◌≡◌, ◌≤◌, ◌∙◌, ◌<◌, ℤ, List, length, take, FitsSigned, Some, subst}
+use Rattle.std.proofs.lemmas.List.{take_all}
 use Rattle.std.proofs.lemmas.Int.{to_z-of_z, fits_signed_from_abs}
 use Rattle.std.specs.Int.RustNames.{unsigned_abs}
 use mir.Val.{to_z, of_z}
 use mir.Syntax.{w64}
-use Rattle.word_values.specs.Kinds.{kind_at, most_of}
+use Rattle.word_values.specs.Kinds.{kind_at, most_of, AllWithinKinds}
 use Rattle.word_values.proofs.KindLaws.{read_within}
 use Rattle.mged_words.proofs.LineLaws.{placed, next_fault, next_read, kinds_small}
 use Rattle.mged_words.proofs.atoms.read_numbers.Goals as goal
+
+pub returns-clause-within : goal.returns-clause-within
+returns-clause-within c =
+    let out : List ℤ = c.loop-i.out in
+    let whole : take c.loop-i.i out ≡ out = take_all c.loop-i.i out (omega (arith, c.loop-i-test.false, c.loop-i.auto.out, c.requires.room)) in
+    subst (AllWithinKinds c.args.list) whole (read_within c.args.list _ (take c.loop-i.i out) c.loop-i.invariant.read)
 
 pub loop-i-preserved : goal.loop-i-preserved
 loop-i-preserved c =

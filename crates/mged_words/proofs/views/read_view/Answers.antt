@@ -3,7 +3,7 @@ use Rattle.lattice_core.specs.declared.limit.TheConstants.{VIEW_NUMBER}
 use Rattle.lattice_core.specs.declared.vector.V3.{V3}
 use Rattle.lattice_core.specs.Limits.{IsWithin}
 use Rattle.mged_words.specs.Readings.{view_unless_fault}
-use Rattle.mged_words.proofs.ViewLines.{err_same, bad_corner, bad_sizes, good_view, corner_near}
+use Rattle.mged_words.proofs.ViewLines.{err_same, bad_corner, bad_sizes, good_view, corner_near, cell_fits}
 use Rattle.mged_words.proofs.views.read_view.Goals as goal
 
 pub returns-in-Some : goal.returns-in-Some
@@ -20,6 +20,8 @@ checked-requires-clause-corner c = subst (IsWithin VIEW_NUMBER) (sym c.vector_at
 
 pub returns : goal.returns
 returns c =
+    let sizes = c.in_ok-sizes.sizes in
     c.checked.ensures
-    ∙ ap (λ (v : V3). view_unless_fault (record { corner = v; dir = c.args.dir; cell = c.in_ok-sizes.sizes.cell; w = c.in_ok-sizes.sizes.w; h = c.in_ok-sizes.sizes.h })) c.vector_at.ensures.value
-    ∙ good_view c.args.word c.args.dir c.args.atoms.now c.read_numbers.new.out c.in_ok-sizes.sizes.cell c.in_ok-sizes.sizes.w c.in_ok-sizes.sizes.h c.requires.six (omega (arith, c.read_numbers.auto.out)) c.in_default.ensures.read c.in_ok-sizes.ensures.sizes
+    ∙ ap (λ (z : ℤ). view_unless_fault (record { corner = c.vector_at.result; dir = c.args.dir; cell = z; w = sizes.w; h = sizes.h })) (cell_fits sizes.cell c.in_ok-sizes.ensures.within)
+    ∙ ap (λ (v : V3). view_unless_fault (record { corner = v; dir = c.args.dir; cell = sizes.cell; w = sizes.w; h = sizes.h })) c.vector_at.ensures.value
+    ∙ good_view c.args.word c.args.dir c.args.atoms.now c.read_numbers.new.out sizes.cell sizes.w sizes.h c.requires.six (omega (arith, c.read_numbers.auto.out)) c.in_default.ensures.read c.in_ok-sizes.ensures.sizes

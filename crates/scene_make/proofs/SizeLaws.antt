@@ -11,7 +11,9 @@ use Rattle.word_values.specs.Matrices.{identity}
 use Rattle.transcript.specs.Lines.{ended}
 use Rattle.region_attr.specs.Attrs.{group_attr}
 use Rattle.region_attr.specs.declared.attr.Rgb.{Rgb}
-use Rattle.put_form.specs.Written.{numbers_text, vector_text, is_zero, matrix_text, node_text, attr_text, body_text, put_line}
+use Rattle.word_values.specs.Kinds.{coordinate_kind}
+use Rattle.word_values.specs.declared.atoms.NumberList.TheVariants as lists
+use Rattle.put_form.specs.Written.{length_text, number_words, size_text, tenth_text, tenths, vector_text, words_text, is_zero, matrix_text, node_text, attr_text, body_text, put_line}
 use Rattle.directory.specs.Walks.{Entries}
 use Rattle.asc_form.specs.Written.{written}
 use Rattle.scene_make.specs.Draws.{after}
@@ -23,15 +25,30 @@ use Rattle.scene_make.proofs.TextLaws.{both, after_title}
 small_number : (n : ℕ) → n < 10000 → length (decimal n) ≤ 4
 small_number n small = length-decimal-le 4 n (lit< tt) (omega (arith, small)) (omega (arith, small))
 
-signed_short : (z : ℤ) → (pos 0 -ℤ pos 9000) ≤ℤ z → z ≤ℤ pos 9000 → length (signed_decimal z) ≤ 5
-signed_short (pos n) above below = length_signed_le 4 (pos n) (omega (arith, ints, below)) (omega (arith, ints, below))
-signed_short (negsuc n) above below = length_signed_le 4 (negsuc n) (omega (arith, ints, above)) (omega (arith, ints, above))
+either_short : (b : Bool) (xs : List ℕ) (most : ℕ) → length xs ≤ most → length (if b then [] else xs) ≤ most
+either_short true xs most le = omega arith
+either_short false xs most le = le
+
+tenth_short : (tenth : ℕ) → tenth < 10 → length (tenth_text tenth) ≤ 2
+tenth_short tenth small =
+    let digit : length (decimal tenth) ≤ 1 = length-decimal-le 1 tenth (lit< tt) (omega (arith, small)) (omega (arith, small)) in
+    either_short (tenth == 0) (codes "." ++ decimal tenth) 2 (simp length-append (omega (arith, digit)))
+
+-- up to 900 millimetres, in tenths
+size_short : (size : ℕ) → size ≤ 9000 → length (size_text size) ≤ 5
+size_short size small =
+    let whole : length (decimal (size / tenths)) ≤ 3 = length-decimal-le 3 (size / tenths) (lit< tt) (omega (arith, small)) (omega (arith, small)) in
+    simp length-append (omega (arith, whole, tenth_short (size % tenths) (omega arith)))
+
+length_short : (z : ℤ) → (pos 0 -ℤ pos 9000) ≤ℤ z → z ≤ℤ pos 9000 → length (length_text z) ≤ 6
+length_short (pos n) above below = omega (arith, size_short n (omega (arith, ints, below)))
+length_short (negsuc n) above below = simp length-append (omega (arith, size_short (suc n) (omega (arith, ints, above))))
 
 -- a coordinate of a place
-coordinate_short : (digit : ℕ) → digit < 10 → length (signed_decimal (coordinate digit)) ≤ 5
-coordinate_short digit small = signed_short (coordinate digit) (omega (arith, ints, small)) (omega (arith, ints, small))
+coordinate_short : (digit : ℕ) → digit < 10 → length (length_text (coordinate digit)) ≤ 6
+coordinate_short digit small = length_short (coordinate digit) (omega (arith, ints, small)) (omega (arith, ints, small))
 
-vector_short : (v : V3) → length (signed_decimal v.x) ≤ 5 → length (signed_decimal v.y) ≤ 5 → length (signed_decimal v.z) ≤ 5 → length (vector_text v) ≤ 19
+vector_short : (v : V3) → length (length_text v.x) ≤ 6 → length (length_text v.y) ≤ 6 → length (length_text v.z) ≤ 6 → length (vector_text coordinate_kind v) ≤ 22
 vector_short v x y z = simp length-append (omega (arith, x, y, z))
 
 sign_short : (is negative : Bool) → length (signed_decimal (cond is (cond negative (negsuc 0) (pos 1)) (pos 0))) ≤ 5
@@ -39,15 +56,11 @@ sign_short true true = length_signed_le 4 (negsuc 0) (lit< tt) (lit< tt)
 sign_short true false = length_signed_le 4 (pos 1) (lit< tt) (lit< tt)
 sign_short false negative = length_signed_le 4 (pos 0) (lit< tt) (lit< tt)
 
-either_short : (b : Bool) (xs : List ℕ) (most : ℕ) → length xs ≤ most → length (if b then [] else xs) ≤ most
-either_short true xs most le = omega arith
-either_short false xs most le = le
-
-numbers_short : (a b c d e f g h i j k l m n o p : ℤ) → length (signed_decimal a) ≤ 5 → length (signed_decimal b) ≤ 5 → length (signed_decimal c) ≤ 5 → length (signed_decimal d) ≤ 5
-    → length (signed_decimal e) ≤ 5 → length (signed_decimal f) ≤ 5 → length (signed_decimal g) ≤ 5 → length (signed_decimal h) ≤ 5
-    → length (signed_decimal i) ≤ 5 → length (signed_decimal j) ≤ 5 → length (signed_decimal k) ≤ 5 → length (signed_decimal l) ≤ 5
+numbers_short : (a b c d e f g h i j k l m n o p : ℤ) → length (signed_decimal a) ≤ 5 → length (signed_decimal b) ≤ 5 → length (signed_decimal c) ≤ 5 → length (length_text d) ≤ 6
+    → length (signed_decimal e) ≤ 5 → length (signed_decimal f) ≤ 5 → length (signed_decimal g) ≤ 5 → length (length_text h) ≤ 6
+    → length (signed_decimal i) ≤ 5 → length (signed_decimal j) ≤ 5 → length (signed_decimal k) ≤ 5 → length (length_text l) ≤ 6
     → length (signed_decimal m) ≤ 5 → length (signed_decimal n) ≤ 5 → length (signed_decimal o) ≤ 5 → length (signed_decimal p) ≤ 5
-    → length (numbers_text (a ∷ b ∷ c ∷ d ∷ e ∷ f ∷ g ∷ h ∷ i ∷ j ∷ k ∷ l ∷ m ∷ n ∷ o ∷ p ∷ [])) ≤ 95
+    → length (words_text (number_words lists.Matrix 0 (a ∷ b ∷ c ∷ d ∷ e ∷ f ∷ g ∷ h ∷ i ∷ j ∷ k ∷ l ∷ m ∷ n ∷ o ∷ p ∷ []))) ≤ 98
 numbers_short a b c d e f g h i j k l m n o p a' b' c' d' e' f' g' h' i' j' k' l' m' n' o' p' =
     simp length-append (omega (arith, a', b', c', d', e', f', g', h', i', j', k', l', m', n', o', p'))
 
@@ -57,15 +70,15 @@ entry_short turn row column = sign_short (column_of turn row == column) (is_nega
 around : (text : List ℕ) → length (codes " {" ++ (text ++ codes "}")) ≡ length text + 3
 around text = simp length-append (omega arith)
 
-matrix_short : (p : Placement) → length (signed_decimal p.shift.x) ≤ 5 → length (signed_decimal p.shift.y) ≤ 5 → length (signed_decimal p.shift.z) ≤ 5 → length (matrix_text p) ≤ 98
+matrix_short : (p : Placement) → length (length_text p.shift.x) ≤ 6 → length (length_text p.shift.y) ≤ 6 → length (length_text p.shift.z) ≤ 6 → length (matrix_text p) ≤ 101
 matrix_short p x y z =
     let t : ℕ = p.turn.number in
     let none : length (signed_decimal (pos 0)) ≤ 5 = sign_short false false in
     let one : length (signed_decimal (pos 1)) ≤ 5 = sign_short true false in
-    let numbers : length (numbers_text (matrix_of p)) ≤ 95 =
+    let numbers : length (words_text (number_words lists.Matrix 0 (matrix_of p))) ≤ 98 =
     numbers_short (entry_of t 1 1) (entry_of t 1 2) (entry_of t 1 3) p.shift.x (entry_of t 2 1) (entry_of t 2 2) (entry_of t 2 3) p.shift.y (entry_of t 3 1) (entry_of t 3 2) (entry_of t 3 3) p.shift.z (pos 0) (pos 0) (pos 0) (pos 1)
     (entry_short t 1 1) (entry_short t 1 2) (entry_short t 1 3) x (entry_short t 2 1) (entry_short t 2 2) (entry_short t 2 3) y (entry_short t 3 1) (entry_short t 3 2) (entry_short t 3 3) z none none none one in
-    either_short (t == 0 && is_zero p.shift) (codes " {" ++ (numbers_text (matrix_of p) ++ codes "}")) 98 (omega (arith, numbers, around (numbers_text (matrix_of p))))
+    either_short (t == 0 && is_zero p.shift) (codes " {" ++ (words_text (number_words lists.Matrix 0 (matrix_of p)) ++ codes "}")) 101 (omega (arith, numbers, around (words_text (number_words lists.Matrix 0 (matrix_of p)))))
 
 put_length : (name body : List ℕ) → length (codes "put " ++ (name ++ (codes " " ++ body))) ≡ length name + length body + 5
 put_length name body = simp length-append (omega arith)
@@ -95,19 +108,19 @@ name_short : (letter i : ℕ) → i < 1000 → length (letter ∷ decimal i) ≤
 name_short letter i small = omega (arith, small_number i (omega (arith, small)))
 
 -- the centre's coordinates
-shift_short : (i : ℕ) → i < 1000 → (length (signed_decimal (centre_of i).x) ≤ 5) × (length (signed_decimal (centre_of i).y) ≤ 5) × (length (signed_decimal (centre_of i).z) ≤ 5)
+shift_short : (i : ℕ) → i < 1000 → (length (length_text (centre_of i).x) ≤ 6) × (length (length_text (centre_of i).y) ≤ 6) × (length (length_text (centre_of i).z) ≤ 6)
 shift_short i small = (coordinate_short (i / 100) (omega (arith, small)), coordinate_short (i / 10 % 10) (omega arith), coordinate_short (i % 10) (omega arith))
 
-radius_short : (x : ℕ) → length (signed_decimal (drawn_radius x)) ≤ 5
-radius_short x = length_signed_le 4 (drawn_radius x) (omega arith) (omega arith)
+radius_short : (x : ℕ) → length (length_text (drawn_radius x)) ≤ 6
+radius_short x = length_short (drawn_radius x) (omega (arith, ints)) (omega (arith, ints))
 
-sphere_short : (x i : ℕ) → i < 1000 → length (put_line (sphere_name i) (sphere_of i (drawn_radius x)).body) ≤ 60
+sphere_short : (x i : ℕ) → i < 1000 → length (put_line (sphere_name i) (sphere_of i (drawn_radius x)).body) ≤ 64
 sphere_short x i small =
     let shift = shift_short i small in
-    let centre : length (vector_text (centre_of i)) ≤ 19 = vector_short (centre_of i) shift.0 shift.1 shift.2 in
+    let centre : length (vector_text coordinate_kind (centre_of i)) ≤ 22 = vector_short (centre_of i) shift.0 shift.1 shift.2 in
     simp length-append (omega (arith, small_number i (omega (arith, small)), centre, radius_short x))
 
-tree_short : (x i : ℕ) → i < 1000 → length (node_text (region_tree i (drawn_turn x))) ≤ 120
+tree_short : (x i : ℕ) → i < 1000 → length (node_text (region_tree i (drawn_turn x))) ≤ 123
 tree_short x i small =
     let by : Placement = record { turn = drawn_turn x; shift = centre_of i } in
     let shift = shift_short i small in
@@ -117,7 +130,7 @@ tree_short x i small =
     less_length (node_text (leaf_at (sphere_name i) identity)) (node_text (leaf_at cut_name by)) in
     omega (arith, whole, left, right, name_short 115 i small, matrix_short by shift.0 shift.1 shift.2)
 
-region_short : (x i : ℕ) → i < 1000 → length (put_line (region_name i) (region_of i (drawn_turn x) (drawn_colour x)).body) ≤ 270
+region_short : (x i : ℕ) → i < 1000 → length (put_line (region_name i) (region_of i (drawn_turn x) (drawn_colour x)).body) ≤ 273
 region_short x i small =
     let attr = attr_text (attr_of (1000 + i) (drawn_colour x)) in
     let node = node_text (region_tree i (drawn_turn x)) in
@@ -125,7 +138,7 @@ region_short x i small =
     let whole : length (put_line (region_name i) body) ≡ length (region_name i) + length (body_text body) + 5 = put_length (region_name i) (body_text body) in
     let of_body : length (body_text body) ≡ length attr + length node + 13 = comb_length attr node in
     let attr_le : length attr ≤ 100 = attr_short (1000 + i) (drawn_colour x) (omega (arith, small)) (omega arith) (omega arith) (omega arith) in
-    let node_le : length node ≤ 120 = tree_short x i small in
+    let node_le : length node ≤ 123 = tree_short x i small in
     omega (arith, whole, of_body, name_short 114 i small, attr_le, node_le)
 
 pair_short : (x i : ℕ) → i < 1000 → length (entries_text (pair_of x i)) ≤ 400
@@ -133,8 +146,8 @@ pair_short x i small =
     let sphere = put_line (sphere_name i) (sphere_of i (drawn_radius x)).body in
     let region = put_line (region_name i) (region_of i (drawn_turn x) (drawn_colour x)).body in
     let whole : length (entries_text (pair_of x i)) ≡ length sphere + length region + 2 = two_lines sphere region in
-    let sphere_le : length sphere ≤ 60 = sphere_short x i small in
-    let region_le : length region ≤ 270 = region_short x i small in
+    let sphere_le : length sphere ≤ 64 = sphere_short x i small in
+    let region_le : length region ≤ 273 = region_short x i small in
     omega (arith, whole, sphere_le, region_le)
 
 pairs_short : (n i : ℕ) → i ≤ 1000 → length (entries_text (pairs n i)) ≤ 400 * i

@@ -1,8 +1,9 @@
 -- The demo of a number n: a directory of 1,000 spheres in a cube of 10 by 10 by 10, from each of which a corner is cut, and
 -- a script that makes pictures of them. Each sphere takes five draws: its radius, its turn, and its red, green and blue.
-use Rattle.std.specs.Prelude.{refl, ℕ, zero, suc, ◌+◌, ◌*◌, ◌/◌, ◌%◌, ℤ, pos, ◌-ℤ◌, true, false, List, [], ◌∷◌, ◌++◌, Some, codes, decimal}
+use Rattle.std.specs.Prelude.{refl, ℕ, zero, suc, ◌+◌, ◌*◌, ◌/◌, ◌%◌, ℤ, pos, ◌-ℤ◌, ◌*ℤ◌, true, false, List, [], ◌∷◌, ◌++◌, Some, codes, decimal}
 use Rattle.std.proofs.lemmas.Bool.{ltb-true}
 use Rattle.std.proofs.lemmas.Nat.{mod_below}
+use Rattle.lattice_core.specs.declared.limit.TheConstants.{MILLIMETRE}
 use Rattle.lattice_core.specs.declared.vector.V3.{V3}
 use Rattle.lattice_core.specs.declared.turn.Turn.{Turn}
 use Rattle.lattice_core.specs.declared.placement.Placement.{Placement}
@@ -41,13 +42,17 @@ all_name = codes "all"
 abbrev pub bare : Body → Parts
 bare body = record { body = body; kept = [] }
 
--- what is cut off: a box from 0 to 80 along each axis
-abbrev pub cut : Parts
-cut = bare (bodies.Solid (solids.Arb8 (record { vertices = rpp_vertices (pos 0) (pos 80) (pos 0) (pos 80) (pos 0) (pos 80) })))
+-- so many millimetres
+abbrev pub millimetres : ℤ → ℤ
+millimetres n = n *ℤ MILLIMETRE
 
--- ten places, 200 apart
+-- what is cut off: a box from 0 to 80 millimetres along each axis
+abbrev pub cut : Parts
+cut = bare (bodies.Solid (solids.Arb8 (record { vertices = rpp_vertices (pos 0) (millimetres (pos 80)) (pos 0) (millimetres (pos 80)) (pos 0) (millimetres (pos 80)) })))
+
+-- ten places, 200 millimetres apart
 abbrev pub coordinate : ℕ → ℤ
-coordinate digit = pos (200 * digit) -ℤ pos 900
+coordinate digit = millimetres (pos (200 * digit) -ℤ pos 900)
 
 -- the place of the three decimal digits of i
 abbrev pub centre_of : ℕ → V3
@@ -59,7 +64,7 @@ sphere_of i radius = bare (bodies.Solid (solids.Sphere (record { centre = centre
 
 -- the radius, the turn and the colour that are drawn from x
 abbrev pub drawn_radius : ℕ → ℤ
-drawn_radius x = pos (20 + draw x 0 60)
+drawn_radius x = millimetres (pos (20 + draw x 0 60))
 
 abbrev pub drawn_turn : ℕ → Turn
 drawn_turn x = record { number = draw x 1 48; in_range = mod_below (next (after x 1) / 65536) 48 (ltb-true 0 48 refl) }

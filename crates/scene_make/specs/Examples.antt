@@ -14,7 +14,7 @@ first_numbers = refl
 first_draws : draw 7 0 60 ∷ draw 7 1 48 ∷ draw 7 2 256 ∷ [] ≡ 4 ∷ 14 ∷ 116 ∷ []
 first_draws = refl
 
-a_place : centre_of 507 ≡ vector (pos 100) (negsuc 899) (pos 500)
+a_place : centre_of 507 ≡ vector (pos 1000) (negsuc 8999) (pos 5000)
 a_place = refl
 
 names_without_zeros : sphere_name 7 ≡ codes "s7"

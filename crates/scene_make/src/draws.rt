@@ -5,7 +5,7 @@ ghost use Rattle.scene_make.specs.Draws as draws;
 ghost use Rattle.scene_make.specs.Draws.{after, draw};
 ghost use Rattle.scene_make.specs.Demo.{drawn_radius, drawn_turn, drawn_colour};
 
-use lattice_core::Turn;
+use lattice_core::{MILLIMETRE, Turn};
 use region_attr::Rgb;
 
 /// Draws numbers. Each comes from the one before it.
@@ -52,7 +52,7 @@ impl Draws {
         ensures value { result ≡ drawn_radius self.old.last }
         ensures size { IsRadius result }
     {
-        20 + i64::from(self.draw(60))
+        (20 + i64::from(self.draw(60))) * MILLIMETRE
     }
 
     fn turn(&mut self) -> Turn

@@ -10,7 +10,7 @@ ghost use Rattle.scene_make.specs.Demo as demo;
 
 use crate::names::{cut_name, sphere_name};
 use comb_tree::{CombTree, ListEntry, TreeFault};
-use lattice_core::{Placement, Turn, V3};
+use lattice_core::{MILLIMETRE, Placement, Turn, V3};
 use memory_core::Memory;
 use object_set::Object;
 use prim_arb8::Arb8;
@@ -20,11 +20,14 @@ use solid_set::Solid;
 use std::alloc::Global;
 use tree_forms::Op;
 
+/// How long the sides of the box are that is cut off, in tenths of a millimetre.
+const CUT: i64 = 80 * MILLIMETRE;
+
 /// What is cut off.
 pub(crate) fn cut(alloc: Global) -> Object
     ensures { result ≡ demo.cut }
 {
-    match Arb8::of_extents(0, 80, 0, 80, 0, 80) {
+    match Arb8::of_extents(0, CUT, 0, CUT, 0, CUT) {
         Ok(arb8) => Object::of_solid(alloc, Solid::Arb8(arb8)),
         Err(_) => unreachable!(),
     }
@@ -34,7 +37,7 @@ fn coordinate(digit: u32) -> i64
     requires { digit < 10 }
     ensures { result ≡ demo.coordinate digit }
 {
-    200 * i64::from(digit) - 900
+    (200 * i64::from(digit) - 900) * MILLIMETRE
 }
 
 /// The place of the three decimal digits of a number.

@@ -1,5 +1,5 @@
 -- A line of names and numbers that are parted by single blanks is read as its command.
-use Rattle.std.proofs.Common.{◌≡◌, ◌<◌, ◌≤◌, ◌+◌, ◌++◌, ◌==◌, ◌&&◌, ◌||◌, ◌∙◌, ℕ, ℤ, pos, negsuc, ◌≤ℤ◌, suc, Bool, true, false, cond, inl, inr, List, [], ◌∷◌, length, drop, take, map, get_or, codes, Option, Some, None, is_none, is_ok, unwrap_or, Ok, IsTrue, arith, refl, ap, sym, subst, length-append, eqb-true}
+use Rattle.std.proofs.Common.{◌≡◌, ◌<◌, ◌≤◌, ◌+◌, ◌++◌, ◌==◌, ◌&&◌, ◌||◌, ◌∙◌, ℕ, ℤ, pos, negsuc, ◌≤ℤ◌, suc, Bool, true, false, cond, inl, inr, List, [], ◌∷◌, length, drop, map, get_or, codes, Option, Some, None, is_none, is_ok, unwrap_or, Ok, IsTrue, arith, refl, ap, sym, subst, length-append, eqb-true}
 use Rattle.std.specs.List.{AllByRecursion, list_all, cons_option, range_with_len, slice_range}
 use Rattle.std.specs.Prelude.{filter_map}
 use Rattle.std.specs.Option.{option_map}

@@ -1,4 +1,4 @@
-use Rattle.std.proofs.Common.{◌≡◌, ◌∙◌, ap, sym, subst, arith, ℤ, List}
+use Rattle.std.proofs.Common.{◌∙◌, ap, sym, subst, arith, ℤ, List}
 use Rattle.lattice_core.specs.declared.limit.TheConstants.{VIEW_NUMBER}
 use Rattle.lattice_core.specs.declared.vector.V3.{V3}
 use Rattle.lattice_core.specs.Limits.{IsWithin}

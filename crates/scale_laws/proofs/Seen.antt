@@ -154,6 +154,7 @@ pub rays_scale_to_tenths : RaysScaleToTenths
 rays_scale_to_tenths far regions larger ray ends h =
     let all : ScalesOnRay millimetre far regions larger ray = scenes_scale millimetre far regions larger ray (omega arith) h in
     record {
+      claims = ap (λ (end : ℤ). claims_on_up_to end larger (larger_ray millimetre ray)) ends ∙ all.claims;
       lit = ap (λ (end : ℤ). lit_up_to end larger (larger_ray millimetre ray)) ends ∙ all.lit;
       overlaps = ap (λ (end : ℤ). overlaps_on_up_to end larger (larger_ray millimetre ray)) ends ∙ all.overlaps;
       pixel = ap (λ (end : ℤ). pixel_up_to end larger (larger_ray millimetre ray)) ends ∙ all.pixel;

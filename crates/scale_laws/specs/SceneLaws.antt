@@ -7,7 +7,7 @@ use Rattle.lattice_core.specs.declared.ray.Ray.{Ray}
 use Rattle.lattice_core.specs.declared.view.View.{View}
 use Rattle.lattice_core.specs.Views.{pixel_ray}
 use Rattle.shot_core.specs.Regions.{Region}
-use Rattle.shot_core.specs.Shots.{claims_on_up_to, lit_of, lit_up_to, overlaps_on, overlaps_on_up_to}
+use Rattle.shot_core.specs.Shots.{claims_on, claims_on_up_to, lit_of, lit_up_to, overlaps_on, overlaps_on_up_to}
 use Rattle.tile_shot.specs.Pixels.{pixel_of, pixel_up_to}
 use Rattle.order_laws.specs.Times.{enlarged}
 use Rattle.order_laws.specs.RaysMoved.{moved_overlap}
@@ -40,6 +40,7 @@ millimetre = unsigned_abs MILLIMETRE
 
 -- a ray of its whole length has of larger regions what a ray of this length had of the regions, so many times as far
 pub record ScalesToTenths (far : ℤ) (regions larger : List Region) (ray : Ray) : Type 0 where
+  pub claims : claims_on larger (larger_ray millimetre ray) ≡ claims_on_up_to far regions ray
   pub lit : lit_of larger (larger_ray millimetre ray) ≡ map (moved_lit (enlarged millimetre)) (lit_up_to far regions ray)
   pub overlaps : overlaps_on larger (larger_ray millimetre ray) ≡ map (moved_overlap (enlarged millimetre)) (overlaps_on_up_to far regions ray)
   pub pixel : pixel_of larger (larger_ray millimetre ray) ≡ pixel_up_to far regions ray

@@ -25,11 +25,16 @@ distance_small a b k l s t =
 fractions_small : (p q r s : ℤ) → IsFractionInRange p q → IsFractionInRange r s → unsigned_abs (p *ℤ s) < 2 ^ 127
 fractions_small p q r s f g = omega (arith, product_size p s over under (omega (arith, f.over)) (omega (arith, ints, g.positive, g.under)))
 
+whole_small : (p q a : ℤ) (k : ℕ) → IsFractionInRange p q → IsSurdInRange a k → unsigned_abs (a *ℤ q) ≤ WHOLE_LIMIT * under
+whole_small p q a k f s = product_size a q WHOLE_LIMIT under (omega (arith, s.whole)) (omega (arith, ints, f.positive, f.under))
+
+offset_small : (p q a : ℤ) (k : ℕ) → IsFractionInRange p q → IsSurdInRange a k → unsigned_abs (p -ℤ (a *ℤ q)) < 5 * 2 ^ 61
+offset_small p q a k f s = omega (arith, ints, whole_small p q a k f s, f.over)
+
 beside_root_small : (p q a : ℤ) (k : ℕ) → IsFractionInRange p q → IsSurdInRange a k → unsigned_abs ((p -ℤ (a *ℤ q)) *ℤ (p -ℤ (a *ℤ q))) < 2 ^ 127
 beside_root_small p q a k f s =
-    let product : unsigned_abs (a *ℤ q) ≤ WHOLE_LIMIT * under = product_size a q WHOLE_LIMIT under (omega (arith, s.whole)) (omega (arith, ints, f.positive, f.under)) in
-    let m : unsigned_abs (p -ℤ (a *ℤ q)) ≤ over + WHOLE_LIMIT * under = omega (arith, ints, product, f.over) in
-    omega (arith, product_size (p -ℤ (a *ℤ q)) (p -ℤ (a *ℤ q)) (over + WHOLE_LIMIT * under) (over + WHOLE_LIMIT * under) m m)
+    let m : unsigned_abs (p -ℤ (a *ℤ q)) ≤ 5 * 2 ^ 61 = omega (arith, offset_small p q a k f s) in
+    omega (arith, product_size (p -ℤ (a *ℤ q)) (p -ℤ (a *ℤ q)) (5 * 2 ^ 61) (5 * 2 ^ 61) m m)
 
 root_small : (p q a : ℤ) (k : ℕ) → IsFractionInRange p q → IsSurdInRange a k → unsigned_abs (pos k *ℤ (q *ℤ q)) < 2 ^ 127
 root_small p q a k f s =
@@ -56,6 +61,8 @@ under_both_small a b k l s t = omega (arith, mul-le k l SQUARE_LIMIT SQUARE_LIMI
 pub products_are_small : ProductsAreSmall
 products_are_small = record {
   fractions = fractions_small;
+  times_whole = λ p q a k f s. omega (arith, whole_small p q a k f s);
+  offset = offset_small;
   beside_root = beside_root_small;
   root = root_small;
   beside_both = beside_both_small;

@@ -36,10 +36,10 @@ sphere = record { body = bodies.Solid (solids.Sphere (record { centre = vector (
 abbrev small : Listing
 small = record { title = codes "a  b"; objects = (codes "s", sphere) ∷ [] }
 
-a_model : directory_of (codes "# made by hand\ntitle {a  b}\n\nunits mm\nput s sph r 5\tV {0 0\n0}\r\n") ≡ Ok small
+a_model : directory_of (codes "# made by hand\ntitle {a  b}\n\nunits mm\nput s sph r 0.5\tV {0 0\n0}\r\n") ≡ Ok small
 a_model = refl
 
-its_text : written small ≡ codes "title {a  b}\nunits mm\nput s sph V {0 0 0} r 5\n"
+its_text : written small ≡ codes "title {a  b}\nunits mm\nput s sph V {0 0 0} r 0.5\n"
 unfolding digits
 its_text = refl
 
@@ -50,7 +50,7 @@ a_title = refl
 nothing : directory_of [] ≡ Ok empty
 nothing = refl
 
-kept_twice : directory_of (codes "put s sph V {0 0 0} r 5\nattr set s k {a } l b\nattr set {s} l c m {}\n")
+kept_twice : directory_of (codes "put s sph V {0 0 0} r 0.5\nattr set s k {a } l b\nattr set {s} l c m {}\n")
     ≡ Ok (record { title = []; objects = (codes "s", record sphere { kept = record { name = codes "k"; value = codes "a " } ∷ record { name = codes "l"; value = codes "c" } ∷ record { name = codes "m"; value = [] } ∷ [] }) ∷ [] })
 kept_twice = refl
 

@@ -1,6 +1,5 @@
 -- The written line of a solid of eight vertices reads as that solid.
 use Rattle.std.proofs.Common.{◌≡◌, ◌∙◌, ◌&&◌, ◌+◌, ◌<◌, ◌^◌, length, All, decimal, ℕ, ℤ, true, not, cond, List, [], ◌∷◌, ◌++◌, Option, Some, None, is_some, codes, refl, ap, arith}
-use Rattle.std.specs.Fmt.{signed_decimal}
 use Rattle.std.specs.List.{list_all}
 use Rattle.std.proofs.lemmas.List.Elements.{All-head, All-tail}
 use Rattle.std.proofs.lemmas.Fmt.{decimal_digit}
@@ -20,35 +19,37 @@ use Rattle.tcl_words.specs.declared.token.Token.{Token}
 use Rattle.tcl_words.specs.declared.token.Word.{Word}
 use Rattle.tcl_words.proofs.Scan.{Piece}
 use Rattle.tcl_words.proofs.Written.{Good}
+use Rattle.word_values.specs.Kinds.{coordinate_kind}
 use Rattle.word_values.specs.Solids.{unless_faulty}
+use Rattle.put_form.specs.Kinds.{vector_key}
 use Rattle.put_form.specs.Pairs.{Pair, pair}
 use Rattle.put_form.specs.Puts.{put_of, kind_put, solid_put}
 use Rattle.put_form.specs.declared.kind.Kind.TheVariants as kinds
 use Rattle.put_form.specs.declared.kind.SolidForm.TheVariants.{Arb8}
 use Rattle.put_form.specs.Solids as solid_keys
-use Rattle.put_form.specs.Written.{put_line, vertices_text}
+use Rattle.put_form.specs.Written.{length_text, put_line, vertices_text}
 use Rattle.text_laws.specs.PutAgain.{IsPutAgain}
 use Rattle.text_laws.proofs.LineSolids.{put_words, good_solid, vector_value, some_three, put_solid}
 use Rattle.put_form.proofs.NameWords.{name_word, word_good}
-use Rattle.text_laws.proofs.LineNumbers.{lettered_word}
+use Rattle.text_laws.proofs.LineNumbers.{coordinates_of, lettered_word}
 use Rattle.text_laws.proofs.LinePieces.{HasPieces, read_line, placed, HasBytes, by_places, word, atom, vector_pieces, triple_text, vector_written, vector_good}
 
 -- the vertices with their keys
 abbrev vertex_pieces : ℕ → List V3 → List Piece
 vertex_pieces number [] = []
-vertex_pieces number (v ∷ rest) = atom (86 ∷ decimal number) ∷ vector_pieces v (vertex_pieces (number + 1) rest)
+vertex_pieces number (v ∷ rest) = atom (86 ∷ decimal number) ∷ vector_pieces coordinate_kind v (vertex_pieces (number + 1) rest)
 
 vertices_written : (number : ℕ) (vs : List V3) → vertices_text number vs ≡ written_after Close (vertex_pieces number vs)
 vertices_written number [] = refl
 vertices_written number (v ∷ rest) =
     ap (λ (text : List ℕ). 32 ∷ 86 ∷ (decimal number ++ 32 ∷ text))
-    (vector_written v (vertices_text (number + 1) rest) ∙ ap (triple_text (signed_decimal v.x) (signed_decimal v.y) (signed_decimal v.z)) (vertices_written (number + 1) rest))
+    (vector_written coordinate_kind v (vertices_text (number + 1) rest) ∙ ap (triple_text (length_text v.x) (length_text v.y) (length_text v.z)) (vertices_written (number + 1) rest))
 
 vertices_good : (number : ℕ) (vs : List V3) → number + length vs < 2 ^ 64 → All (IsWithin COORD) vs → Good 0 (vertex_pieces number vs)
 vertices_good number [] few within = refl
 vertices_good number (v ∷ rest) few within = (
   word_good (86 ∷ decimal number) 0 (lettered_word 86 number refl (omega (arith, few))),
-  vector_good v (vertex_pieces (number + 1) rest) (All-head (IsWithin COORD) v rest within) (vertices_good (number + 1) rest (omega (arith, few)) (All-tail (IsWithin COORD) v rest within)),
+  vector_good coordinate_kind v (vertex_pieces (number + 1) rest) (coordinates_of v (All-head (IsWithin COORD) v rest within)) (vertices_good (number + 1) rest (omega (arith, few)) (All-tail (IsWithin COORD) v rest within)),
 )
 
 abbrev arb8_pieces : List ℕ → List V3 → List Piece
@@ -90,14 +91,14 @@ eight_put : (text : List ℕ) (start end : ℕ → ℕ) (name : List ℕ) (a b c
     → put_of text (placed start end (arb8_pieces name (a ∷ b ∷ c ∷ d ∷ e ∷ f ∷ g ∷ h ∷ []))) (top_words (placed start end (arb8_pieces name (a ∷ b ∷ c ∷ d ∷ e ∷ f ∷ g ∷ h ∷ [])))) ≡ put_solid name (solids.Arb8 (record { vertices = a ∷ b ∷ c ∷ d ∷ e ∷ f ∷ g ∷ h ∷ [] }))
 eight_put text start end name a b c d e f g h bytes is within sound =
     let tokens : List Token = placed start end (arb8_pieces name (a ∷ b ∷ c ∷ d ∷ e ∷ f ∷ g ∷ h ∷ [])) in
-    let n1 : solid_keys.value_numbers text tokens 3 (word 4 8) ≡ Some (numbers_of_vector a) = vector_value text tokens (word 4 8) a (some_three (bytes 5) (bytes 6) (bytes 7)) (within 0 zero_vector (omega arith)) in
-    let n2 : solid_keys.value_numbers text tokens 3 (word 10 14) ≡ Some (numbers_of_vector b) = vector_value text tokens (word 10 14) b (some_three (bytes 11) (bytes 12) (bytes 13)) (within 1 zero_vector (omega arith)) in
-    let n3 : solid_keys.value_numbers text tokens 3 (word 16 20) ≡ Some (numbers_of_vector c) = vector_value text tokens (word 16 20) c (some_three (bytes 17) (bytes 18) (bytes 19)) (within 2 zero_vector (omega arith)) in
-    let n4 : solid_keys.value_numbers text tokens 3 (word 22 26) ≡ Some (numbers_of_vector d) = vector_value text tokens (word 22 26) d (some_three (bytes 23) (bytes 24) (bytes 25)) (within 3 zero_vector (omega arith)) in
-    let n5 : solid_keys.value_numbers text tokens 3 (word 28 32) ≡ Some (numbers_of_vector e) = vector_value text tokens (word 28 32) e (some_three (bytes 29) (bytes 30) (bytes 31)) (within 4 zero_vector (omega arith)) in
-    let n6 : solid_keys.value_numbers text tokens 3 (word 34 38) ≡ Some (numbers_of_vector f) = vector_value text tokens (word 34 38) f (some_three (bytes 35) (bytes 36) (bytes 37)) (within 5 zero_vector (omega arith)) in
-    let n7 : solid_keys.value_numbers text tokens 3 (word 40 44) ≡ Some (numbers_of_vector g) = vector_value text tokens (word 40 44) g (some_three (bytes 41) (bytes 42) (bytes 43)) (within 6 zero_vector (omega arith)) in
-    let n8 : solid_keys.value_numbers text tokens 3 (word 46 50) ≡ Some (numbers_of_vector h) = vector_value text tokens (word 46 50) h (some_three (bytes 47) (bytes 48) (bytes 49)) (within 7 zero_vector (omega arith)) in
+    let n1 : solid_keys.value_numbers text tokens (vector_key (codes "V1")) (word 4 8) ≡ Some (numbers_of_vector a) = vector_value text tokens (word 4 8) (codes "V1") coordinate_kind a (some_three (bytes 5) (bytes 6) (bytes 7)) (coordinates_of a (within 0 zero_vector (omega arith))) in
+    let n2 : solid_keys.value_numbers text tokens (vector_key (codes "V2")) (word 10 14) ≡ Some (numbers_of_vector b) = vector_value text tokens (word 10 14) (codes "V2") coordinate_kind b (some_three (bytes 11) (bytes 12) (bytes 13)) (coordinates_of b (within 1 zero_vector (omega arith))) in
+    let n3 : solid_keys.value_numbers text tokens (vector_key (codes "V3")) (word 16 20) ≡ Some (numbers_of_vector c) = vector_value text tokens (word 16 20) (codes "V3") coordinate_kind c (some_three (bytes 17) (bytes 18) (bytes 19)) (coordinates_of c (within 2 zero_vector (omega arith))) in
+    let n4 : solid_keys.value_numbers text tokens (vector_key (codes "V4")) (word 22 26) ≡ Some (numbers_of_vector d) = vector_value text tokens (word 22 26) (codes "V4") coordinate_kind d (some_three (bytes 23) (bytes 24) (bytes 25)) (coordinates_of d (within 3 zero_vector (omega arith))) in
+    let n5 : solid_keys.value_numbers text tokens (vector_key (codes "V5")) (word 28 32) ≡ Some (numbers_of_vector e) = vector_value text tokens (word 28 32) (codes "V5") coordinate_kind e (some_three (bytes 29) (bytes 30) (bytes 31)) (coordinates_of e (within 4 zero_vector (omega arith))) in
+    let n6 : solid_keys.value_numbers text tokens (vector_key (codes "V6")) (word 34 38) ≡ Some (numbers_of_vector f) = vector_value text tokens (word 34 38) (codes "V6") coordinate_kind f (some_three (bytes 35) (bytes 36) (bytes 37)) (coordinates_of f (within 5 zero_vector (omega arith))) in
+    let n7 : solid_keys.value_numbers text tokens (vector_key (codes "V7")) (word 40 44) ≡ Some (numbers_of_vector g) = vector_value text tokens (word 40 44) (codes "V7") coordinate_kind g (some_three (bytes 41) (bytes 42) (bytes 43)) (coordinates_of g (within 6 zero_vector (omega arith))) in
+    let n8 : solid_keys.value_numbers text tokens (vector_key (codes "V8")) (word 46 50) ≡ Some (numbers_of_vector h) = vector_value text tokens (word 46 50) (codes "V8") coordinate_kind h (some_three (bytes 47) (bytes 48) (bytes 49)) (coordinates_of h (within 7 zero_vector (omega arith))) in
     put_words text tokens (word 0 0) (word 1 1) (word 2 2) eight_words name (codes "arb8") (ap Some (bytes 0)) (ap Some (bytes 1)) (ap Some (bytes 2))
     ∙ same_eight (λ k1 k2 k3 k4 k5 k6 k7 k8. kind_put text tokens (Some name) (Some (kinds.Solid Arb8)) (Some (eight_pairs k1 k2 k3 k4 k5 k6 k7 k8))) (key_is 1 (omega arith) (bytes 3)) (key_is 2 (omega arith) (bytes 9)) (key_is 3 (omega arith) (bytes 15)) (key_is 4 (omega arith) (bytes 21)) (key_is 5 (omega arith) (bytes 27)) (key_is 6 (omega arith) (bytes 33)) (key_is 7 (omega arith) (bytes 39)) (key_is 8 (omega arith) (bytes 45))
     ∙ good_solid text tokens Arb8 name eight_keys (numbers_of_vector a ++ (numbers_of_vector b ++ (numbers_of_vector c ++ (numbers_of_vector d ++ (numbers_of_vector e ++ (numbers_of_vector f ++ (numbers_of_vector g ++ (numbers_of_vector h)))))))) is

@@ -1,19 +1,17 @@
 -- The written text of a tree reads as that tree.
-use Rattle.std.proofs.Common.{◌≡◌, ◌∙◌, ◌+◌, ◌-◌, ◌<◌, ◌≤◌, ◌==◌, ◌&&◌, ℕ, zero, suc, ℤ, pos, Bool, true, false, not, cond, List, [], ◌∷◌, ◌++◌, length, map, Option, Some, None, Result, Ok, Err, is_some, is_ok, IsOk, unwrap_or, codes, refl, ap, ap₂, sym, subst, arith, append-nil, append_assoc, length-append, ne_eqb, eqb-true, ◌↔◌}
-use Rattle.std.specs.Prelude.{nat_le}
-use Rattle.std.specs.Fmt.{signed_decimal}
+use Rattle.std.proofs.Common.{◌≡◌, ◌∙◌, ◌+◌, ◌-◌, ◌<◌, ◌≤◌, ◌==◌, ◌&&◌, ℕ, ℤ, pos, negsuc, Bool, true, false, not, cond, List, [], ◌∷◌, ◌++◌, length, map, Option, Some, None, Result, Ok, Err, is_some, is_ok, IsOk, unwrap_or, codes, refl, ap, ap₂, sym, subst, arith, append-nil, append_assoc, length-append, ne_eqb, eqb-true, ◌↔◌}
 use Rattle.std.specs.Int.RustNames.{unsigned_abs}
 use Rattle.std.specs.List.{list_all, slice_range}
 use Rattle.std.specs.Option.{option_map}
-use Rattle.std.proofs.lemmas.Bool.{and_parts, leb-true, le-leb, le-ltb}
+use Rattle.std.proofs.lemmas.Bool.{and_parts, le-ltb}
 use Rattle.std.proofs.lemmas.List.Folds.{list_all-append}
 use Rattle.lattice_core.specs.declared.limit.TheConstants.{COORD}
 use Rattle.lattice_core.specs.declared.placement.MatrixFault.{MatrixFault}
 use Rattle.lattice_core.specs.declared.placement.MatrixFault.TheVariants.{NotLattice, TooFar}
 use Rattle.lattice_core.specs.declared.placement.Placement.{Placement}
-use Rattle.lattice_core.specs.Limits.{IsAtMost, IsWithin}
+use Rattle.lattice_core.specs.Limits.{IsWithin}
 use Rattle.lattice_core.specs.Placements.{matrix_of, IsPlacementMatrix, IsFarMatrix}
-use Rattle.lattice_core.specs.Turns.{entry_of}
+use Rattle.lattice_core.specs.Turns.{column_of, is_negated, entry_of}
 use Rattle.lattice_core.proofs.Placing.{one_shift}
 use Rattle.name_core.specs.NameText.{read_name}
 use Rattle.name_core.proofs.NameLaws.{accepted}
@@ -28,7 +26,9 @@ use Rattle.std.proofs.lemmas.Bool.Decides.{nat_tests}
 use Rattle.tcl_words.specs.Faults.{is_bad_at}
 use Rattle.tcl_words.proofs.Scan.{Piece}
 use Rattle.tcl_words.proofs.Written.{GoodPiece}
-use Rattle.word_values.specs.Atoms.{view_number}
+use Rattle.word_values.specs.Kinds.{kind_at, plain_kind, numbers_from}
+use Rattle.word_values.specs.declared.atoms.NumberList.{NumberList}
+use Rattle.word_values.specs.declared.atoms.NumberList.TheVariants as lists
 use Rattle.word_values.specs.Groups.{Words, End, Atom, Group, with_atom, with_group, with_token, levels_of, innermost, words_of_tokens, atoms_of}
 use Rattle.word_values.specs.Matrices.{identity, placement_in, placement_read, placement_of_all}
 use Rattle.word_values.specs.Solids.{is_zero}
@@ -36,49 +36,52 @@ use Rattle.word_values.specs.Trees.{Given, given, given_if, node_of, joined_by, 
 use Rattle.word_values.specs.declared.tree.TreeFault.{TreeFault}
 use Rattle.word_values.specs.declared.tree.TreeFault.TheVariants as faults
 use Rattle.word_values.proofs.MatrixLaws.{of_read, all_there, still}
-use Rattle.put_form.specs.Written.{numbers_text, operator_text, node_text}
+use Rattle.put_form.specs.Written.{words_text, number_words, operator_text, node_text}
 use Rattle.text_laws.specs.Fits.{IsFit}
-use Rattle.put_form.proofs.NameWords.{word_good, name_word}
-use Rattle.text_laws.proofs.LineNumbers.{signed_word, view_number_again, within_size}
+use Rattle.put_form.proofs.NameWords.{is_word, word_good, name_word}
+use Rattle.text_laws.proofs.LineNumbers.{IsOf, of_kind_again, of_kind_word, shift_of}
 use Rattle.text_laws.proofs.LinePieces.{atom, opening, closing}
 use Rattle.text_laws.proofs.LineSolids.{zero_all}
 use Rattle.text_laws.proofs.LineWords.{Stretch, stretch_append}
 
+both_true : (a b : Bool) → a ≡ true → b ≡ true → (a && b) ≡ true
+both_true a b p q = cc
+
 -- ---- the pieces of a tree
 
-abbrev atoms : List ℤ → List Piece
+abbrev atoms : List (List ℕ) → List Piece
 atoms [] = []
-atoms (n ∷ ns) = atom (signed_decimal n) ∷ atoms ns
+atoms (w ∷ ws) = atom w ∷ atoms ws
 
 abbrev is_still : Placement → Bool
 is_still p = (p.turn.number == 0) && is_zero p.shift
 
-abbrev group_of : Bool → List ℤ → List Piece
-group_of none ns = cond none [] (opening ∷ (atoms ns ++ (closing ∷ [])))
+abbrev group_of : Bool → List (List ℕ) → List Piece
+group_of none ws = cond none [] (opening ∷ (atoms ws ++ (closing ∷ [])))
+
+abbrev matrix_words : Placement → List (List ℕ)
+matrix_words p = number_words lists.Matrix 0 (matrix_of p)
 
 abbrev pub node_pieces : Tree Member → List Piece
-node_pieces (Leaf m) = atom (codes "l") ∷ atom m.name ∷ group_of (is_still m.placement) (matrix_of m.placement)
+node_pieces (Leaf m) = atom (codes "l") ∷ atom m.name ∷ group_of (is_still m.placement) (matrix_words m.placement)
 node_pieces (Join op l r) = atom (operator_text op) ∷ opening ∷ (node_pieces l ++ (closing ∷ opening ∷ (node_pieces r ++ (closing ∷ []))))
 
 -- ---- they are written
 
-numbers_written : (n : ℤ) (ns : List ℤ) (rest : List Piece) → numbers_text (n ∷ ns) ++ (125 ∷ written_after Close rest) ≡ written_after Open (atoms (n ∷ ns) ++ (closing ∷ rest))
-numbers_written n [] rest = refl
-numbers_written n (m ∷ ms) rest =
-    append_assoc (signed_decimal n) (32 ∷ numbers_text (m ∷ ms)) (125 ∷ written_after Close rest)
-    ∙ ap (λ (text : List ℕ). signed_decimal n ++ (32 ∷ text)) (numbers_written m ms rest)
+words_written : (ws : List (List ℕ)) (rest : List Piece) → words_text ws ++ (125 ∷ written_after Close rest) ≡ written_after Open (atoms ws ++ (closing ∷ rest))
+words_written [] rest = refl
+words_written (w ∷ []) rest = refl
+words_written (w ∷ v ∷ ws) rest = append_assoc w (32 ∷ words_text (v ∷ ws)) (125 ∷ written_after Close rest) ∙ ap (λ (text : List ℕ). w ++ (32 ∷ text)) (words_written (v ∷ ws) rest)
 
-leaf_written : (name : List ℕ) (none : Bool) (n : ℤ) (ns : List ℤ) (rest : List Piece)
-    → (codes "l " ++ (name ++ cond none [] (codes " {" ++ (numbers_text (n ∷ ns) ++ codes "}")))) ++ (125 ∷ written_after Close rest)
-    ≡ written_after Open ((atom (codes "l") ∷ atom name ∷ group_of none (n ∷ ns)) ++ (closing ∷ rest))
-leaf_written name true n ns rest = ap (λ (text : List ℕ). 108 ∷ 32 ∷ (text ++ (125 ∷ written_after Close rest))) (append-nil name)
-leaf_written name false n ns rest =
+leaf_written : (name : List ℕ) (none : Bool) (ws : List (List ℕ)) (rest : List Piece)
+    → (codes "l " ++ (name ++ cond none [] (codes " {" ++ (words_text ws ++ codes "}")))) ++ (125 ∷ written_after Close rest)
+    ≡ written_after Open ((atom (codes "l") ∷ atom name ∷ group_of none ws) ++ (closing ∷ rest))
+leaf_written name true ws rest = ap (λ (text : List ℕ). 108 ∷ 32 ∷ (text ++ (125 ∷ written_after Close rest))) (append-nil name)
+leaf_written name false ws rest =
     ap (λ (text : List ℕ). 108 ∷ 32 ∷ text)
-    (append_assoc name (32 ∷ 123 ∷ (numbers_text (n ∷ ns) ++ codes "}")) (125 ∷ written_after Close rest)
+    (append_assoc name (32 ∷ 123 ∷ (words_text ws ++ codes "}")) (125 ∷ written_after Close rest)
     ∙ ap (λ (text : List ℕ). name ++ (32 ∷ 123 ∷ text))
-    (append_assoc (numbers_text (n ∷ ns)) (codes "}") (125 ∷ written_after Close rest)
-    ∙ numbers_written n ns (closing ∷ rest)
-    ∙ ap (written_after Open) (sym (append_assoc (atoms (n ∷ ns)) (closing ∷ []) (closing ∷ rest)))))
+    (append_assoc (words_text ws) (codes "}") (125 ∷ written_after Close rest) ∙ words_written ws (closing ∷ rest) ∙ ap (written_after Open) (sym (append_assoc (atoms ws) (closing ∷ []) (closing ∷ rest)))))
 
 join_text : (o l r w : List ℕ) → (o ++ (32 ∷ 123 ∷ (l ++ (125 ∷ 32 ∷ 123 ∷ (r ++ (125 ∷ [])))))) ++ w ≡ o ++ (32 ∷ 123 ∷ (l ++ (125 ∷ 32 ∷ 123 ∷ (r ++ (125 ∷ w)))))
 join_text o l r w = simp append_assoc
@@ -87,9 +90,7 @@ join_pieces : (l r rest : List Piece) → (l ++ (closing ∷ opening ∷ (r ++ (
 join_pieces l r rest = simp append_assoc
 
 pub node_written : (t : Tree Member) (rest : List Piece) → node_text t ++ (125 ∷ written_after Close rest) ≡ written_after Open (node_pieces t ++ (closing ∷ rest))
-node_written (Leaf m) rest =
-    let p : Placement = m.placement in
-    leaf_written m.name (is_still p) (entry_of p.turn.number 1 1) (entry_of p.turn.number 1 2 ∷ entry_of p.turn.number 1 3 ∷ p.shift.x ∷ entry_of p.turn.number 2 1 ∷ entry_of p.turn.number 2 2 ∷ entry_of p.turn.number 2 3 ∷ p.shift.y ∷ entry_of p.turn.number 3 1 ∷ entry_of p.turn.number 3 2 ∷ entry_of p.turn.number 3 3 ∷ p.shift.z ∷ pos 0 ∷ pos 0 ∷ pos 0 ∷ pos 1 ∷ []) rest
+node_written (Leaf m) rest = leaf_written m.name (is_still m.placement) (matrix_words m.placement) rest
 node_written (Join op l r) rest =
     let right : List Piece = node_pieces r ++ (closing ∷ closing ∷ rest) in
     join_text (operator_text op) (node_text l) (node_text r) (125 ∷ written_after Close rest)
@@ -98,42 +99,66 @@ node_written (Join op l r) rest =
 
 -- ---- they are good
 
-abbrev is_small : ℤ → Bool
-is_small z = nat_le (unsigned_abs z) 999999999
+-- numbers from a place of a list on, each as large as its kind allows
+abbrev AreFrom : NumberList → ℕ → List ℤ → Type 0
+AreFrom list place [] = Unit {0}
+AreFrom list place (n ∷ ns) = IsOf (kind_at list place) n × AreFrom list (place + 1) ns
 
-abbrev all_from : (ℕ → Bool) → ℕ → ℕ → Bool
-all_from p zero a = true
-all_from p (suc k) a = p a && all_from p k (a + 1)
+one_or_none : (is negative : Bool) → unsigned_abs (cond is (cond negative (negsuc 0) (pos 1)) (pos 0)) ≤ 1
+one_or_none true true = omega arith
+one_or_none true false = omega arith
+one_or_none false negative = omega arith
 
-all_read : (p : ℕ → Bool) (k a i : ℕ) → all_from p k a ≡ true → i < k → p (a + i) ≡ true
-all_read p zero a i h lt = absurd (omega (arith, lt))
-all_read p (suc k) a zero h lt = let sum : a ≡ a + 0 = omega arith in subst (λ (n : ℕ). p n ≡ true) sum (and_parts (p a) (all_from p k (a + 1)) h).0
-all_read p (suc k) a (suc i) h lt = let sum : (a + 1) + i ≡ a + suc i = omega arith in subst (λ (n : ℕ). p n ≡ true) sum (all_read p k (a + 1) i (and_parts (p a) (all_from p k (a + 1)) h).1 (omega (arith, lt)))
+entry_is : (turn row column : ℕ) → IsOf plain_kind (entry_of turn row column)
+entry_is turn row column = (omega arith, omega (arith, one_or_none (column_of turn row == column) (is_negated turn row)))
 
-entry_small : (row column : ℕ) → all_from (λ n. is_small (entry_of n row column)) 48 0 ≡ true → (n : ℕ) → n < 48 → is_small (entry_of n row column) ≡ true
-entry_small row column all n lt = let sum : 0 + n ≡ n = omega arith in subst (λ (k : ℕ). is_small (entry_of k row column) ≡ true) sum (all_read (λ n. is_small (entry_of n row column)) 48 0 n all lt)
+plain_is : (n : ℕ) → n ≤ 1 → IsOf plain_kind (pos n)
+plain_is n small = (omega arith, omega (arith, small))
 
-near_small : (z : ℤ) → IsAtMost COORD z → is_small z ≡ true
-near_small z h = le-leb (unsigned_abs z) 999999999 (omega (arith, within_size z h))
+matrix_is : (p : Placement) → IsWithin COORD p.shift → AreFrom lists.Matrix 0 (matrix_of p)
+matrix_is p near =
+    let t : ℕ = p.turn.number in (
+      entry_is t 1 1,
+      (
+        entry_is t 1 2,
+        (
+          entry_is t 1 3,
+          (
+            shift_of p.shift.x near.x,
+            (
+              entry_is t 2 1,
+              (
+                entry_is t 2 2,
+                (
+                  entry_is t 2 3,
+                  (
+                    shift_of p.shift.y near.y,
+                    (
+                      entry_is t 3 1,
+                      (
+                        entry_is t 3 2,
+                        (
+                          entry_is t 3 3,
+                          (shift_of p.shift.z near.z, (plain_is 0 (omega arith), (plain_is 0 (omega arith), (plain_is 0 (omega arith), (plain_is 1 (omega arith), tt))))),
+                        ),
+                      ),
+                    ),
+                  ),
+                ),
+              ),
+            ),
+          ),
+        ),
+      ),
+    )
 
-sixteen : (a b c d e f g h i j k l : ℤ) → is_small a ≡ true → is_small b ≡ true → is_small c ≡ true → is_small d ≡ true → is_small e ≡ true → is_small f ≡ true → is_small g ≡ true → is_small h ≡ true → is_small i ≡ true → is_small j ≡ true → is_small k ≡ true → is_small l ≡ true
-    → list_all is_small (a ∷ b ∷ c ∷ d ∷ e ∷ f ∷ g ∷ h ∷ i ∷ j ∷ k ∷ l ∷ pos 0 ∷ pos 0 ∷ pos 0 ∷ pos 1 ∷ []) ≡ true
-sixteen a b c d e f g h i j k l pa pb pc pd pe pf pg ph pi pj pk pl = simp (pa, pb, pc, pd, pe, pf, pg, ph, pi, pj, pk, pl)
+are_words : (list : NumberList) (place : ℕ) (ns : List ℤ) → AreFrom list place ns → list_all is_word (number_words list place ns) ≡ true
+are_words list place [] are = refl
+are_words list place (n ∷ ns) are = both_true _ _ (of_kind_word (kind_at list place) n are.0) (are_words list (place + 1) ns are.1)
 
-matrix_small : (p : Placement) → IsWithin COORD p.shift → list_all is_small (matrix_of p) ≡ true
-matrix_small p near =
-    let n : ℕ = p.turn.number in
-    let lt : n < 48 = p.turn.in_range in
-    sixteen (entry_of n 1 1) (entry_of n 1 2) (entry_of n 1 3) p.shift.x (entry_of n 2 1) (entry_of n 2 2) (entry_of n 2 3) p.shift.y (entry_of n 3 1) (entry_of n 3 2) (entry_of n 3 3) p.shift.z
-    (entry_small 1 1 refl n lt) (entry_small 1 2 refl n lt) (entry_small 1 3 refl n lt) (near_small p.shift.x near.x)
-    (entry_small 2 1 refl n lt) (entry_small 2 2 refl n lt) (entry_small 2 3 refl n lt) (near_small p.shift.y near.y)
-    (entry_small 3 1 refl n lt) (entry_small 3 2 refl n lt) (entry_small 3 3 refl n lt) (near_small p.shift.z near.z)
-
-numbers_stretch : (ns : List ℤ) (g : ℕ) → list_all is_small ns ≡ true → 0 < g → Stretch g (atoms ns) g
-numbers_stretch [] g small some = refl
-numbers_stretch (n ∷ ns) g small some =
-    let both = and_parts (is_small n) (list_all is_small ns) small in
-    (word_good (signed_decimal n) g (signed_word n (omega (arith, leb-true (unsigned_abs n) 999999999 both.0))), some, numbers_stretch ns g both.1 some)
+words_stretch : (ws : List (List ℕ)) (g : ℕ) → list_all is_word ws ≡ true → 0 < g → Stretch g (atoms ws) g
+words_stretch [] g good some = refl
+words_stretch (w ∷ ws) g good some = let both = and_parts (is_word w) (list_all is_word ws) good in (word_good w g both.0, some, words_stretch ws g both.1 some)
 
 open_good : (g : ℕ) → g < 4100 → GoodPiece Open (123 ∷ []) g
 open_good g few = (refl, ne_eqb g 4100 (λ e. omega (arith, e, few)))
@@ -141,12 +166,12 @@ open_good g few = (refl, ne_eqb g 4100 (λ e. omega (arith, e, few)))
 close_good : (g : ℕ) → 0 < g → GoodPiece Close (125 ∷ []) g
 close_good g some = (refl, some)
 
-group_stretch : (none : Bool) (ns : List ℤ) (g : ℕ) → list_all is_small ns ≡ true → 0 < g → g < 4100 → Stretch g (group_of none ns) g
-group_stretch true ns g small some few = refl
-group_stretch false ns g small some few = (
+group_stretch : (none : Bool) (ws : List (List ℕ)) (g : ℕ) → list_all is_word ws ≡ true → 0 < g → g < 4100 → Stretch g (group_of none ws) g
+group_stretch true ws g good some few = refl
+group_stretch false ws g good some few = (
   open_good g few,
   omega arith,
-  stretch_append (atoms ns) (closing ∷ []) (g + 1) (g + 1) g (numbers_stretch ns (g + 1) small (omega arith)) (close_good (g + 1) (omega arith), omega (arith, some), omega arith),
+  stretch_append (atoms ws) (closing ∷ []) (g + 1) (g + 1) g (words_stretch ws (g + 1) good (omega arith)) (close_good (g + 1) (omega arith), omega (arith, some), omega arith),
 )
 
 -- no name has a caret, and a word may
@@ -167,7 +192,7 @@ pub node_stretch : (t : Tree Member) (g : ℕ) → IsFit t → 0 < g → g + len
 node_stretch (Leaf m) g fit some few = (
   word_good (codes "l") g refl,
   some,
-  (word_good m.name g (name_word m.name fit.0), some, group_stretch (is_still m.placement) (matrix_of m.placement) g (matrix_small m.placement fit.1) some (omega (arith, few))),
+  (word_good m.name g (name_word m.name fit.0), some, group_stretch (is_still m.placement) (matrix_words m.placement) g (are_words lists.Matrix 0 (matrix_of m.placement) (matrix_is m.placement fit.1)) some (omega (arith, few))),
 )
 node_stretch (Join op l r) g fit some few =
     let h : ℕ = (g + 1) - 1 in
@@ -201,30 +226,30 @@ levels_are : (text : List ℕ) (ts : List Token) → levels_of text ts ≡ level
 levels_are text [] = refl
 levels_are text (t ∷ ts) = ap (λ (levels : List Words). with_token t.kind (slice_range text t.start t.end) levels) (levels_are text ts)
 
-abbrev number_words : List ℤ → Words
-number_words [] = End
-number_words (n ∷ ns) = Atom (signed_decimal n) (number_words ns)
+abbrev atom_words : List (List ℕ) → Words
+atom_words [] = End
+atom_words (w ∷ ws) = Atom w (atom_words ws)
 
-abbrev leaf_words : List ℕ → Bool → List ℤ → Words
-leaf_words name none ns = Atom (codes "l") (Atom name (cond none End (Group (number_words ns) End)))
+abbrev leaf_words : List ℕ → Bool → List (List ℕ) → Words
+leaf_words name none ws = Atom (codes "l") (Atom name (cond none End (Group (atom_words ws) End)))
 
 abbrev node_words : Tree Member → Words
-node_words (Leaf m) = leaf_words m.name (is_still m.placement) (matrix_of m.placement)
+node_words (Leaf m) = leaf_words m.name (is_still m.placement) (matrix_words m.placement)
 node_words (Join op l r) = Atom (operator_text op) (Group (node_words l) (Group (node_words r) End))
 
-atoms_levels : (ns : List ℤ) (ps : List Piece) (ws : List Words) → levels_in ps ≡ End ∷ ws → levels_in (atoms ns ++ ps) ≡ number_words ns ∷ ws
+atoms_levels : (given : List (List ℕ)) (ps : List Piece) (ws : List Words) → levels_in ps ≡ End ∷ ws → levels_in (atoms given ++ ps) ≡ atom_words given ∷ ws
 atoms_levels [] ps ws h = h
-atoms_levels (n ∷ ns) ps ws h = ap (with_atom (signed_decimal n)) (atoms_levels ns ps ws h)
+atoms_levels (w ∷ given) ps ws h = ap (with_atom w) (atoms_levels given ps ws h)
 
-leaf_levels : (name : List ℕ) (none : Bool) (ns : List ℤ) (ps : List Piece) (ws : List Words) → levels_in ps ≡ End ∷ ws
-    → levels_in ((atom (codes "l") ∷ atom name ∷ group_of none ns) ++ ps) ≡ leaf_words name none ns ∷ ws
-leaf_levels name true ns ps ws h = ap (λ (levels : List Words). with_atom (codes "l") (with_atom name levels)) h
-leaf_levels name false ns ps ws h =
+leaf_levels : (name : List ℕ) (none : Bool) (given : List (List ℕ)) (ps : List Piece) (ws : List Words) → levels_in ps ≡ End ∷ ws
+    → levels_in ((atom (codes "l") ∷ atom name ∷ group_of none given) ++ ps) ≡ leaf_words name none given ∷ ws
+leaf_levels name true given ps ws h = ap (λ (levels : List Words). with_atom (codes "l") (with_atom name levels)) h
+leaf_levels name false given ps ws h =
     ap (λ (levels : List Words). with_atom (codes "l") (with_atom name (with_group levels)))
-    (ap levels_in (append_assoc (atoms ns) (closing ∷ []) ps) ∙ atoms_levels ns (closing ∷ ps) (End ∷ ws) (ap (λ (levels : List Words). End ∷ levels) h))
+    (ap levels_in (append_assoc (atoms given) (closing ∷ []) ps) ∙ atoms_levels given (closing ∷ ps) (End ∷ ws) (ap (λ (levels : List Words). End ∷ levels) h))
 
 node_levels : (t : Tree Member) (ps : List Piece) (ws : List Words) → levels_in ps ≡ End ∷ ws → levels_in (node_pieces t ++ ps) ≡ node_words t ∷ ws
-node_levels (Leaf m) ps ws h = leaf_levels m.name (is_still m.placement) (matrix_of m.placement) ps ws h
+node_levels (Leaf m) ps ws h = leaf_levels m.name (is_still m.placement) (matrix_words m.placement) ps ws h
 node_levels (Join op l r) ps ws h =
     let right : levels_in (node_pieces r ++ (closing ∷ ps)) ≡ node_words r ∷ End ∷ ws = node_levels r (closing ∷ ps) (End ∷ ws) (ap (λ (levels : List Words). End ∷ levels) h) in
     ap (λ (levels : List Words). with_atom (operator_text op) (with_group levels))
@@ -234,18 +259,18 @@ node_levels (Join op l r) ps ws h =
 -- ---- and the tree that they spell
 
 abbrev given_of : Member → Given
-given_of m = record { name = m.name; matrix = cond (is_still m.placement) None (Some (map signed_decimal (matrix_of m.placement))) }
+given_of m = record { name = m.name; matrix = cond (is_still m.placement) None (Some (matrix_words m.placement)) }
 
-number_atoms : (ns : List ℤ) → atoms_of (number_words ns) ≡ Some (map signed_decimal ns)
-number_atoms [] = refl
-number_atoms (n ∷ ns) = ap (option_map (λ (found : List (List ℕ)). signed_decimal n ∷ found)) (number_atoms ns)
+words_atoms : (ws : List (List ℕ)) → atoms_of (atom_words ws) ≡ Some ws
+words_atoms [] = refl
+words_atoms (w ∷ ws) = ap (option_map (λ (found : List (List ℕ)). w ∷ found)) (words_atoms ws)
 
-leaf_given : (name : List ℕ) (none : Bool) (ns : List ℤ) → (length (map signed_decimal ns) == 16) ≡ true → node_of (leaf_words name none ns) ≡ Some (given name (cond none None (Some (map signed_decimal ns))))
-leaf_given name true ns len = refl
-leaf_given name false ns len = ap (given_if name) (number_atoms ns) ∙ ap (λ b. cond b (Some (given name (Some (map signed_decimal ns)))) None) len
+leaf_given : (name : List ℕ) (none : Bool) (ws : List (List ℕ)) → (length ws == 16) ≡ true → node_of (leaf_words name none ws) ≡ Some (given name (cond none None (Some ws)))
+leaf_given name true ws len = refl
+leaf_given name false ws len = ap (given_if name) (words_atoms ws) ∙ ap (λ b. cond b (Some (given name (Some ws))) None) len
 
 node_given : (t : Tree Member) → node_of (node_words t) ≡ Some (map_leaves given_of t)
-node_given (Leaf m) = leaf_given m.name (is_still m.placement) (matrix_of m.placement) refl
+node_given (Leaf m) = leaf_given m.name (is_still m.placement) (matrix_words m.placement) refl
 node_given (Join U l r) = ap₂ (joined_by (Some U)) (node_given l) (node_given r)
 node_given (Join N l r) = ap₂ (joined_by (Some N)) (node_given l) (node_given r)
 node_given (Join Minus l r) = ap₂ (joined_by (Some Minus)) (node_given l) (node_given r)
@@ -255,11 +280,9 @@ tree_spelled : (t : Tree Member) → tree_in (node_words t) ≡ Some (Some (map_
 tree_spelled (Leaf m) = ap (option_map (λ (g : Tree Given). Some g)) (node_given (Leaf m))
 tree_spelled (Join op l r) = ap (option_map (λ (g : Tree Given). Some g)) (node_given (Join op l r))
 
-numbers_read : (ns : List ℤ) → list_all is_small ns ≡ true → map view_number (map signed_decimal ns) ≡ map (λ (n : ℤ). Some n) ns
-numbers_read [] small = refl
-numbers_read (n ∷ ns) small =
-    let both = and_parts (is_small n) (list_all is_small ns) small in
-    ap₂ (λ (x : Option ℤ) (xs : List (Option ℤ)). x ∷ xs) (view_number_again n (leb-true (unsigned_abs n) 999999999 both.0)) (numbers_read ns both.1)
+numbers_read : (list : NumberList) (place : ℕ) (ns : List ℤ) → AreFrom list place ns → numbers_from list place (number_words list place ns) ≡ map (λ (n : ℤ). Some n) ns
+numbers_read list place [] are = refl
+numbers_read list place (n ∷ ns) are = ap₂ (λ (x : Option ℤ) (xs : List (Option ℤ)). x ∷ xs) (of_kind_again (kind_at list place) n are.0) (numbers_read list (place + 1) ns are.1)
 
 near_read : (p : Placement) → IsWithin COORD p.shift → placement_in (matrix_of p) ≡ Some p
 near_read p near =
@@ -268,17 +291,14 @@ near_read p near =
     let far : (read ≡ Err TooFar) ↔ IsFarMatrix COORD (matrix_of p) = (λ e. absurd cc, λ f. absurd (f.2 (subst (IsWithin COORD) (one_shift p f.0 f.1) near))) in
     sym (of_read (matrix_of p) read refl (refl, near) none far)
 
-placement_by : (p : Placement) (none : Bool) → is_still p ≡ none → IsWithin COORD p.shift → placement_of (cond none None (Some (map signed_decimal (matrix_of p)))) ≡ Some p
+placement_by : (p : Placement) (none : Bool) → is_still p ≡ none → IsWithin COORD p.shift → placement_of (cond none None (Some (matrix_words p))) ≡ Some p
 placement_by p true is near =
     let parts = and_parts (p.turn.number == 0) (is_zero p.shift) is in
     ap (λ (q : Placement). Some q) (sym (still p (eqb-true p.turn.number 0 parts.0) (zero_all p.shift parts.1)))
-placement_by p false is near = ap placement_read (numbers_read (matrix_of p) (matrix_small p near)) ∙ ap placement_of_all (all_there (matrix_of p)) ∙ near_read p near
+placement_by p false is near = ap placement_read (numbers_read lists.Matrix 0 (matrix_of p) (matrix_is p near)) ∙ ap placement_of_all (all_there (matrix_of p)) ∙ near_read p near
 
 placement_again : (m : Member) → IsWithin COORD m.placement.shift → placement_of (given_of m).matrix ≡ Some m.placement
 placement_again m near = placement_by m.placement (is_still m.placement) refl near
-
-both_true : (a b : Bool) → a ≡ true → b ≡ true → (a && b) ≡ true
-both_true a b p q = cc
 
 given_count : (t : Tree Member) → length (leaves (map_leaves given_of t)) ≡ length (leaves t)
 given_count (Leaf m) = refl

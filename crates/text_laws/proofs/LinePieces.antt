@@ -1,10 +1,7 @@
 -- Pieces of a line: written, and read again as tokens.
 use Rattle.std.proofs.Common.{◌≡◌, ◌∙◌, ℕ, zero, suc, List, [], ◌∷◌, ◌++◌, get_or, Ok, refl, ap, sym, subst, arith, append_assoc}
-use Rattle.std.specs.Fmt.{signed_decimal}
 use Rattle.std.specs.List.{slice_range}
-use Rattle.lattice_core.specs.declared.limit.TheConstants.{COORD}
 use Rattle.lattice_core.specs.declared.vector.V3.{V3}
-use Rattle.lattice_core.specs.Limits.{IsWithin}
 use Rattle.tcl_words.specs.Pieces.{pieces, written_after}
 use Rattle.tcl_words.specs.Reading.{reading, words_of}
 use Rattle.tcl_words.specs.Tokens.{token, tokens_of}
@@ -15,9 +12,10 @@ use Rattle.tcl_words.specs.declared.token.Word.{Word}
 use Rattle.tcl_words.proofs.Fine.{fine_words}
 use Rattle.tcl_words.proofs.Scan.{Piece, scanned}
 use Rattle.tcl_words.proofs.Written.{Again, Good, read_again}
-use Rattle.put_form.specs.Written.{vector_text}
+use Rattle.word_values.specs.declared.atoms.NumberKind.{NumberKind}
+use Rattle.put_form.specs.Written.{number_text, vector_text}
 use Rattle.put_form.proofs.NameWords.{word_good}
-use Rattle.text_laws.proofs.LineNumbers.{within_word}
+use Rattle.text_laws.proofs.LineNumbers.{AreOf, of_kind_word}
 
 -- the words of good pieces that are written are these pieces
 pub record HasPieces (line : List ℕ) (ps : List Piece) : Type 0 where
@@ -73,8 +71,8 @@ opening = (Open, 123 ∷ [])
 abbrev pub closing : Piece
 closing = (Close, 125 ∷ [])
 
-abbrev pub vector_pieces : V3 → List Piece → List Piece
-vector_pieces v rest = opening ∷ atom (signed_decimal v.x) ∷ atom (signed_decimal v.y) ∷ atom (signed_decimal v.z) ∷ closing ∷ rest
+abbrev pub vector_pieces : NumberKind → V3 → List Piece → List Piece
+vector_pieces kind v rest = opening ∷ atom (number_text kind v.x) ∷ atom (number_text kind v.y) ∷ atom (number_text kind v.z) ∷ closing ∷ rest
 
 -- three atoms in braces, and what follows
 abbrev pub triple_text : List ℕ → List ℕ → List ℕ → List ℕ → List ℕ
@@ -83,11 +81,14 @@ triple_text x y z rest = 123 ∷ (x ++ 32 ∷ (y ++ 32 ∷ (z ++ 125 ∷ rest)))
 grouped : (x y z rest : List ℕ) → ((x ++ 32 ∷ (y ++ 32 ∷ z)) ++ 125 ∷ []) ++ rest ≡ x ++ 32 ∷ (y ++ 32 ∷ (z ++ 125 ∷ rest))
 grouped x y z rest = simp append_assoc
 
-pub vector_written : (v : V3) (rest : List ℕ) → vector_text v ++ rest ≡ triple_text (signed_decimal v.x) (signed_decimal v.y) (signed_decimal v.z) rest
-vector_written v rest = ap (λ (text : List ℕ). 123 ∷ text) (grouped (signed_decimal v.x) (signed_decimal v.y) (signed_decimal v.z) rest)
+pub vector_written : (kind : NumberKind) (v : V3) (rest : List ℕ) → vector_text kind v ++ rest ≡ triple_text (number_text kind v.x) (number_text kind v.y) (number_text kind v.z) rest
+vector_written kind v rest = ap (λ (text : List ℕ). 123 ∷ text) (grouped (number_text kind v.x) (number_text kind v.y) (number_text kind v.z) rest)
 
-pub vector_good : (v : V3) (rest : List Piece) → IsWithin COORD v → Good 0 rest → Good 0 (vector_pieces v rest)
-vector_good v rest within good = (
+pub vector_good : (kind : NumberKind) (v : V3) (rest : List Piece) → AreOf kind v → Good 0 rest → Good 0 (vector_pieces kind v rest)
+vector_good kind v rest are good = (
   (refl, refl),
-  (word_good (signed_decimal v.x) 1 (within_word v.x within.x), (word_good (signed_decimal v.y) 1 (within_word v.y within.y), (word_good (signed_decimal v.z) 1 (within_word v.z within.z), ((refl, omega arith), good)))),
+  (
+    word_good (number_text kind v.x) 1 (of_kind_word kind v.x are.x),
+    (word_good (number_text kind v.y) 1 (of_kind_word kind v.y are.y), (word_good (number_text kind v.z) 1 (of_kind_word kind v.z are.z), ((refl, omega arith), good))),
+  ),
 )

@@ -1,6 +1,5 @@
 -- The written line of a solid reads as that solid.
 use Rattle.std.proofs.Common.{◌≡◌, ◌∙◌, ◌≢◌, ◌≤ℤ◌, ◌<ℤ◌, ◌&&◌, ℕ, ℤ, pos, Bool, true, false, not, cond, List, [], ◌∷◌, ◌++◌, map, take, Option, Some, None, Ok, Err, is_some, IsOk, codes, refl, ap, ap₂, sym, arith, append-nil}
-use Rattle.std.specs.Fmt.{signed_decimal}
 use Rattle.std.specs.List.{list_all}
 use Rattle.std.specs.Option.{option_map}
 use Rattle.std.specs.Ordering.{int_cmp, int_eq, is_lt, MatchOrdering}
@@ -11,7 +10,7 @@ use Rattle.std.proofs.lemmas.Bool.Decides.{Decides-int_eq}
 use Rattle.std.proofs.lemmas.Cmp.{int_ranked}
 use Rattle.lattice_core.proofs.Turning.{vector_same}
 use Rattle.std.proofs.lemmas.Int.{ints}
-use Rattle.lattice_core.specs.declared.limit.TheConstants.{COORD}
+use Rattle.lattice_core.specs.declared.limit.TheConstants.{COORD, HALF_NORMAL}
 use Rattle.lattice_core.specs.declared.vector.V3.{V3}
 use Rattle.lattice_core.specs.Limits.{IsAtMost, IsWithin}
 use Rattle.lattice_core.specs.Vectors.{zero_vector}
@@ -29,10 +28,12 @@ use Rattle.tcl_words.specs.declared.token.Token.{Token}
 use Rattle.tcl_words.specs.declared.token.Word.{Word}
 use Rattle.tcl_words.proofs.Scan.{Piece}
 use Rattle.tcl_words.proofs.Written.{Good}
-use Rattle.word_values.specs.Atoms.{words_in, solid_number}
+use Rattle.word_values.specs.Atoms.{words_in}
+use Rattle.word_values.specs.Kinds.{number_as, coordinate_kind, normal_kind}
+use Rattle.word_values.specs.declared.atoms.NumberKind.{NumberKind}
 use Rattle.plane_geom.specs.declared.fault.ShapeFault.TheVariants.{Radius, ZeroNormal}
 use Rattle.word_values.specs.Solids.{solid_made, is_zero, number_count}
-use Rattle.put_form.specs.Kinds.{kind_of, made_as}
+use Rattle.put_form.specs.Kinds.{Key, kind_of, made_as, vector_key, normal_key, number_key}
 use Rattle.put_form.specs.Pairs.{Pair, pair, pairs_of}
 use Rattle.put_form.specs.Puts.{Put, put_of, kind_put, solid_of, solid_with, solid_put, unless_fault, number_fault, name_fault, when, is_put, kind_named}
 use Rattle.put_form.specs.declared.fault.PutFault.{PutFault}
@@ -40,10 +41,10 @@ use Rattle.put_form.specs.declared.fault.PutFault.TheVariants.{Name}
 use Rattle.put_form.specs.declared.kind.SolidForm.{SolidForm}
 use Rattle.put_form.specs.declared.kind.SolidForm.TheVariants.{Sphere, Half}
 use Rattle.put_form.specs.Solids as solid_keys
-use Rattle.put_form.specs.Written.{put_line}
+use Rattle.put_form.specs.Written.{length_text, number_text, put_line}
 use Rattle.text_laws.specs.PutAgain.{IsPutAgain}
 use Rattle.put_form.proofs.NameWords.{is_word, name_word, word_good}
-use Rattle.text_laws.proofs.LineNumbers.{within_word, solid_number_again}
+use Rattle.text_laws.proofs.LineNumbers.{IsOf, AreOf, of_kind_again, of_kind_word, coordinate_of, coordinates_of, components_of}
 use Rattle.text_laws.proofs.LinePieces.{HasPieces, read_line, placed, HasBytes, by_places, word, atom, vector_pieces, triple_text, vector_written, vector_good}
 
 -- ---- what the words of a line come to
@@ -72,17 +73,22 @@ good_solid text tokens form name pairs numbers is found good =
 three : {a b c x y z : Option ℤ} → a ≡ x → b ≡ y → c ≡ z → Some (a ∷ b ∷ c ∷ []) ≡ Some (x ∷ y ∷ z ∷ [])
 three ea eb ec = cc
 
-pub vector_value : (text : List ℕ) (tokens : List Token) (w : Word) (v : V3) → words_in text tokens w ≡ Some (signed_decimal v.x ∷ signed_decimal v.y ∷ signed_decimal v.z ∷ []) → IsWithin COORD v
-    → solid_keys.value_numbers text tokens 3 w ≡ Some (Some v.x ∷ Some v.y ∷ Some v.z ∷ [])
-vector_value text tokens w v found within =
-    ap (λ o. option_map (λ atoms. map solid_number atoms) (solid_keys.of_count 3 o)) found
-    ∙ three (solid_number_again v.x within.x) (solid_number_again v.y within.y) (solid_number_again v.z within.z)
+-- a key of three numbers of a kind
+abbrev pub three_key : List ℕ → NumberKind → Key
+three_key name kind = record { name = name; count = 3; kind = kind }
 
-number_value : (text : List ℕ) (tokens : List Token) (w : Word) (n : ℤ) → atom_of text tokens w ≡ Some (signed_decimal n) → IsAtMost COORD n
-    → solid_keys.value_numbers text tokens 1 w ≡ Some (Some n ∷ [])
-number_value text tokens w n found within =
-    ap (λ o. option_map (λ atoms. map solid_number atoms) (solid_keys.single o)) found
-    ∙ ap (λ (o : Option ℤ). Some (o ∷ [])) (solid_number_again n within)
+pub vector_value : (text : List ℕ) (tokens : List Token) (w : Word) (name : List ℕ) (kind : NumberKind) (v : V3)
+    → words_in text tokens w ≡ Some (number_text kind v.x ∷ number_text kind v.y ∷ number_text kind v.z ∷ []) → AreOf kind v
+    → solid_keys.value_numbers text tokens (three_key name kind) w ≡ Some (Some v.x ∷ Some v.y ∷ Some v.z ∷ [])
+vector_value text tokens w name kind v found are =
+    ap (λ o. option_map (λ atoms. map (number_as kind) atoms) (solid_keys.of_count 3 o)) found
+    ∙ three (of_kind_again kind v.x are.x) (of_kind_again kind v.y are.y) (of_kind_again kind v.z are.z)
+
+number_value : (text : List ℕ) (tokens : List Token) (w : Word) (name : List ℕ) (n : ℤ) → atom_of text tokens w ≡ Some (length_text n) → IsOf coordinate_kind n
+    → solid_keys.value_numbers text tokens (number_key name) w ≡ Some (Some n ∷ [])
+number_value text tokens w name n found of_ =
+    ap (λ o. option_map (λ atoms. map (number_as coordinate_kind) atoms) (solid_keys.single o)) found
+    ∙ ap (λ (o : Option ℤ). Some (o ∷ [])) (of_kind_again coordinate_kind n of_)
 
 pub some_three : {a b c x y z : List ℕ} → a ≡ x → b ≡ y → c ≡ z → Some (a ∷ b ∷ c ∷ []) ≡ Some (x ∷ y ∷ z ∷ [])
 some_three ea eb ec = cc
@@ -92,36 +98,42 @@ put_solid name solid = Ok (name, record { body = bodies.Solid solid; kept = [] }
 
 -- ---- a vector and a number: a sphere or a half-space
 
-abbrev two_pieces : List ℕ → List ℕ → List ℕ → List ℕ → V3 → ℤ → List Piece
-two_pieces name kind first second v n = atom (codes "put") ∷ atom name ∷ atom kind ∷ atom first ∷ vector_pieces v (atom second ∷ atom (signed_decimal n) ∷ [])
+abbrev two_pieces : List ℕ → List ℕ → List ℕ → List ℕ → NumberKind → V3 → ℤ → List Piece
+two_pieces name form first second kind v n = atom (codes "put") ∷ atom name ∷ atom form ∷ atom first ∷ vector_pieces kind v (atom second ∷ atom (length_text n) ∷ [])
 
-two_good : (name kind first second : List ℕ) (v : V3) (n : ℤ) → IsName name → is_word kind ≡ true → is_word first ≡ true → is_word second ≡ true → IsWithin COORD v → IsAtMost COORD n
-    → Good 0 (two_pieces name kind first second v n)
-two_good name kind first second v n is k f s within small = (
+two_good : (name form first second : List ℕ) (kind : NumberKind) (v : V3) (n : ℤ) → IsName name → is_word form ≡ true → is_word first ≡ true → is_word second ≡ true → AreOf kind v → IsOf coordinate_kind n
+    → Good 0 (two_pieces name form first second kind v n)
+two_good name form first second kind v n is k f s are of_ = (
   word_good (codes "put") 0 refl,
-  (word_good name 0 (name_word name is), (word_good kind 0 k, (word_good first 0 f, vector_good v (atom second ∷ atom (signed_decimal n) ∷ []) within (word_good second 0 s, (word_good (signed_decimal n) 0 (within_word n small), refl))))),
+  (
+    word_good name 0 (name_word name is),
+    (
+      word_good form 0 k,
+      (word_good first 0 f, vector_good kind v (atom second ∷ atom (length_text n) ∷ []) are (word_good second 0 s, (word_good (length_text n) 0 (of_kind_word coordinate_kind n of_), refl))),
+    ),
+  ),
 )
 
 abbrev two_pairs : List ℕ → List ℕ → List Pair
 two_pairs first second = pair (Some first) (word 4 8) 5 ∷ pair (Some second) (word 10 10) 7 ∷ []
 
-two_put : (text : List ℕ) (start end : ℕ → ℕ) (name kind first second : List ℕ) (v : V3) (n : ℤ) → HasBytes text start end (two_pieces name kind first second v n)
-    → put_of text (placed start end (two_pieces name kind first second v n)) (top_words (placed start end (two_pieces name kind first second v n)))
-    ≡ kind_put text (placed start end (two_pieces name kind first second v n)) (Some name) (kind_of kind) (Some (two_pairs first second))
-two_put text start end name kind first second v n bytes =
-    let tokens : List Token = placed start end (two_pieces name kind first second v n) in
-    put_words text tokens (word 0 0) (word 1 1) (word 2 2) (word 3 3 ∷ word 4 8 ∷ word 9 9 ∷ word 10 10 ∷ []) name kind (ap Some (bytes 0)) (ap Some (bytes 1)) (ap Some (bytes 2))
-    ∙ ap₂ (λ k l. kind_put text tokens (Some name) (kind_of kind) (Some (pair k (word 4 8) 5 ∷ pair l (word 10 10) 7 ∷ []))) (ap Some (bytes 3)) (ap Some (bytes 9))
+two_put : (text : List ℕ) (start end : ℕ → ℕ) (name form first second : List ℕ) (kind : NumberKind) (v : V3) (n : ℤ) → HasBytes text start end (two_pieces name form first second kind v n)
+    → put_of text (placed start end (two_pieces name form first second kind v n)) (top_words (placed start end (two_pieces name form first second kind v n)))
+    ≡ kind_put text (placed start end (two_pieces name form first second kind v n)) (Some name) (kind_of form) (Some (two_pairs first second))
+two_put text start end name form first second kind v n bytes =
+    let tokens : List Token = placed start end (two_pieces name form first second kind v n) in
+    put_words text tokens (word 0 0) (word 1 1) (word 2 2) (word 3 3 ∷ word 4 8 ∷ word 9 9 ∷ word 10 10 ∷ []) name form (ap Some (bytes 0)) (ap Some (bytes 1)) (ap Some (bytes 2))
+    ∙ ap₂ (λ k l. kind_put text tokens (Some name) (kind_of form) (Some (pair k (word 4 8) 5 ∷ pair l (word 10 10) 7 ∷ []))) (ap Some (bytes 3)) (ap Some (bytes 9))
 
-two_vector : (text : List ℕ) (start end : ℕ → ℕ) (name kind first second : List ℕ) (v : V3) (n : ℤ) → HasBytes text start end (two_pieces name kind first second v n) → IsWithin COORD v
-    → solid_keys.value_numbers text (placed start end (two_pieces name kind first second v n)) 3 (word 4 8) ≡ Some (Some v.x ∷ Some v.y ∷ Some v.z ∷ [])
-two_vector text start end name kind first second v n bytes within =
-    vector_value text (placed start end (two_pieces name kind first second v n)) (word 4 8) v (some_three (bytes 5) (bytes 6) (bytes 7)) within
+two_vector : (text : List ℕ) (start end : ℕ → ℕ) (name form first second : List ℕ) (kind : NumberKind) (v : V3) (n : ℤ) → HasBytes text start end (two_pieces name form first second kind v n) → AreOf kind v
+    → solid_keys.value_numbers text (placed start end (two_pieces name form first second kind v n)) (three_key first kind) (word 4 8) ≡ Some (Some v.x ∷ Some v.y ∷ Some v.z ∷ [])
+two_vector text start end name form first second kind v n bytes are =
+    vector_value text (placed start end (two_pieces name form first second kind v n)) (word 4 8) first kind v (some_three (bytes 5) (bytes 6) (bytes 7)) are
 
-two_number : (text : List ℕ) (start end : ℕ → ℕ) (name kind first second : List ℕ) (v : V3) (n : ℤ) → HasBytes text start end (two_pieces name kind first second v n) → IsAtMost COORD n
-    → solid_keys.value_numbers text (placed start end (two_pieces name kind first second v n)) 1 (word 10 10) ≡ Some (Some n ∷ [])
-two_number text start end name kind first second v n bytes small =
-    number_value text (placed start end (two_pieces name kind first second v n)) (word 10 10) n (ap Some (bytes 10)) small
+two_number : (text : List ℕ) (start end : ℕ → ℕ) (name form first second : List ℕ) (kind : NumberKind) (v : V3) (n : ℤ) → HasBytes text start end (two_pieces name form first second kind v n) → IsOf coordinate_kind n
+    → solid_keys.value_numbers text (placed start end (two_pieces name form first second kind v n)) (number_key second) (word 10 10) ≡ Some (Some n ∷ [])
+two_number text start end name form first second kind v n bytes of_ =
+    number_value text (placed start end (two_pieces name form first second kind v n)) (word 10 10) second n (ap Some (bytes 10)) of_
 
 -- ---- a sphere
 
@@ -134,23 +146,23 @@ not_less : (r : ℤ) → pos 1 ≤ℤ r → is_lt (int_cmp r (pos 1)) ≡ false
 not_less r some = not_less_by r (int_cmp r (pos 1)) refl (int_ranked r (pos 1) (int_cmp r (pos 1)) refl) some
 
 abbrev sphere_pieces : List ℕ → Ball → List Piece
-sphere_pieces name s = two_pieces name (codes "sph") (codes "V") (codes "r") s.centre s.radius
+sphere_pieces name s = two_pieces name (codes "sph") (codes "V") (codes "r") coordinate_kind s.centre s.radius
 
 sphere_written : (name : List ℕ) (s : Ball) → put_line name (bodies.Solid (solids.Sphere s)) ≡ written_after Open (sphere_pieces name s)
 sphere_written name s =
     ap (λ (text : List ℕ). codes "put " ++ (name ++ (codes " sph V " ++ text)))
-    (vector_written s.centre (codes " r " ++ signed_decimal s.radius)
-    ∙ ap (λ (radius : List ℕ). triple_text (signed_decimal s.centre.x) (signed_decimal s.centre.y) (signed_decimal s.centre.z) (codes " r " ++ radius)) (sym (append-nil (signed_decimal s.radius))))
+    (vector_written coordinate_kind s.centre (codes " r " ++ length_text s.radius)
+    ∙ ap (λ (radius : List ℕ). triple_text (number_text coordinate_kind s.centre.x) (number_text coordinate_kind s.centre.y) (number_text coordinate_kind s.centre.z) (codes " r " ++ radius)) (sym (append-nil (length_text s.radius))))
 
 sphere_put : (text : List ℕ) (start end : ℕ → ℕ) (name : List ℕ) (s : Ball) → HasBytes text start end (sphere_pieces name s) → IsName name → IsWithin COORD s.centre → IsAtMost COORD s.radius → pos 1 ≤ℤ s.radius
     → put_of text (placed start end (sphere_pieces name s)) (top_words (placed start end (sphere_pieces name s))) ≡ put_solid name (solids.Sphere s)
 sphere_put text start end name s bytes is within small some =
     let tokens : List Token = placed start end (sphere_pieces name s) in
     let c : V3 = s.centre in
-    let v : solid_keys.value_numbers text tokens 3 (word 4 8) ≡ Some (Some c.x ∷ Some c.y ∷ Some c.z ∷ []) = two_vector text start end name (codes "sph") (codes "V") (codes "r") c s.radius bytes within in
-    let r : solid_keys.value_numbers text tokens 1 (word 10 10) ≡ Some (Some s.radius ∷ []) = two_number text start end name (codes "sph") (codes "V") (codes "r") c s.radius bytes small in
+    let v : solid_keys.value_numbers text tokens (vector_key (codes "V")) (word 4 8) ≡ Some (Some c.x ∷ Some c.y ∷ Some c.z ∷ []) = two_vector text start end name (codes "sph") (codes "V") (codes "r") coordinate_kind c s.radius bytes (coordinates_of c within) in
+    let r : solid_keys.value_numbers text tokens (number_key (codes "r")) (word 10 10) ≡ Some (Some s.radius ∷ []) = two_number text start end name (codes "sph") (codes "V") (codes "r") coordinate_kind c s.radius bytes (coordinate_of s.radius small) in
     let pairs : List Pair = two_pairs (codes "V") (codes "r") in
-    two_put text start end name (codes "sph") (codes "V") (codes "r") c s.radius bytes
+    two_put text start end name (codes "sph") (codes "V") (codes "r") coordinate_kind c s.radius bytes
     ∙ good_solid text tokens Sphere name pairs (Some c.x ∷ Some c.y ∷ Some c.z ∷ Some s.radius ∷ []) is
     (ap₂ (λ a b. solid_keys.appended a (solid_keys.appended b (Some []))) v r)
     (ap₂ (λ a b. cond (not (list_all is_some (solid_keys.or_no_numbers a) && true)) (Some (pair (Some (codes "V")) (word 4 8) 5)) (cond (not (list_all is_some (solid_keys.or_no_numbers b) && true)) (Some (pair (Some (codes "r")) (word 10 10) 7)) None)) v r)
@@ -160,19 +172,19 @@ pub sphere_again : (name : List ℕ) (s : Ball) → IsName name → IsWithin COO
 sphere_again name s is within radius =
     let small : IsAtMost COORD s.radius = (omega (arith, ints, radius.some), radius.size) in
     let line : List ℕ = put_line name (bodies.Solid (solids.Sphere s)) in
-    let have : HasPieces line (sphere_pieces name s) = read_line line (sphere_pieces name s) (sphere_written name s) (two_good name (codes "sph") (codes "V") (codes "r") s.centre s.radius is refl refl refl within small) in
+    let have : HasPieces line (sphere_pieces name s) = read_line line (sphere_pieces name s) (sphere_written name s) (two_good name (codes "sph") (codes "V") (codes "r") coordinate_kind s.centre s.radius is refl refl refl (coordinates_of s.centre within) (coordinate_of s.radius small)) in
     (have.tokens, have.read, by_places (λ ts. put_of line ts (top_words ts) ≡ put_solid name (solids.Sphere s)) line have.tokens (sphere_pieces name s) have.are (λ start end bytes. sphere_put line start end name s bytes is within small radius.some))
 
 -- ---- a half-space
 
 abbrev half_pieces : List ℕ → HalfSpace → List Piece
-half_pieces name s = two_pieces name (codes "half") (codes "N") (codes "d") s.normal s.distance
+half_pieces name s = two_pieces name (codes "half") (codes "N") (codes "d") normal_kind s.normal s.distance
 
 half_written : (name : List ℕ) (s : HalfSpace) → put_line name (bodies.Solid (solids.Half s)) ≡ written_after Open (half_pieces name s)
 half_written name s =
     ap (λ (text : List ℕ). codes "put " ++ (name ++ (codes " half N " ++ text)))
-    (vector_written s.normal (codes " d " ++ signed_decimal s.distance)
-    ∙ ap (λ (distance : List ℕ). triple_text (signed_decimal s.normal.x) (signed_decimal s.normal.y) (signed_decimal s.normal.z) (codes " d " ++ distance)) (sym (append-nil (signed_decimal s.distance))))
+    (vector_written normal_kind s.normal (codes " d " ++ length_text s.distance)
+    ∙ ap (λ (distance : List ℕ). triple_text (number_text normal_kind s.normal.x) (number_text normal_kind s.normal.y) (number_text normal_kind s.normal.z) (codes " d " ++ distance)) (sym (append-nil (length_text s.distance))))
 
 not_true : (b : Bool) → (b ≡ true → ⊥) → b ≡ false
 not_true true h = absurd (h refl)
@@ -184,22 +196,22 @@ zero_all v h =
     let two = and_parts (int_eq v.x (pos 0)) (int_eq v.y (pos 0)) one.0 in
     vector_same ((Decides-int_eq v.x (pos 0)).0 two.0) ((Decides-int_eq v.y (pos 0)).0 two.1) ((Decides-int_eq v.z (pos 0)).0 one.1)
 
-half_put : (text : List ℕ) (start end : ℕ → ℕ) (name : List ℕ) (s : HalfSpace) → HasBytes text start end (half_pieces name s) → IsName name → IsWithin COORD s.normal → IsAtMost COORD s.distance → s.normal ≢ zero_vector
+half_put : (text : List ℕ) (start end : ℕ → ℕ) (name : List ℕ) (s : HalfSpace) → HasBytes text start end (half_pieces name s) → IsName name → IsWithin HALF_NORMAL s.normal → IsAtMost COORD s.distance → s.normal ≢ zero_vector
     → put_of text (placed start end (half_pieces name s)) (top_words (placed start end (half_pieces name s))) ≡ put_solid name (solids.Half s)
 half_put text start end name s bytes is within small direction =
     let tokens : List Token = placed start end (half_pieces name s) in
     let n : V3 = s.normal in
-    let v : solid_keys.value_numbers text tokens 3 (word 4 8) ≡ Some (Some n.x ∷ Some n.y ∷ Some n.z ∷ []) = two_vector text start end name (codes "half") (codes "N") (codes "d") n s.distance bytes within in
-    let d : solid_keys.value_numbers text tokens 1 (word 10 10) ≡ Some (Some s.distance ∷ []) = two_number text start end name (codes "half") (codes "N") (codes "d") n s.distance bytes small in
+    let v : solid_keys.value_numbers text tokens (normal_key (codes "N")) (word 4 8) ≡ Some (Some n.x ∷ Some n.y ∷ Some n.z ∷ []) = two_vector text start end name (codes "half") (codes "N") (codes "d") normal_kind n s.distance bytes (components_of n within) in
+    let d : solid_keys.value_numbers text tokens (number_key (codes "d")) (word 10 10) ≡ Some (Some s.distance ∷ []) = two_number text start end name (codes "half") (codes "N") (codes "d") normal_kind n s.distance bytes (coordinate_of s.distance small) in
     let pairs : List Pair = two_pairs (codes "N") (codes "d") in
-    two_put text start end name (codes "half") (codes "N") (codes "d") n s.distance bytes
+    two_put text start end name (codes "half") (codes "N") (codes "d") normal_kind n s.distance bytes
     ∙ good_solid text tokens Half name pairs (Some n.x ∷ Some n.y ∷ Some n.z ∷ Some s.distance ∷ []) is
     (ap₂ (λ a b. solid_keys.appended a (solid_keys.appended b (Some []))) v d)
     (ap₂ (λ a b. cond (not (list_all is_some (solid_keys.or_no_numbers a) && true)) (Some (pair (Some (codes "N")) (word 4 8) 5)) (cond (not (list_all is_some (solid_keys.or_no_numbers b) && true)) (Some (pair (Some (codes "d")) (word 10 10) 7)) None)) v d)
     ∙ ap (λ b. solid_put (Some name) (cond b (Err ZeroNormal) (Ok (solids.Half s)))) (not_true (is_zero n) (λ h. direction (zero_all n h)))
 
-pub half_again : (name : List ℕ) (s : HalfSpace) → IsName name → IsWithin COORD s.normal → IsAtMost COORD s.distance → s.normal ≢ zero_vector → IsPutAgain name (bodies.Solid (solids.Half s))
+pub half_again : (name : List ℕ) (s : HalfSpace) → IsName name → IsWithin HALF_NORMAL s.normal → IsAtMost COORD s.distance → s.normal ≢ zero_vector → IsPutAgain name (bodies.Solid (solids.Half s))
 half_again name s is within small direction =
     let line : List ℕ = put_line name (bodies.Solid (solids.Half s)) in
-    let have : HasPieces line (half_pieces name s) = read_line line (half_pieces name s) (half_written name s) (two_good name (codes "half") (codes "N") (codes "d") s.normal s.distance is refl refl refl within small) in
+    let have : HasPieces line (half_pieces name s) = read_line line (half_pieces name s) (half_written name s) (two_good name (codes "half") (codes "N") (codes "d") normal_kind s.normal s.distance is refl refl refl (components_of s.normal within) (coordinate_of s.distance small)) in
     (have.tokens, have.read, by_places (λ ts. put_of line ts (top_words ts) ≡ put_solid name (solids.Half s)) line have.tokens (half_pieces name s) have.are (λ start end bytes. half_put line start end name s bytes is within small direction))

@@ -20,7 +20,7 @@ use Rattle.word_values.specs.declared.atoms.NumberList.TheVariants as lists
 use Rattle.word_values.proofs.KindLaws.{numbers_append}
 use Rattle.mged_words.specs.Commands.{unless_refused, kind_command, solid_command, numbers_fault, in_command, nirt_command, shot_command, direction_of}
 use Rattle.command_set.specs.declared.command.Command.TheVariants.{Bad}
-use Rattle.command_set.specs.declared.refusal.Refusal.TheVariants.{Syntax, Number}
+use Rattle.command_set.specs.declared.refusal.Refusal.TheVariants.{Syntax}
 
 -- a number of the kind that its place has
 pub placed : (list : NumberList) (place : ℕ) (kind : NumberKind) (atom : List ℕ) (o : Option ℤ) → kind ≡ kind_at list place → o ≡ number_as kind atom → o ≡ number_as (kind_at list place) atom
@@ -34,14 +34,6 @@ next_fault list atoms word i d n lt is =
     let sum : word + (i + 1) ≡ (word + i) + 1 = omega arith in
     ap (λ w. numbers_fault w 1 rest) sum ∙ ap (λ o. numbers_fault (word + i) 1 (o ∷ rest)) is
     ∙ sym (ap (λ (xs : List (Bor (List ℕ))). numbers_fault (word + i) 1 (numbers_from list i (map (λ (a : Bor (List ℕ)). a.now) xs))) (drop_more atoms i d lt))
-
--- a number that is none
-pub first_fault : (list : NumberList) (atoms : List (Bor (List ℕ))) (word i : ℕ) (d : Bor (List ℕ)) → i < length atoms → None ≡ number_as (kind_at list i) (get_or atoms i d).now
-    → numbers_fault (word + i) 1 (numbers_from list i (map (λ (a : Bor (List ℕ)). a.now) (drop i atoms))) ≡ Some (Number (word + i))
-first_fault list atoms word i d lt is =
-    let rest : List (Option ℤ) = numbers_from list (i + 1) (map (λ (a : Bor (List ℕ)). a.now) (drop (i + 1) atoms)) in
-    ap (λ (xs : List (Bor (List ℕ))). numbers_fault (word + i) 1 (numbers_from list i (map (λ (a : Bor (List ℕ)). a.now) xs))) (drop_more atoms i d lt)
-    ∙ sym (ap (λ o. numbers_fault (word + i) 1 (o ∷ rest)) is)
 
 pub next_read : (list : NumberList) (atoms : List (Bor (List ℕ))) (out : List ℤ) (i : ℕ) (d : Bor (List ℕ)) (n : ℤ) → i < length atoms → length out ≡ length atoms → Some n ≡ number_as (kind_at list i) (get_or atoms i d).now
     → numbers_as list (map (λ (a : Bor (List ℕ)). a.now) (take i atoms)) ≡ map (λ (m : ℤ). Some m) (take i out)

@@ -136,11 +136,11 @@ from_zero None = None
 from_zero (Some (pos n)) = Some (pos n)
 from_zero (Some (negsuc n)) = None
 
--- the cell of a view, a length
+-- the cell of a view: a length, of at least 0
 abbrev pub cell_number : List ℕ → Option ℤ
 cell_number atom = from_zero (number_as point_kind atom)
 
--- how many columns or rows a view has, a whole number
+-- how many columns or rows a view has: a whole number, of at least 0
 abbrev pub side_number : List ℕ → Option ℤ
 side_number atom = from_zero (number_as plain_kind atom)
 

@@ -1,5 +1,5 @@
 //! Laws of lines and scripts. The functions do nothing: their contracts are the laws.
-ghost use Rattle.std.specs.Prelude.{◌≡◌, ◌∷◌, [], ℕ, ℤ, IsTrue, List, Ok, Some, codes, length, map, pos};
+ghost use Rattle.std.specs.Prelude.{◌≡◌, ◌∷◌, [], ℕ, ℤ, IsTrue, List, Ok, Some, codes, length, map};
 ghost use Rattle.lattice_core.specs.Limits.{IsWithin};
 ghost use Rattle.lattice_core.specs.declared.limit.TheConstants.{WORLD};
 ghost use Rattle.lattice_core.specs.declared.placement.Placement.{Placement};

@@ -74,6 +74,7 @@ fn answer_word(kind: &str, given: &[u8], out: &mut Shown) -> Result<(), CaseFaul
     match kind {
         "name" => texts::answer_name(given, out),
         "number" => texts::answer_number(given, out),
+        "length" => texts::answer_length(given, out),
         "group-text" => texts::answer_group_text(given, out),
         "value-text" => texts::answer_value_text(given, out),
         _ => return Err(CaseFault::Kind),

@@ -9,7 +9,7 @@ use crate::geometry::planes::{put_plane, put_plane_or_none};
 use crate::geometry::shown::put_point;
 use crate::geometry::words::Words;
 use case_text::{CaseFault, Shown};
-use lattice_core::{COORD, PLACED, V3};
+use lattice_core::{COORD, HALF_NORMAL, PLACED, V3};
 use plane_geom::ShapeFault;
 use prim_arb8::Arb8;
 use prim_half::Half;
@@ -19,7 +19,7 @@ use prim_sphere::{Chord, Sphere, bounds_at, crossed_at};
 pub fn half(words: &mut Words) -> Result<Half, ShapeFault> {
     let word = words.next();
     let (normal, distance) = words.halves(word, b':');
-    let n = words.point_in(normal, COORD);
+    let n = words.point_in(normal, HALF_NORMAL);
     let d = words.whole_in(distance, COORD);
     Half::new(n, d)
 }

@@ -15,7 +15,7 @@ use std::alloc::Global;
 use std::collections::HashSet;
 use tcl_words::{
     Kind, Token, Word, WordFault, Words, atom_text, inside, is_group_text, raw_text, read_number,
-    read_words, top_words, write_words,
+    read_tenths, read_words, top_words, write_words,
 };
 
 /// The most bytes of a text of words in a row.
@@ -276,12 +276,22 @@ pub fn answer_inner_words(alloc: Global, given: &[u8], out: &mut Shown) -> Resul
     put_inner(alloc, given, words.tokens(), out)
 }
 
-/// `number ATOM`: the number that an atom spells, or `none`.
-pub fn answer_number(given: &[u8], out: &mut Shown) {
-    match read_number(given) {
+/// A number, or `none`.
+fn put_number_or_none(number: Option<i64>, out: &mut Shown) {
+    match number {
         Some(number) => out.put_number(number),
         None => out.put(b"none"),
     }
+}
+
+/// `number ATOM`: the whole number that an atom spells, or `none`.
+pub fn answer_number(given: &[u8], out: &mut Shown) {
+    put_number_or_none(read_number(given), out);
+}
+
+/// `length ATOM`: the tenths that an atom spells, or `none`.
+pub fn answer_length(given: &[u8], out: &mut Shown) {
+    put_number_or_none(read_tenths(given), out);
 }
 
 /// `group-text TEXT`: whether a text can stand between braces.

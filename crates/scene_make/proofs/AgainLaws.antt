@@ -7,6 +7,7 @@ use Rattle.std.proofs.lemmas.Fmt.{digits_decimal, length-decimal-le}
 use Rattle.std.proofs.lemmas.Int.{ints}
 use Rattle.std.proofs.lemmas.List.Elements.{All-append, All-cons, All-nil}
 use Rattle.lattice_core.specs.declared.limit.TheConstants.{COORD}
+use Rattle.lattice_core.specs.declared.turn.Turn.{Turn}
 use Rattle.lattice_core.specs.declared.vector.V3.{V3}
 use Rattle.lattice_core.specs.Limits.{IsWithin, IsAtMost}
 use Rattle.name_core.specs.NameText.{IsName}
@@ -20,7 +21,8 @@ use Rattle.tcl_words.specs.declared.token.Token.{Token}
 use Rattle.tcl_words.proofs.Fine.{fine_words}
 use Rattle.tcl_words.proofs.Scan.{Piece, scanned}
 use Rattle.tcl_words.proofs.Written.{Again, Good, read_again}
-use Rattle.comb_tree.specs.Nodes.{comb_nodes}
+use Rattle.tree_forms.specs.Trees.{leaves}
+use Rattle.comb_tree.specs.Nodes.{Member, comb_nodes}
 use Rattle.comb_tree.specs.declared.node.CombNode.{CombNode}
 use Rattle.comb_tree.specs.declared.node.CombNode.TheVariants as nodes
 use Rattle.region_attr.specs.Attrs.{group_attr}
@@ -30,7 +32,7 @@ use Rattle.object_set.specs.TextValues.{IsTextValue}
 use Rattle.object_set.specs.declared.kept.KeptAttr.{KeptAttr}
 use Rattle.word_values.specs.Matrices.{identity}
 use Rattle.put_form.proofs.NameWords.{word_good}
-use Rattle.text_laws.specs.Fits.{IsFit}
+use Rattle.text_laws.specs.Fits.{IsFit, IsNear}
 use Rattle.text_laws.specs.TextAgain.{IsEntryAgain, IsTextAgain}
 use Rattle.text_laws.proofs.LineArb8.{arb8_again}
 use Rattle.text_laws.proofs.LineCombs.{comb_again}
@@ -39,7 +41,7 @@ use Rattle.text_laws.proofs.LinePieces.{atom, by_places, closing, opening}
 use Rattle.text_laws.proofs.LineSolids.{sphere_again}
 use Rattle.text_laws.proofs.TextEntries.{text_is_again}
 use Rattle.scene_make.specs.Demo as demo
-use Rattle.scene_make.specs.Demo.{all, all_name, attr_of, centre_of, coordinate, cut, cut_name, drawn_colour, drawn_radius, drawn_turn, leaf_at, region_name, region_of, region_tree, sphere_name, sphere_of, title_of, union_to}
+use Rattle.scene_make.specs.Demo.{all, all_name, attr_of, centre_of, coordinate, cut, cut_name, drawn_colour, drawn_radius, drawn_turn, leaf_at, millimetres, region_name, region_of, region_tree, sphere_name, sphere_of, title_of, union_to}
 use Rattle.scene_make.proofs.NameLaws.{known, lettered, model}
 use Rattle.scene_make.proofs.SoundLaws.{demo_sound, of_each}
 use Rattle.scene_make.proofs.UnionLaws.{union_count}
@@ -127,6 +129,12 @@ centre_within i few = record { x = coordinate_within (i / 100) (omega (arith, fe
 stands_still : IsWithin COORD identity.shift
 stands_still = search rules
 
+pub region_near : (i : ℕ) (turn : Turn) → i < 1000 → All IsNear (leaves (region_tree i turn))
+region_near i turn few =
+    let sphere : Member = record { name = sphere_name i; placement = identity } in
+    let removed : Member = record { name = cut_name; placement = record { turn = turn; shift = centre_of i } } in
+    All-cons IsNear sphere (removed ∷ []) stands_still (All-cons IsNear removed [] (centre_within i few) (All-nil IsNear))
+
 radius_fits : (x : ℕ) → IsRadius (drawn_radius x)
 radius_fits x = record { some = omega (arith, ints); size = omega (arith, ints) }
 
@@ -151,7 +159,7 @@ Near : V3 → Type 0
 Near v = IsWithin COORD v
 
 cut_line : IsEntryAgain (cut_name, cut)
-cut_line = arb8_again cut_name (record { vertices = rpp_vertices (pos 0) (pos 80) (pos 0) (pos 80) (pos 0) (pos 80) }) cut_named refl (search rules) refl
+cut_line = arb8_again cut_name (record { vertices = rpp_vertices (pos 0) (millimetres (pos 80)) (pos 0) (millimetres (pos 80)) (pos 0) (millimetres (pos 80)) }) cut_named refl (search rules) refl
 
 -- ---- the whole text
 

@@ -42,7 +42,7 @@ size_short size small =
 
 length_short : (z : ℤ) → (pos 0 -ℤ pos 9000) ≤ℤ z → z ≤ℤ pos 9000 → length (length_text z) ≤ 6
 length_short (pos n) above below = omega (arith, size_short n (omega (arith, ints, below)))
-length_short (negsuc n) above below = simp length-append (omega (arith, size_short (suc n) (omega (arith, ints, above))))
+length_short (negsuc n) above below = omega (arith, size_short (suc n) (omega (arith, ints, above)))
 
 -- a coordinate of a place
 coordinate_short : (digit : ℕ) → digit < 10 → length (length_text (coordinate digit)) ≤ 6
@@ -83,6 +83,9 @@ matrix_short p x y z =
 put_length : (name body : List ℕ) → length (codes "put " ++ (name ++ (codes " " ++ body))) ≡ length name + length body + 5
 put_length name body = simp length-append (omega arith)
 
+sphere_length : (name centre radius : List ℕ) → length (codes "put " ++ (name ++ (codes " " ++ (codes "sph V " ++ (centre ++ (codes " r " ++ radius)))))) ≡ length name + length centre + length radius + 14
+sphere_length name centre radius = simp length-append (omega arith)
+
 comb_length : (attr node : List ℕ) → length (codes "comb " ++ (attr ++ (codes " tree {" ++ (node ++ codes "}")))) ≡ length attr + length node + 13
 comb_length attr node = simp length-append (omega arith)
 
@@ -118,7 +121,7 @@ sphere_short : (x i : ℕ) → i < 1000 → length (put_line (sphere_name i) (sp
 sphere_short x i small =
     let shift = shift_short i small in
     let centre : length (vector_text coordinate_kind (centre_of i)) ≤ 22 = vector_short (centre_of i) shift.0 shift.1 shift.2 in
-    simp length-append (omega (arith, small_number i (omega (arith, small)), centre, radius_short x))
+    omega (arith, sphere_length (sphere_name i) (vector_text coordinate_kind (centre_of i)) (length_text (drawn_radius x)), name_short 115 i small, centre, radius_short x)
 
 tree_short : (x i : ℕ) → i < 1000 → length (node_text (region_tree i (drawn_turn x))) ≤ 123
 tree_short x i small =

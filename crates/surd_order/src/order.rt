@@ -42,7 +42,7 @@ pub fn cmp_root(m: i128, n: u128) -> Ordering
     (size * size).cmp(&n)
 }
 
-/// `k q²`, whose root is `q √k`.
+/// `k q²`, whose root is `q √k`. As `q²` may pass 64 bits, one of the two multiplications is one of 128 bits.
 pub fn scaled_square(k: u64, q: i128) -> u128
     requires k_size { k < 2 ^ 41 }
     requires q_positive { pos 0 ≤ℤ q }
@@ -155,7 +155,8 @@ fn cmp_sum_with_difference(a: i64, k: u64, b: i64, l: u64) -> Ordering
 
 impl Pos {
     /// The exact order of two positions in range. It is decided by signs and by products below 2^127, and
-    /// takes no memory.
+    /// takes no memory. Two fractions take two multiplications of 64 by 64 bits; beside a root the square of a
+    /// denominator may pass 64 bits, and is multiplied in 128.
     pub fn cmp(&self, other: &Pos) -> Ordering
         requires self_in_range { IsInRange self.now }
         requires other_in_range { IsInRange other.now }

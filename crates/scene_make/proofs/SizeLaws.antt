@@ -1,10 +1,11 @@
 -- The text of a demo is short.
-use Rattle.std.proofs.Common.{◌≡◌, ◌<◌, ◌≤◌, ◌+◌, ◌*◌, ◌/◌, ◌%◌, ◌^◌, ◌++◌, ◌&&◌, ◌==◌, ◌-ℤ◌, ◌≤ℤ◌, ℕ, ℤ, pos, negsuc, zero, suc, Bool, true, false, cond, List, [], ◌∷◌, refl, ap, arith, lit<, length, length-append, decimal, codes, if◌then◌else◌}
+use Rattle.std.proofs.Common.{◌≡◌, ◌<◌, ◌≤◌, ◌+◌, ◌*◌, ◌/◌, ◌%◌, ◌^◌, ◌++◌, ◌&&◌, ◌==◌, ℕ, ℤ, pos, negsuc, zero, suc, Bool, true, false, cond, List, [], ◌∷◌, refl, ap, arith, lit<, length, length-append, decimal, codes, if◌then◌else◌}
 use Rattle.std.specs.Fmt.{digits, signed_decimal}
 use Rattle.std.proofs.lemmas.Fmt.{length-decimal-le, length_signed_le}
 use Rattle.std.proofs.lemmas.Int.{ints}
 use Rattle.lattice_core.specs.declared.placement.Placement.{Placement}
 use Rattle.lattice_core.specs.declared.vector.V3.{V3}
+use Rattle.lattice_core.specs.Limits.{IsAtMost}
 use Rattle.lattice_core.specs.Placements.{matrix_of}
 use Rattle.lattice_core.specs.Turns.{column_of, is_negated, entry_of}
 use Rattle.word_values.specs.Matrices.{identity}
@@ -18,7 +19,7 @@ use Rattle.directory.specs.Walks.{Entries}
 use Rattle.asc_form.specs.Written.{written}
 use Rattle.scene_make.specs.Draws.{after}
 use Rattle.scene_make.specs.Demo as demo
-use Rattle.scene_make.specs.Demo.{all, all_name, attr_of, centre_of, coordinate, cut, cut_name, demo_script, drawn_colour, drawn_radius, drawn_turn, leaf_at, pair_of, pairs, region_name, region_of, region_tree, sphere_name, sphere_of, title_of, union_to}
+use Rattle.scene_make.specs.Demo.{all, all_name, attr_of, centre_of, coordinate, cut, cut_name, demo_script, drawn_colour, drawn_radius, drawn_turn, leaf_at, millimetres, pair_of, pairs, region_name, region_of, region_tree, sphere_name, sphere_of, title_of, union_to}
 use Rattle.scene_make.specs.Steps.{entries_text}
 use Rattle.scene_make.proofs.TextLaws.{both, after_title}
 
@@ -34,19 +35,19 @@ tenth_short tenth small =
     let digit : length (decimal tenth) ≤ 1 = length-decimal-le 1 tenth (lit< tt) (omega (arith, small)) (omega (arith, small)) in
     either_short (tenth == 0) (codes "." ++ decimal tenth) 2 (simp length-append (omega (arith, digit)))
 
--- up to 900 millimetres, in tenths
-size_short : (size : ℕ) → size ≤ 9000 → length (size_text size) ≤ 5
+-- up to 900 millimetres
+size_short : (size : ℕ) → size ≤ 900 * tenths → length (size_text size) ≤ 5
 size_short size small =
     let whole : length (decimal (size / tenths)) ≤ 3 = length-decimal-le 3 (size / tenths) (lit< tt) (omega (arith, small)) (omega (arith, small)) in
     simp length-append (omega (arith, whole, tenth_short (size % tenths) (omega arith)))
 
-length_short : (z : ℤ) → (pos 0 -ℤ pos 9000) ≤ℤ z → z ≤ℤ pos 9000 → length (length_text z) ≤ 6
-length_short (pos n) above below = omega (arith, size_short n (omega (arith, ints, below)))
-length_short (negsuc n) above below = omega (arith, size_short (suc n) (omega (arith, ints, above)))
+length_short : (z : ℤ) → IsAtMost (millimetres (pos 900)) z → length (length_text z) ≤ 6
+length_short (pos n) h = omega (arith, size_short n (omega (arith, ints, h.1)))
+length_short (negsuc n) h = omega (arith, size_short (suc n) (omega (arith, ints, h.0)))
 
 -- a coordinate of a place
 coordinate_short : (digit : ℕ) → digit < 10 → length (length_text (coordinate digit)) ≤ 6
-coordinate_short digit small = length_short (coordinate digit) (omega (arith, ints, small)) (omega (arith, ints, small))
+coordinate_short digit small = length_short (coordinate digit) (omega (arith, ints, small), omega (arith, ints, small))
 
 vector_short : (v : V3) → length (length_text v.x) ≤ 6 → length (length_text v.y) ≤ 6 → length (length_text v.z) ≤ 6 → length (vector_text coordinate_kind v) ≤ 22
 vector_short v x y z = simp length-append (omega (arith, x, y, z))
@@ -115,7 +116,7 @@ shift_short : (i : ℕ) → i < 1000 → (length (length_text (centre_of i).x) �
 shift_short i small = (coordinate_short (i / 100) (omega (arith, small)), coordinate_short (i / 10 % 10) (omega arith), coordinate_short (i % 10) (omega arith))
 
 radius_short : (x : ℕ) → length (length_text (drawn_radius x)) ≤ 6
-radius_short x = length_short (drawn_radius x) (omega (arith, ints)) (omega (arith, ints))
+radius_short x = length_short (drawn_radius x) (omega (arith, ints), omega (arith, ints))
 
 sphere_short : (x i : ℕ) → i < 1000 → length (put_line (sphere_name i) (sphere_of i (drawn_radius x)).body) ≤ 64
 sphere_short x i small =

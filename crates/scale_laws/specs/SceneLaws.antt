@@ -22,6 +22,7 @@ pub record ScalesOnRay (m : ℕ) (far : ℤ) (regions larger : List Region) (ray
   pub overlaps : overlaps_on_up_to (pos m *ℤ far) larger (larger_ray m ray) ≡ map (moved_overlap (enlarged m)) (overlaps_on_up_to far regions ray)
   pub pixel : pixel_up_to (pos m *ℤ far) larger (larger_ray m ray) ≡ pixel_up_to far regions ray
 
+-- so it is with every ray, and any regions of which the one list is so many times as large as the other
 abbrev pub ScenesScale : Type 0
 ScenesScale = (m : ℕ) (far : ℤ) (regions larger : List Region) (ray : Ray) → 0 < m → AreLargerRegions m regions larger → ScalesOnRay m far regions larger ray
 
@@ -49,6 +50,7 @@ pub record ScalesToTenths (far : ℤ) (regions larger : List Region) (ray : Ray)
 abbrev pub RaysScaleToTenths : Type 0
 RaysScaleToTenths = (far : ℤ) (regions larger : List Region) (ray : Ray) → FAR ≡ MILLIMETRE *ℤ far → AreLargerRegions millimetre regions larger → ScalesToTenths far regions larger ray
 
+-- and so every pixel of a view is what it was
 abbrev pub PicturesStayInTenths : Type 0
 PicturesStayInTenths = (far : ℤ) (regions larger : List Region) (view : View) (column row : ℕ) → FAR ≡ MILLIMETRE *ℤ far → AreLargerRegions millimetre regions larger
     → pixel_of larger (pixel_ray (larger_view millimetre view) column row) ≡ pixel_up_to far regions (pixel_ray view column row)

@@ -1,7 +1,7 @@
 //! A plain program that loads a model, edits it, saves it and lists its objects and trees: what `bench/models` and
 //! `bench/edits` measure the proved one beside.
 //!
-//! Compile with `rustc -O bench/plain_model.rs` and run as `plain_model --load NAME < SCRIPT`, where each line of the
+//! Compile with `rustc -O --edition 2021 bench/plain_model.rs` and run as `plain_model --load NAME < SCRIPT`, where each line of the
 //! script is `save FILE`, `ls`, `tree NAME`, `in NAME sph X Y Z R`, `mvall OLD NEW` with a name that nothing has, or `r` with
 //! a new name. The text form, its checks and the kinds of faults are those of docs/TEXT_FORM.md, the transcript is that of
 //! docs/COMMANDS.md. Nothing of it is proved, it has no other commands, and it edits its one directory in place.
@@ -11,7 +11,10 @@ use std::io::{Read, Write};
 
 type Text = Box<[u8]>;
 
-const REACH: i64 = 16_384;
+/// Lengths count tenths of a millimetre.
+const MILLIMETRE: i64 = 10;
+const REACH: i64 = 16_384 * MILLIMETRE;
+const NORMAL_REACH: i64 = 16_384;
 
 #[derive(Clone, Copy, PartialEq, Eq, PartialOrd, Ord)]
 enum Kind { Words, Type, Attr, Tree, Name, Number, Shape, Exists, Full, Cycle, Deep }
@@ -243,11 +246,12 @@ impl<'a> Reader<'a> {
 
 // ---- values
 
-fn number(text: &[u8], least: i64, most: i64) -> Result<i32, Kind> {
-    let (negative, digits) = match text {
-        [b'-', rest @ ..] => (true, rest),
-        [b'+', rest @ ..] => (false, rest),
-        _ => (false, text),
+/// The sign, what stands before the point, and what follows that.
+fn parts(text: &[u8]) -> Result<(i64, i64, &[u8]), Kind> {
+    let (sign, digits) = match text {
+        [b'-', rest @ ..] => (-1, rest),
+        [b'+', rest @ ..] => (1, rest),
+        _ => (1, text),
     };
     let (mut value, mut size, mut at) = (0i64, 0, 0);
     while at < digits.len() && digits[at].is_ascii_digit() {
@@ -258,9 +262,33 @@ fn number(text: &[u8], least: i64, most: i64) -> Result<i32, Kind> {
         }
         at += 1;
     }
-    let is_whole = at == digits.len() || digits[at] == b'.' && digits[at + 1..].iter().all(|&byte| byte == b'0');
-    let value = if negative { -value } else { value };
-    if at > 0 && is_whole && least <= value && value <= most { Ok(value as i32) } else { Err(Kind::Number) }
+    if at > 0 { Ok((sign, value, &digits[at..])) } else { Err(Kind::Number) }
+}
+
+fn are_zeros(digits: &[u8]) -> bool { digits.iter().all(|&byte| byte == b'0') }
+
+/// A whole number.
+fn number(text: &[u8], least: i64, most: i64) -> Result<i32, Kind> {
+    let (sign, size, rest) = parts(text)?;
+    let is_whole = match rest {
+        [] => true,
+        [b'.', zeros @ ..] => are_zeros(zeros),
+        _ => false,
+    };
+    let value = sign * size;
+    if is_whole && least <= value && value <= most { Ok(value as i32) } else { Err(Kind::Number) }
+}
+
+/// A length with at most one decimal, in tenths of a millimetre.
+fn length(text: &[u8]) -> Result<i32, Kind> {
+    let (sign, size, rest) = parts(text)?;
+    let tenth = match rest {
+        [] | [b'.'] => 0,
+        [b'.', digit, zeros @ ..] if digit.is_ascii_digit() && are_zeros(zeros) => i64::from(digit - b'0'),
+        _ => return Err(Kind::Number),
+    };
+    let value = sign * (size * MILLIMETRE + tenth);
+    if value.abs() <= REACH { Ok(value as i32) } else { Err(Kind::Number) }
 }
 
 fn is_name(text: &[u8]) -> bool {
@@ -320,6 +348,8 @@ impl Values {
 
     fn number(&mut self, text: &[u8], least: i64, most: i64) -> i32 { number(text, least, most).unwrap_or_else(|kind| { self.note(kind); 0 }) }
 
+    fn length(&mut self, text: &[u8]) -> i32 { length(text).unwrap_or_else(|kind| { self.note(kind); 0 }) }
+
     /// A value of a solid's key that is one atom.
     fn single<'a>(&mut self, word: &Word<'a>) -> &'a [u8] { word.atom().unwrap_or_else(|| { self.note(Kind::Attr); b"0" }) }
 
@@ -333,7 +363,9 @@ impl Values {
         }
     }
 
-    fn point(&mut self, word: &Word) -> Point { self.three(word).map(|text| self.number(text, -REACH, REACH)) }
+    fn point(&mut self, word: &Word) -> Point { self.three(word).map(|text| self.length(text)) }
+
+    fn normal(&mut self, word: &Word) -> Point { self.three(word).map(|text| self.number(text, -NORMAL_REACH, NORMAL_REACH)) }
 
     fn attribute(&mut self, word: &Word, most: i64) -> i32 {
         match word.atom() {
@@ -408,7 +440,8 @@ impl Values {
         inside.enter()?;
         let mut numbers = [0; 16];
         for at in 0..16 {
-            numbers[at] = self.number(inside.atom()?, -999_999_999, 999_999_999);
+            let text = inside.atom()?;
+            numbers[at] = if matches!(at, 3 | 7 | 11) { self.length(text) } else { self.number(text, -999_999_999, 999_999_999) };
         }
         inside.leave()?;
         let (mut turn, mut columns) = ([(0, 0); 3], 0);
@@ -424,7 +457,7 @@ impl Values {
             }
         }
         let shift = [numbers[3], numbers[7], numbers[11]];
-        if columns != 7 || numbers[12..] != [0, 0, 0, 1] || shift.iter().any(|&part| i64::from(part.abs()) > REACH) {
+        if columns != 7 || numbers[12..] != [0, 0, 0, 1] {
             self.note(Kind::Number);
         }
         let is_identity = turn == [(0, 1), (1, 1), (2, 1)] && shift == [0; 3];
@@ -497,17 +530,17 @@ fn solid(kind: usize, pairs: &[Word], read: &mut Values) -> Result<Thing, Kind> 
     }
     let word = |at: usize| found[at].as_ref().unwrap();
     Ok(match kind {
-        0 => Thing::Sphere(read.point(word(0)), { let text = read.single(word(1)); read.number(text, -REACH, REACH) }),
+        0 => Thing::Sphere(read.point(word(0)), { let text = read.single(word(1)); read.length(text) }),
         1 => {
             let centre = read.point(word(0));
-            let axes = [1, 2, 3].map(|at| read.three(word(at)).map(|text| read.number(text, -REACH, REACH)));
+            let axes = [1, 2, 3].map(|at| read.three(word(at)).map(|text| read.length(text)));
             let radius = axes[0][0];
             if axes != [[radius, 0, 0], [0, radius, 0], [0, 0, radius]] {
                 read.note(Kind::Number);
             }
             Thing::Sphere(centre, radius)
         }
-        2 => Thing::Half(read.point(word(0)), { let text = read.single(word(1)); read.number(text, -REACH, REACH) }),
+        2 => Thing::Half(read.normal(word(0)), { let text = read.single(word(1)); read.length(text) }),
         _ => Thing::Arb8(Box::new(std::array::from_fn(|at| read.point(word(at))))),
     })
 }
@@ -620,13 +653,27 @@ fn add_number(out: &mut Vec<u8>, number: i32) {
 
 fn add(out: &mut Vec<u8>, text: &str) { out.extend_from_slice(text.as_bytes()); }
 
+/// A length in millimetres, with a point and one digit where it is no whole number of these.
+fn add_length(out: &mut Vec<u8>, length: i32) {
+    if length < 0 {
+        out.push(b'-');
+    }
+    let (whole, tenth) = (length.abs() / MILLIMETRE as i32, length.abs() % MILLIMETRE as i32);
+    add_number(out, whole);
+    if tenth != 0 {
+        out.extend_from_slice(&[b'.', b'0' + tenth as u8]);
+    }
+}
+
 fn add_labelled(out: &mut Vec<u8>, label: &str, number: i32) { add(out, label); add_number(out, number); }
 
-fn add_point(out: &mut Vec<u8>, label: &str, point: &Point) {
+fn add_labelled_length(out: &mut Vec<u8>, label: &str, length: i32) { add(out, label); add_length(out, length); }
+
+fn add_three(out: &mut Vec<u8>, label: &str, numbers: &[i32; 3], add_one: fn(&mut Vec<u8>, i32)) {
     add(out, label);
-    for (axis, &number) in point.iter().enumerate() {
+    for (axis, &number) in numbers.iter().enumerate() {
         out.push(if axis == 0 { b'{' } else { b' ' });
-        add_number(out, number);
+        add_one(out, number);
     }
     out.push(b'}');
 }
@@ -658,12 +705,12 @@ impl Directory {
 
     fn add_thing(&self, out: &mut Vec<u8>, thing: &Thing) {
         match thing {
-            Thing::Sphere(centre, radius) => { add_point(out, " sph V ", centre); add_labelled(out, " r ", *radius); }
-            Thing::Half(normal, distance) => { add_point(out, " half N ", normal); add_labelled(out, " d ", *distance); }
+            Thing::Sphere(centre, radius) => { add_three(out, " sph V ", centre, add_length); add_labelled_length(out, " r ", *radius); }
+            Thing::Half(normal, distance) => { add_three(out, " half N ", normal, add_number); add_labelled_length(out, " d ", *distance); }
             Thing::Arb8(vertices) => {
                 add(out, " arb8");
                 for (label, vertex) in [" V1 ", " V2 ", " V3 ", " V4 ", " V5 ", " V6 ", " V7 ", " V8 "].iter().zip(vertices.iter()) {
-                    add_point(out, label, vertex);
+                    add_three(out, label, vertex, add_length);
                 }
             }
             Thing::Comb(comb) => {
@@ -672,7 +719,7 @@ impl Directory {
                     add_labelled(out, label, number);
                 }
                 if let Some(colour) = &comb.rgb {
-                    add_point(out, " rgb ", colour);
+                    add_three(out, " rgb ", colour, add_number);
                 }
                 add(out, if comb.inherit { " inherit yes" } else { " inherit no" });
                 if !comb.tree.is_empty() {
@@ -696,7 +743,7 @@ impl Directory {
                             add_number(out, if other == column { i32::from(sign) } else { 0 });
                             out.push(b' ');
                         }
-                        add_number(out, place.shift[row]);
+                        add_length(out, place.shift[row]);
                         out.push(b' ');
                     }
                     add(out, "0 0 0 1}");
@@ -756,7 +803,7 @@ impl Directory {
 
 /// A sphere of these words.
 fn ball(words: [&str; 4]) -> Thing {
-    let [x, y, z, radius] = words.map(|word| number(word.as_bytes(), -REACH, REACH).unwrap_or_else(|_| stop(1, "only numbers in range are here")));
+    let [x, y, z, radius] = words.map(|word| length(word.as_bytes()).unwrap_or_else(|_| stop(1, "only numbers in range are here")));
     if radius < 1 {
         stop(1, "only spheres with a radius are here");
     }

@@ -3,6 +3,7 @@ regions overlap; names come from a small pool, so that edits meet."""
 
 from mgedmodel.pictures import ACROSS_AND_DOWN
 from mgedmodel.solids import DIRECTIONS as STEPS
+from mgedmodel.words import length_text
 
 from . import texts
 
@@ -18,7 +19,7 @@ KEYS = {"region": TRUTHS, "inherit": TRUTHS, "id": COUNTS, "air": COUNTS, "los":
 PICTURES = ("p.ppm", "q.ppm", "p.ppm", "s")
 SIZES = ((1, 1), (1, 1), (1, 4), (3, 1), (2, 2), (4, 3), (5, 5), (8, 6), (17, 2), (3, 18))
 ODD_SIZES = ((0, 5), (5, 0), (2_049, 1), (1, 2_049), (2_049, 0), (-1, 3), (3, "2.0"), ("2.5", 2), (999_999_999, 1), (1_000_000_000, 1))
-ODD_CELLS = (0, -1, 999_999_999, 1_000_000_000, 524_288, "1.0", "1.5")
+ODD_CELLS = (0, -1, 999_999_999, 1_000_000_000, 524_288, "1.0", "1.5", "0.0", "0.1", "0.25", "999999999.9")
 FAR = (-16_384, -16_383, -16_382, -1, 0, 0, 1, 2, 5_461, 16_383, 16_384)
 
 
@@ -30,6 +31,7 @@ class Maker:
         self.rng = rng
         self.scale = rng.choice((1, 1, 1, 2, 7, 1_000))
         self.is_far = rng.random() < 0.15  # numbers about as large as they may be
+        self.is_fine = not self.is_far and rng.random() < 0.4  # numbers count tenths of a millimetre, and else millimetres
         self.is_strict = False  # with fewer faults
         self.there, self.members, self.points = [], {}, []
 
@@ -48,6 +50,14 @@ class Maker:
 
     def point(self):
         return [self.grid() for _ in range(3)]
+
+    def length(self, number):
+        """A number as the text of a length."""
+        return length_text(number) if self.is_fine and isinstance(number, int) else str(number)
+
+    def lengths(self, numbers, plain=0):
+        """Numbers as the texts of lengths, but for the first ones, which are plain."""
+        return [str(number) if at < plain else self.length(number) for at, number in enumerate(numbers)]
 
     def name(self):
         if self.there and not self.errs(0.05):
@@ -77,7 +87,7 @@ class Maker:
 
     def solid(self):
         kind, numbers = self.pick((4, self.box), (3, self.eight), (4, self.sphere), (2, self.half))
-        return f"in {self.new_name(SOLIDS)} {kind} " + " ".join(map(str, numbers))
+        return f"in {self.new_name(SOLIDS)} {kind} " + " ".join(self.lengths(numbers, 3 if kind == "half" else 0))
 
     def box(self):
         sides = [self.rng.choice(((0, 4), (-1, 2), (2, 5), (5, 2), (4, -1), (1, 1 + self.often(0.9)))) for _ in range(3)]
@@ -138,7 +148,7 @@ class Maker:
             way = self.rng.choice(DIRECTIONS)
         if self.often(0.1):
             start[self.rng.randrange(3)] += self.rng.choice((-1, 1, 524_288, -524_289, 999_999_990))
-        return f"nirt {start[0]} {start[1]} {start[2]} {way} " + self.aims()
+        return f"nirt {' '.join(self.lengths(start))} {way} " + self.aims()
 
     def aims(self):
         return " ".join(self.comb_name() if self.often(0.4) else self.name() for _ in range(self.rng.choice((1, 1, 2, 3, 4))))
@@ -161,7 +171,7 @@ class Maker:
             cell = self.rng.choice(ODD_CELLS)
         if self.errs(0.05):
             corner[self.rng.randrange(3)] += self.rng.choice((-1, 1, 524_288, -524_289, 999_999_990))
-        return f"{way} {corner[0]} {corner[1]} {corner[2]} {cell} {width} {height}"
+        return f"{way} {' '.join(self.lengths(corner + [cell]))} {width} {height}"
 
     def picture(self):
         return f"rt {self.rng.choice(PICTURES)} {self.view()} {self.aims()}"
@@ -221,8 +231,8 @@ class Maker:
         if self.errs(0.05):
             numbers[self.rng.randrange(16)] += self.rng.choice((-1, 1))
         if self.errs(0.05):
-            numbers[self.rng.choice((3, 7, 11))] = self.rng.choice((-16_385, -16_384, 16_384, 16_385))
-        text = " ".join(map(str, numbers))
+            numbers[self.rng.choice((3, 7, 11))] = self.rng.choice((-16_385, -16_384, 16_384, 16_385, "-16384.1", "16384.1", "0.25"))
+        text = " ".join(self.length(number) if at in (3, 7, 11) else str(number) for at, number in enumerate(numbers))
         return self.rng.choice((text, "{%s}" % text))
 
     def place(self):

@@ -31,7 +31,7 @@ def in_sessions(rng, lines):
 
 
 RACES = (
-    "in {} sph 0 0 0 5", "in {} rpp 0 4 0 4 0 4", "in {} half 1 0 0 2", "put {} comb region yes tree {{- {{l {}}} {{l {}}}}}", "kill {}", "kill {}", "kill {} {}", "mvall {} {}", "mvall {} {}",
+    "in {} sph 0 0 0 5", "in {} sph 0 0 0.5 2.5", "in {} rpp 0 4 0 4 0 4", "in {} half 1 0 0 2", "put {} comb region yes tree {{- {{l {}}} {{l {}}}}}", "kill {}", "kill {}", "kill {} {}", "mvall {} {}", "mvall {} {}",
     "g {} {}", "r {} u {} - {}", "rm {} {}", "cattr {} air 1", "cattr {} region no", "place {} {} 1 0 0 2 0 1 0 0 0 0 1 0 0 0 0 1", "attr set {} k v", "title {}",
     "ls", "l {} {}", "tree {}", "save a", "nirt -9 1 1 +x {}", "nirt -9 1 1 +x {} {}", "rt p.ppm -z -4 12 50 1 17 17 {}", "rtcheck -z -4 12 50 1 3 17 {} {}",
 )  # fmt: skip

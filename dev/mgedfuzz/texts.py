@@ -49,15 +49,16 @@ def point(numbers):
 
 def solid(maker):
     kind, numbers = maker.pick((3, maker.eight), (4, maker.sphere), (2, maker.half))
+    numbers = maker.lengths(numbers, 3 if kind == "half" else 0)
     if kind == "arb8":
         return kind, [(f"V{i + 1}", point(numbers[3 * i : 3 * i + 3])) for i in range(8)]
     if kind == "half":
         return kind, [("N", point(numbers[:3])), ("d", numbers[3])]
     if maker.often(0.6):
         return kind, [("V", point(numbers[:3])), ("r", numbers[3])]
-    axes = [[numbers[3] * (axis == at) for axis in range(3)] for at in range(3)]
+    axes = [[numbers[3] if axis == at else 0 for axis in range(3)] for at in range(3)]
     if maker.errs(0.1):
-        axes[maker.rng.randrange(3)][maker.rng.randrange(3)] = maker.rng.choice((0, 1, -1, numbers[3], "x", "1.5", 16_385))
+        axes[maker.rng.randrange(3)][maker.rng.randrange(3)] = maker.rng.choice((0, 1, -1, numbers[3], "x", "1.5", "0.25", 16_385))
     return "ell", [("V", point(numbers[:3]))] + [(key, point(axis)) for key, axis in zip("ABC", axes)]
 
 
@@ -117,6 +118,8 @@ def dressed(rng, line, feeds=()):
 
 
 def spelled(rng, atom):
+    if re.fullmatch(r"-?[0-9]{1,7}\.[0-9]", atom) and rng.random() < 0.6:
+        atom = rng.choice(("", "+", "0" * 9) if atom[0] != "-" else ("",)) + atom + rng.choice(("", "0", "000"))
     if re.fullmatch(r"-?[0-9]{1,7}", atom) and rng.random() < 0.6:
         sign, digits = ("-", atom[1:]) if atom[0] == "-" else (rng.choice(("", "", "+", "-" * (atom == "0"))), atom)
         atom = sign + "0" * rng.choice((0, 0, 1, 9)) + digits + rng.choice(("", ".", ".0", ".000"))

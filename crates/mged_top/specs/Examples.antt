@@ -82,7 +82,7 @@ later_file = refl
 -- a number makes its directory, and the commands are those of its script; files, and what there is to be read, are of no
 -- matter
 abbrev seen : View
-seen = record { corner = vector (negsuc 1104) (pos 1105) (pos 1500); dir = MinusZ; cell = pos 10; w = 222; h = 222 }
+seen = record { corner = vector (negsuc 11049) (pos 11050) (pos 15000); dir = MinusZ; cell = pos 100; w = 222; h = 222 }
 
 abbrev all : List (List ℕ)
 all = codes "all" ∷ []
@@ -93,7 +93,7 @@ demo_commands =
     ∷ Shoot (Check seen all)
     ∷ Edit (Set (codes "r555") (record { key = codes "rgb"; value = codes "255 0 0" }))
     ∷ Shoot (Picture (codes "demo2.ppm") seen all)
-    ∷ Query (Shot (ray_of (vector (negsuc 1999) (negsuc 899) (negsuc 899)) PlusX) all)
+    ∷ Query (Shot (ray_of (vector (negsuc 19999) (negsuc 8999) (negsuc 8999)) PlusX) all)
     ∷ []
 
 a_demo : (files : List File) (script : List ℕ) → course_of (codes "--demo" ∷ codes "007" ∷ []) files files script ≡ Runs (demo 7) (map (entry 1) demo_commands) None

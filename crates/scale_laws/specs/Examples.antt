@@ -1,11 +1,16 @@
 -- Lengths in tenths of a millimetre, proved by computation.
-use Rattle.std.specs.Prelude.{◌≡◌, refl, pos, negsuc, ◌*ℤ◌, false}
+use Rattle.std.specs.Prelude.{◌≡◌, refl, pos, negsuc, ◌*ℤ◌, [], ◌∷◌, Some, codes, false}
 use Rattle.surd_order.specs.declared.position.Pos.TheVariants.{Frac, Surd}
 use Rattle.lattice_core.specs.declared.limit.TheConstants.{FAR, MILLIMETRE}
+use Rattle.lattice_core.specs.declared.turn.Turn.{Turn}
 use Rattle.lattice_core.specs.Vectors.{vector}
+use Rattle.tree_forms.specs.Trees.{Leaf}
+use Rattle.region_attr.specs.declared.attr.Attr.{Attr}
 use Rattle.solid_set.specs.declared.solid.Solid.TheVariants as solids
+use Rattle.object_set.specs.declared.object.Body.TheVariants as bodies
 use Rattle.order_laws.specs.Times.{enlarged}
 use Rattle.scale_laws.specs.Larger.{larger_solid}
+use Rattle.scale_laws.specs.Models.{larger_directory}
 use Rattle.scale_laws.specs.SceneLaws.{millimetre}
 
 -- a ray was 1,048,576 millimetres long, and is so still
@@ -26,3 +31,12 @@ root_place = refl
 larger_half : larger_solid millimetre (solids.Half (record { normal = vector (pos 1) (negsuc 1) (pos 0); distance = pos 5 }))
     ≡ solids.Half (record { normal = vector (pos 1) (negsuc 1) (pos 0); distance = pos 50 })
 larger_half = refl
+
+-- a sphere of radius 5 in a combination whose member is shifted by 7
+module _ (turn : Turn) (attr : Attr) where
+  larger_model : larger_directory millimetre (
+      (codes "s", record { body = bodies.Solid (solids.Sphere (record { centre = vector (pos 0) (pos 1) (negsuc 1); radius = pos 5 })); kept = [] })
+      ∷ (codes "a", record { body = bodies.Comb attr (Some (Leaf (record { name = codes "s"; placement = record { turn = turn; shift = vector (pos 7) (pos 0) (pos 0) } }))); kept = [] }) ∷ []
+      ) ≡ (codes "s", record { body = bodies.Solid (solids.Sphere (record { centre = vector (pos 0) (pos 10) (negsuc 19); radius = pos 50 })); kept = [] })
+      ∷ (codes "a", record { body = bodies.Comb attr (Some (Leaf (record { name = codes "s"; placement = record { turn = turn; shift = vector (pos 70) (pos 0) (pos 0) } }))); kept = [] }) ∷ []
+  larger_model = refl

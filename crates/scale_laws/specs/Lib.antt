@@ -2,4 +2,6 @@ pub mod Larger
 pub mod Laws
 pub mod Scenes
 pub mod SceneLaws
+pub mod Models
+pub mod ModelLaws
 pub mod Examples

@@ -1,0 +1,60 @@
+-- The law of scale for models: where all lengths of a directory are m times as large, its names come to the same regions, m times as large,
+-- and every picture of the larger view has the same bytes.
+use Rattle.std.specs.Prelude.{◌≡◌, ◌<◌, ℕ, ℤ, pos, ◌*ℤ◌, List, map}
+use Rattle.lattice_core.specs.declared.limit.TheConstants.{FAR, MILLIMETRE}
+use Rattle.lattice_core.specs.declared.ray.Ray.{Ray}
+use Rattle.lattice_core.specs.declared.vector.V3.{V3}
+use Rattle.lattice_core.specs.declared.view.View.{View}
+use Rattle.lattice_core.specs.Vectors.{scaled}
+use Rattle.lattice_core.specs.Views.{pixel_ray}
+use Rattle.name_core.specs.declared.name.Name.{Name}
+use Rattle.directory.specs.Walks.{Entries}
+use Rattle.ppm_write.specs.Pictures.{block_bytes, whole_span}
+use Rattle.prim_arb8.specs.Faces.{first_fault, cases_of}
+use Rattle.shot_core.specs.Regions.{Region}
+use Rattle.tile_shot.specs.Pixels.{part_of, pixel_up_to, view_bytes}
+use Rattle.scene_prep.specs.Outcomes.{prep_fault}
+use Rattle.scene_prep.specs.Scenes.{scene_of}
+use Rattle.scene_prep.specs.Sizes.{names_size}
+use Rattle.scale_laws.specs.Scenes.{AreLargerRegions, larger_view}
+use Rattle.scale_laws.specs.SceneLaws.{ScalesToTenths, millimetre}
+use Rattle.scale_laws.specs.Models.{larger_directory}
+
+-- what a region is called: its place in a scene, the path of names that leads to it, and its number
+pub record Heading : Type 0 where
+  pub place : ℕ
+  pub path : List ℕ
+  pub id : ℕ
+
+abbrev pub heading_of : Region → Heading
+heading_of r = record { place = r.place; path = r.path; id = r.body.id }
+
+-- names come to the same regions, so many times as large: as many with the same places, paths, numbers, air, colours and trees. They are
+-- refused for the same name, or for the same size, where the directory's names are
+pub record ComeToLarger (m : ℕ) (directory larger : Entries) (names : List Name) : Type 0 where
+  pub regions : AreLargerRegions m (scene_of directory names) (scene_of larger names)
+  pub headings : map heading_of (scene_of larger names) ≡ map heading_of (scene_of directory names)
+  pub size : names_size larger names ≡ names_size directory names
+  pub fault : prep_fault larger names ≡ prep_fault directory names
+
+abbrev pub ModelsScale : Type 0
+ModelsScale = (m : ℕ) (directory : Entries) (names : List Name) → 0 < m → ComeToLarger m directory (larger_directory m directory) names
+
+-- the bytes of a view's pixels, row by row from the top, where rays end so far
+abbrev pub view_bytes_up_to : ℤ → List Region → View → List ℕ
+view_bytes_up_to far regions view = block_bytes (λ column row part. part_of (pixel_up_to far regions (pixel_ray view column row)) part) (whole_span view)
+
+-- where lengths were millimetres and count tenths now, and the ray's length with them: a ray has of the regions of names what it had,
+-- so many times as far
+abbrev pub RaysOfModelsScaleToTenths : Type 0
+RaysOfModelsScaleToTenths = (far : ℤ) (directory : Entries) (names : List Name) (ray : Ray) → FAR ≡ MILLIMETRE *ℤ far
+    → ScalesToTenths far (scene_of directory names) (scene_of (larger_directory millimetre directory) names) ray
+
+-- and each picture has the bytes that it had
+abbrev pub PicturesOfModelsStay : Type 0
+PicturesOfModelsStay = (far : ℤ) (directory : Entries) (names : List Name) (view : View) → FAR ≡ MILLIMETRE *ℤ far
+    → view_bytes (scene_of (larger_directory millimetre directory) names) (larger_view millimetre view) ≡ view_bytes_up_to far (scene_of directory names) view
+
+-- vertices that lie so many times as far make a solid where these do, and have else the same first fault
+abbrev pub FaultsStay : Type 0
+FaultsStay = (m : ℕ) (vertices : List V3) → 0 < m → first_fault (cases_of (map (scaled (pos m)) vertices)) ≡ first_fault (cases_of vertices)

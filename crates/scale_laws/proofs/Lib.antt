@@ -7,3 +7,6 @@ pub mod Solids
 pub mod Composed
 pub mod Woven
 pub mod Seen
+pub mod Expanded
+pub mod Models
+pub mod Faults

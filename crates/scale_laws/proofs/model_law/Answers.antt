@@ -1,0 +1,15 @@
+use Rattle.scale_laws.proofs.Models.{models_scale, rays_of_models, pictures_of_models}
+use Rattle.scale_laws.proofs.Faults.{faults_stay}
+use Rattle.scale_laws.proofs.model_law.Goals as goal
+
+pub returns-clause-regions : goal.returns-clause-regions
+returns-clause-regions c = models_scale
+
+pub returns-clause-rays : goal.returns-clause-rays
+returns-clause-rays c = rays_of_models
+
+pub returns-clause-pictures : goal.returns-clause-pictures
+returns-clause-pictures c = pictures_of_models
+
+pub returns-clause-faults : goal.returns-clause-faults
+returns-clause-faults c = faults_stay

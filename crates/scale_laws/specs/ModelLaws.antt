@@ -37,6 +37,7 @@ pub record ComeToLarger (m : ℕ) (directory larger : Entries) (names : List Nam
   pub size : names_size larger names ≡ names_size directory names
   pub fault : prep_fault larger names ≡ prep_fault directory names
 
+-- so it is with every directory and all names
 abbrev pub ModelsScale : Type 0
 ModelsScale = (m : ℕ) (directory : Entries) (names : List Name) → 0 < m → ComeToLarger m directory (larger_directory m directory) names
 

@@ -10,3 +10,4 @@ pub mod Seen
 pub mod Expanded
 pub mod Models
 pub mod Faults
+pub mod Edited

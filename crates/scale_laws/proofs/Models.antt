@@ -85,7 +85,7 @@ headings_stay m place [] = refl
 headings_stay m place (region ∷ regions) = ap (λ hs. heading_of (region_at place region) ∷ hs) (headings_stay m (place + 1) regions)
 
 -- ---- faults
-is_there : {A B : Type 0} (f : A → B) (o : Option A) → is_some (option_map f o) ≡ is_some o
+pub is_there : {A B : Type 0} (f : A → B) (o : Option A) → is_some (option_map f o) ≡ is_some o
 is_there f None = refl
 is_there f (Some a) = refl
 

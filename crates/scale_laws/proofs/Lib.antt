@@ -11,3 +11,4 @@ pub mod Expanded
 pub mod Models
 pub mod Faults
 pub mod Edited
+pub mod Reported

@@ -73,7 +73,7 @@ body_larger m region some = record {
       (worlds_larger m (solids_of region.tree) some);
 }
 
-abbrev scene_from : ℕ → List NamedRegion → List Region
+abbrev pub scene_from : ℕ → List NamedRegion → List Region
 scene_from place regions = map (λ e. region_at e.0 e.1) (enumerate_from place regions)
 
 scene_larger : (m place : ℕ) (regions : List NamedRegion) → 0 < m → AreLargerRegions m (scene_from place regions) (scene_from place (map (larger_named m) regions))

@@ -59,7 +59,7 @@ chosen : {X : Type 0} (move : X → X) (b : Bool) (x : X) (o : Option X) → con
 chosen move true x o = refl
 chosen move false x o = refl
 
-find_moved : {X : Type 0} (f g : X → Bool) (move : X → X) (xs : List X) → ((x : X) → f (move x) ≡ g x) → find f (map move xs) ≡ option_map move (find g xs)
+pub find_moved : {X : Type 0} (f g : X → Bool) (move : X → X) (xs : List X) → ((x : X) → f (move x) ≡ g x) → find f (map move xs) ≡ option_map move (find g xs)
 find_moved f g move [] same = refl
 find_moved f g move (x ∷ xs) same =
     ap (λ b. cond b (Some (move x)) (find f (map move xs))) (same x) ∙ (ap (λ o. cond (g x) (Some (move x)) o) (find_moved f g move xs same) ∙ chosen move (g x) x (find g xs))
@@ -142,7 +142,7 @@ point_scaled m corner dir a b cell =
 abbrev along : Dir → V3 → Ray
 along dir origin = record { origin = origin; dir = dir }
 
-ray_larger : (m : ℕ) (view : View) (column row : ℕ) → pixel_ray (larger_view m view) column row ≡ larger_ray m (pixel_ray view column row)
+pub ray_larger : (m : ℕ) (view : View) (column row : ℕ) → pixel_ray (larger_view m view) column row ≡ larger_ray m (pixel_ray view column row)
 ray_larger m view column row = ap (along view.dir) (point_scaled (pos m) view.corner view.dir (pos column) (pos row) view.cell)
 
 pub pictures_stay : PicturesStay

@@ -13,12 +13,18 @@ use Rattle.directory.specs.declared.fault.DirFault.{DirFault}
 use Rattle.directory.specs.Edits.{appended, replaced, removed, renamed_all, put_fault, replace_fault, remove_fault, rename_fault}
 use Rattle.directory.specs.Walks.{Entries, IsSound}
 use Rattle.ppm_write.specs.Pictures.{block_bytes, whole_span}
+use Rattle.surd_order.specs.declared.position.Pos.{Pos}
 use Rattle.prim_arb8.specs.Faces.{first_fault, cases_of}
 use Rattle.shot_core.specs.Regions.{Region}
+use Rattle.shot_core.specs.Pruned.{by_place}
+use Rattle.shot_core.specs.Shots.{overlaps_on_up_to}
+use Rattle.shot_core.specs.declared.pair.Pair.{Pair}
 use Rattle.tile_shot.specs.Pixels.{part_of, pixel_up_to, view_bytes}
+use Rattle.tile_shot.specs.Reports.{Spot, CheckedRay, spots_of, report_on, view_report}
 use Rattle.scene_prep.specs.Outcomes.{prep_fault}
 use Rattle.scene_prep.specs.Scenes.{scene_of}
 use Rattle.scene_prep.specs.Sizes.{names_size}
+use Rattle.order_laws.specs.Times.{enlarged}
 use Rattle.scale_laws.specs.Scenes.{AreLargerRegions, larger_view}
 use Rattle.scale_laws.specs.SceneLaws.{ScalesToTenths, millimetre}
 use Rattle.scale_laws.specs.Models.{larger_object, larger_directory}
@@ -59,6 +65,23 @@ RaysOfModelsScaleToTenths = (far : ℤ) (directory : Entries) (names : List Name
 abbrev pub PicturesOfModelsStay : Type 0
 PicturesOfModelsStay = (far : ℤ) (directory : Entries) (names : List Name) (view : View) → FAR ≡ MILLIMETRE *ℤ far
     → view_bytes (scene_of (larger_directory millimetre directory) names) (larger_view millimetre view) ≡ view_bytes_up_to far (scene_of directory names) view
+
+-- a ray of a view that ends so far, and the overlaps on it by the places of their regions
+abbrev pub checked_ray_up_to : ℤ → List Region → View → Spot → CheckedRay
+checked_ray_up_to far regions view spot = record { spot = spot; runs = map (by_place regions) (overlaps_on_up_to far regions (pixel_ray view spot.column spot.row)) }
+
+-- the report of a whole view, where rays end so far
+abbrev pub view_report_up_to : ℤ → List Region → View → List Pair
+view_report_up_to far regions view = report_on (map (λ r. r.place) regions) (map (checked_ray_up_to far regions view) (spots_of (whole_span view)))
+
+-- a pair with the ends of its first overlap moved
+abbrev pub moved_pair : (Pos → Pos) → Pair → Pair
+moved_pair move pair = record pair { start = move pair.start; end = move pair.end }
+
+-- and each report of a view of names has the pairs that it had, with as many rays and the same first ones, where they overlap ten times as far
+abbrev pub ReportsOfModelsScaleToTenths : Type 0
+ReportsOfModelsScaleToTenths = (far : ℤ) (directory : Entries) (names : List Name) (view : View) → FAR ≡ MILLIMETRE *ℤ far
+    → view_report (scene_of (larger_directory millimetre directory) names) (larger_view millimetre view) ≡ map (moved_pair (enlarged millimetre)) (view_report_up_to far (scene_of directory names) view)
 
 -- vertices that lie so many times as far make a solid where these do, and have else the same first fault
 abbrev pub FaultsStay : Type 0

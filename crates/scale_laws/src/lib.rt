@@ -5,7 +5,7 @@
 
 ghost use Rattle.scale_laws.specs.Laws.{SegmentsScale, LevelsStay, SolidsScale, PlacementsScale};
 ghost use Rattle.scale_laws.specs.SceneLaws.{InstancesScale, ScenesScale, PicturesStay, PicturesStayInTenths, RaysScaleToTenths};
-ghost use Rattle.scale_laws.specs.ModelLaws.{ModelsScale, RaysOfModelsScaleToTenths, PicturesOfModelsStay, FaultsStay, EditsStay};
+ghost use Rattle.scale_laws.specs.ModelLaws.{ModelsScale, RaysOfModelsScaleToTenths, PicturesOfModelsStay, ReportsOfModelsScaleToTenths, FaultsStay, EditsStay};
 
 /// The law of scale for solids. The function does nothing: its contract is the law.
 pub fn scale_law()
@@ -39,12 +39,13 @@ pub fn tenths_law()
 /// The law of scale for models: the names of a directory whose lengths are all so many times as large come to the same
 /// regions, as many times as large; the directory is sound where the other one is, and takes and refuses the same edits; and
 /// vertices have the same faults. From millimetres to tenths, what a ray of today's length has of these regions is what a ray
-/// of a tenth of the length had, ten times as far, and every picture has the same bytes. The function does nothing: its
-/// contract is the law.
+/// of a tenth of the length had, ten times as far; every picture has the same bytes, and every report the same pairs. The
+/// function does nothing: its contract is the law.
 pub fn model_law()
     ensures regions { ModelsScale }
     ensures rays { RaysOfModelsScaleToTenths }
     ensures pictures { PicturesOfModelsStay }
+    ensures reports { ReportsOfModelsScaleToTenths }
     ensures faults { FaultsStay }
     ensures edits { EditsStay }
 {}

@@ -1,6 +1,7 @@
 use Rattle.scale_laws.proofs.Models.{models_scale, rays_of_models, pictures_of_models}
 use Rattle.scale_laws.proofs.Faults.{faults_stay}
 use Rattle.scale_laws.proofs.Edited.{edits_stay}
+use Rattle.scale_laws.proofs.Reported.{reports_of_models}
 use Rattle.scale_laws.proofs.model_law.Goals as goal
 
 pub returns-clause-regions : goal.returns-clause-regions
@@ -17,3 +18,6 @@ returns-clause-faults c = faults_stay
 
 pub returns-clause-edits : goal.returns-clause-edits
 returns-clause-edits c = edits_stay
+
+pub returns-clause-reports : goal.returns-clause-reports
+returns-clause-reports c = reports_of_models

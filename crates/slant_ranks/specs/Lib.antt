@@ -1,0 +1,3 @@
+pub mod Slants
+pub mod Laws
+pub mod Examples

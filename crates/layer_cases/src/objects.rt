@@ -1,16 +1,14 @@
-//! Rows of texts, parts of commands, directories and devices. Each asks for one or more calls.
+//! Rows of texts, refusals, directories and devices. Each asks for one or more calls.
 
 mod attributes;
-mod bodies;
-mod commands;
 mod devices;
 mod directories;
+mod refusals;
 mod script;
 mod shown;
 mod texts;
 mod words;
 
-use bodies::Transcripts;
 use case_text::{CaseFault, Shown};
 use devices::{no_shelf, no_sink, no_source};
 use directories::Directories;
@@ -21,7 +19,6 @@ use std::alloc::Global;
 pub fn answer(alloc: Global, kind: &str, given: &[u8], out: &mut Shown) -> Result<(), CaseFault> {
     match kind {
         "directory" => run_steps(alloc, &mut Directories::new(alloc), given, out),
-        "transcript" => run_steps(alloc, &mut Transcripts::new(alloc), given, out),
         "source" => run_steps(alloc, &mut no_source(alloc), given, out),
         "sink" => run_steps(alloc, &mut no_sink(alloc)?, given, out),
         "shelf" => run_steps(alloc, &mut no_shelf(alloc), given, out),
@@ -55,16 +52,12 @@ fn answer_item(alloc: Global, kind: &str, given: &[u8], out: &mut Shown) -> Resu
     }
 }
 
-/// Answers a row of attributes, refusals or parts of commands, or hands it on.
+/// Answers a row of attributes or refusals, or hands it on.
 fn answer_part(alloc: Global, kind: &str, given: &[u8], out: &mut Shown) -> Result<(), CaseFault> {
     match kind {
         "new-attributes" => attributes::answer_new(given, out),
         "set" => attributes::answer_set(given, out),
-        "refusal" => commands::answer_refusal(given, out),
-        "title" => commands::answer_title(alloc, given, out),
-        "pairs" => commands::answer_pairs(alloc, given, out),
-        "setting" => commands::answer_setting(alloc, given, out),
-        "in-world" => commands::answer_in_world(alloc, given, out),
+        "refusal" => refusals::answer_refusal(given, out),
         _ => answer_word(kind, given, out),
     }
 }

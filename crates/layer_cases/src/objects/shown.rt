@@ -1,7 +1,6 @@
 //! What rows show of attributes, and of answers that are yes or no.
 
 use case_text::Shown;
-use object_set::KeptAttr;
 use region_attr::{Attr, Rgb};
 
 /// Puts in `yes` or `no`.
@@ -50,19 +49,4 @@ pub fn put_attr(attr: &Attr, out: &mut Shown) {
     put_colour(attr.rgb, out);
     out.put(b" inherit ");
     put_truth(attr.inherit, out);
-}
-
-/// Puts in the kept attributes behind ` kept `, parted by `,`, or nothing.
-pub fn put_kept(kept: &[KeptAttr], out: &mut Shown) {
-    if !kept.is_empty() {
-        out.put(b" kept ");
-    }
-    for (turn, pair) in kept.iter().enumerate() {
-        if turn > 0 {
-            out.put_byte(b',');
-        }
-        out.put(pair.name.bytes());
-        out.put_byte(b'=');
-        out.put(pair.value.items());
-    }
 }

@@ -1,13 +1,9 @@
-//! The parts of commands, and the texts of refusals.
+//! The texts of refusals.
 
-use crate::objects::attributes::put_fault;
-use crate::objects::shown::{put_kept, put_truth};
-use crate::objects::words::{kept_pairs_of, name_of, parted};
-use case_text::{CaseFault, Shown, first_word, number_of, numbers_of};
-use command_set::{Refusal, RefusalText, Setting, TitleText, ViewFault, WorldRay};
-use lattice_core::{Dir, Ray, V3};
+use crate::objects::words::name_of;
+use case_text::{CaseFault, Shown, first_word, number_of};
+use command_set::{Refusal, RefusalText, ViewFault};
 use plane_geom::ShapeFault;
-use std::alloc::Global;
 
 /// A number below 2^32.
 fn count_of(word: &[u8]) -> Result<u32, CaseFault> {
@@ -133,78 +129,5 @@ pub fn answer_refusal(given: &[u8], out: &mut Shown) -> Result<(), CaseFault> {
     text.push(b"old");
     refusal.write_text(&mut text);
     out.put(text.bytes());
-    Ok(())
-}
-
-/// `title TEXT`: the title of a text, or `none`.
-pub fn answer_title(alloc: Global, given: &[u8], out: &mut Shown) -> Result<(), CaseFault> {
-    match TitleText::of_vec(Vec::from_slice(alloc, given)?) {
-        Some(title) => {
-            out.put(b"title ");
-            out.put(title.bytes());
-        }
-        None => out.put(b"none"),
-    }
-    Ok(())
-}
-
-/// `pairs PAIRS`: attributes that are to be kept, as `maker=hand,part=7`, or `none`.
-pub fn answer_pairs(alloc: Global, given: &[u8], out: &mut Shown) -> Result<(), CaseFault> {
-    match kept_pairs_of(alloc, given)? {
-        Some(pairs) => {
-            out.put(b"pairs");
-            put_kept(pairs.items(), out);
-        }
-        None => out.put(b"none"),
-    }
-    Ok(())
-}
-
-/// `setting KEY=VALUE`: the setting of an attribute, or why there is none.
-pub fn answer_setting(alloc: Global, given: &[u8], out: &mut Shown) -> Result<(), CaseFault> {
-    let (key, value) = parted(given, b'=')?;
-    match Setting::of_parts(name_of(key)?, Vec::from_slice(alloc, value)?) {
-        Ok(setting) => {
-            out.put(setting.key().bytes());
-            out.put_byte(b'=');
-            out.put(setting.value());
-        }
-        Err(fault) => put_fault(fault, out),
-    }
-    Ok(())
-}
-
-/// A coordinate of 64 bits.
-fn coordinate_of(number: i128) -> Result<i64, CaseFault> {
-    match i64::try_from(number) {
-        Ok(number) => Ok(number),
-        Err(_) => Err(CaseFault::Number),
-    }
-}
-
-/// The point of three numbers.
-fn point_of(alloc: Global, given: &[u8]) -> Result<V3, CaseFault> {
-    let numbers = numbers_of(alloc, given)?;
-    let [x, y, z] = *numbers.as_slice() else {
-        return Err(CaseFault::Line);
-    };
-    Ok(V3 {
-        x: coordinate_of(x)?,
-        y: coordinate_of(y)?,
-        z: coordinate_of(z)?,
-    })
-}
-
-/// `in-world X Y Z`: whether a ray may start there.
-pub fn answer_in_world(alloc: Global, given: &[u8], out: &mut Shown) -> Result<(), CaseFault> {
-    let origin = point_of(alloc, given)?;
-    let ray = Ray {
-        origin,
-        dir: Dir::PlusX,
-    };
-    match WorldRay::of_ray(ray) {
-        Some(started) => put_truth(started.ray() == ray, out),
-        None => out.put(b"no"),
-    }
     Ok(())
 }

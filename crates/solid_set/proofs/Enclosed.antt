@@ -29,8 +29,15 @@ use Rattle.plane_geom.specs.Planes.{PlaneHolds, placed_plane, slope_on, start_on
 use Rattle.plane_geom.proofs.Cross.{sub_mul}
 use Rattle.prim_arb8.specs.Faces.{box_plane, outward_face, vertex_at}
 use Rattle.prim_sphere.proofs.Bounds.{holds_points}
+use Rattle.prim_rcc.specs.declared.rcc.RccFaces.{RccFaces}
+use Rattle.prim_rcc.specs.Cylinders.{base_plane, top_plane, placed_cylinder, round_side}
+use Rattle.prim_rcc.proofs.Axial.{turned_has_one}
+use Rattle.prim_rcc.proofs.Boxing.{holds_points as holds_cylinder}
+use Rattle.prim_rcc.proofs.Planes.{faces_placed}
+use Rattle.prim_rcc.proofs.Rounds.{held_around}
 use Rattle.solid_set.specs.declared.solid.Solid.{Solid}
 use Rattle.solid_set.specs.declared.solid.Solid.TheVariants as solids
+use Rattle.solid_set.specs.declared.surface.Surface.TheVariants.{Cylinder}
 use Rattle.solid_set.specs.declared.surface.Surface.{Surface}
 use Rattle.prim_arb8.specs.Bounds.{reach_of, farthest, box_of}
 use Rattle.solid_set.specs.Surfaces.{AllHold, IsInside, IsMade, IsLawful, HoldsInside, surface_of, bounds_of}
@@ -168,6 +175,15 @@ solid_enclosed : (solid : Solid) (by : Placement) → IsLawful solid → HoldsIn
 solid_enclosed (solids.Arb8 solid) by lawful = arb8_enclosed by solid.vertices
 solid_enclosed (solids.Sphere sphere) by lawful = λ ray p q some inside. holds_points (placed by sphere.centre) sphere.radius lawful.radius_size (scaled_point ray p q) q some inside
 solid_enclosed (solids.Half half) by lawful = λ ray p q some inside. ((tt, tt), (tt, tt), (tt, tt))
+solid_enclosed (solids.Rcc rcc) by lawful =
+    subst (λ (faces : RccFaces). HoldsInside (Cylinder faces) (bounds_of (solids.Rcc rcc) by)) (sym (faces_placed by rcc by.turn.in_range lawful.axis))
+    (λ ray p q some inside.
+    holds_cylinder (placed by rcc.base) (turned by.turn.number rcc.height) rcc.radius
+    (turned_has_one by.turn.number rcc.height by.turn.in_range lawful.axis) lawful.radius_size (scaled_point ray p q) q some (record {
+      above = held_below (base_plane (placed_cylinder by rcc)) ray p q some inside.0;
+      below = held_below (top_plane (placed_cylinder by rcc)) ray p q some inside.1;
+      around = held_around (round_side (placed_cylinder by rcc)) ray.origin (unit_of ray.dir) p q inside.2;
+    }))
 
 made_enclosed : (surface : Surface) (bounds : Box3) → IsMade surface bounds → HoldsInside surface bounds
 made_enclosed surface bounds made =

@@ -17,8 +17,15 @@ use Rattle.lattice_core.specs.contracts.extent.ExtentPartialEq.TheImpl as extent
 use Rattle.lattice_core.specs.contracts.boxes.Box3PartialEq.TheImpl as boxes
 use Rattle.plane_geom.specs.declared.plane.Plane.{Plane}
 use Rattle.plane_geom.specs.contracts.plane.PlanePartialEq.TheImpl as planes
+use Rattle.prim_rcc.specs.declared.axis.Axis.{Axis}
+use Rattle.prim_rcc.specs.declared.axis.Axis.TheVariants.{X, Y, Z}
+use Rattle.prim_rcc.specs.declared.rcc.RccFaces.{RccFaces}
+use Rattle.prim_rcc.specs.declared.side.RoundSide.{RoundSide}
+use Rattle.prim_rcc.specs.contracts.axis.AxisPartialEq.TheImpl as axes
+use Rattle.prim_rcc.specs.contracts.rcc.RccFacesPartialEq.TheImpl as cylinders
+use Rattle.prim_rcc.specs.contracts.side.RoundSidePartialEq.TheImpl as rounds
 use Rattle.solid_set.specs.declared.surface.Surface.{Surface}
-use Rattle.solid_set.specs.declared.surface.Surface.TheVariants.{Planes, HalfSpace, Ball}
+use Rattle.solid_set.specs.declared.surface.Surface.TheVariants.{Planes, HalfSpace, Ball, Cylinder}
 use Rattle.solid_set.specs.contracts.surface.SurfacePartialEq.TheImpl as surfaces
 
 same_vector : (a b : V3) → a.x ≡ b.x → a.y ≡ b.y → a.z ≡ b.z → a ≡ b
@@ -47,35 +54,79 @@ abbrev faces_in : List (Option Plane) → Surface → List (Option Plane)
 faces_in other (Planes faces) = faces
 faces_in other (HalfSpace plane) = other
 faces_in other (Ball centre radius) = other
+faces_in other (Cylinder faces) = other
 
 abbrev plane_in : Plane → Surface → Plane
 plane_in other (Planes faces) = other
 plane_in other (HalfSpace plane) = plane
 plane_in other (Ball centre radius) = other
+plane_in other (Cylinder faces) = other
 
 abbrev centre_in : V3 → Surface → V3
 centre_in other (Planes faces) = other
 centre_in other (HalfSpace plane) = other
 centre_in other (Ball centre radius) = centre
+centre_in other (Cylinder faces) = other
 
 abbrev radius_in : ℤ → Surface → ℤ
 radius_in other (Planes faces) = other
 radius_in other (HalfSpace plane) = other
 radius_in other (Ball centre radius) = radius
+radius_in other (Cylinder faces) = other
+
+abbrev cylinder_in : RccFaces → Surface → RccFaces
+cylinder_in other (Planes faces) = other
+cylinder_in other (HalfSpace plane) = other
+cylinder_in other (Ball centre radius) = other
+cylinder_in other (Cylinder faces) = faces
+
+axis_decides : (a b : Axis) → Decides (axes.eq-value.it a b) (a ≡ b)
+axis_decides X X = (λ h. refl, λ e. refl)
+axis_decides X Y = (λ h. cc, λ e. cc)
+axis_decides X Z = (λ h. cc, λ e. cc)
+axis_decides Y X = (λ h. cc, λ e. cc)
+axis_decides Y Y = (λ h. refl, λ e. refl)
+axis_decides Y Z = (λ h. cc, λ e. cc)
+axis_decides Z X = (λ h. cc, λ e. cc)
+axis_decides Z Y = (λ h. cc, λ e. cc)
+axis_decides Z Z = (λ h. refl, λ e. refl)
+
+same_round : (a b : RoundSide) → a.centre ≡ b.centre → a.axis ≡ b.axis → a.radius ≡ b.radius → a ≡ b
+same_round a b p q r = λ i. record { centre = p i; axis = q i; radius = r i }
+
+round_decides : (a b : RoundSide) → Decides (rounds.eq-value.it a b) (a ≡ b)
+round_decides a b =
+    Decides-like _ (λ h. same_round a b h.0 h.1.0 h.1.1) (λ e. (ap (λ (s : RoundSide). s.centre) e, (ap (λ (s : RoundSide). s.axis) e, ap (λ (s : RoundSide). s.radius) e)))
+    (Decides-and _ _ (vector_decides a.centre b.centre) (Decides-and _ _ (axis_decides a.axis b.axis) (Decides-int_eq a.radius b.radius)))
+
+same_cylinder : (a b : RccFaces) → a.base ≡ b.base → a.top ≡ b.top → a.side ≡ b.side → a ≡ b
+same_cylinder a b p q r = λ i. record { base = p i; top = q i; side = r i }
+
+cylinder_decides : (a b : RccFaces) → Decides (cylinders.eq-value.it a b) (a ≡ b)
+cylinder_decides a b =
+    Decides-like _ (λ h. same_cylinder a b h.0 h.1.0 h.1.1) (λ e. (ap (λ (s : RccFaces). s.base) e, (ap (λ (s : RccFaces). s.top) e, ap (λ (s : RccFaces). s.side) e)))
+    (Decides-and _ _ (plane_decides a.base b.base) (Decides-and _ _ (plane_decides a.top b.top) (round_decides a.side b.side)))
 
 pub surface_decides : (a b : Surface) → Decides (surfaces.eq-value.it a b) (a ≡ b)
 surface_decides (Planes xs) (Planes ys) =
     Decides-like _ (λ e. ap Planes e) (λ e. ap (faces_in xs) e) (slice_eq-Decides face_decides xs ys (pointwise (option_eq planes.eq-value.it) xs ys) refl)
 surface_decides (Planes xs) (HalfSpace q) = (λ h. cc, λ e. cc)
 surface_decides (Planes xs) (Ball d s) = (λ h. cc, λ e. cc)
+surface_decides (Planes xs) (Cylinder g) = (λ h. cc, λ e. cc)
 surface_decides (HalfSpace p) (Planes ys) = (λ h. cc, λ e. cc)
 surface_decides (HalfSpace p) (HalfSpace q) = Decides-like _ (λ e. ap HalfSpace e) (λ e. ap (plane_in p) e) (plane_decides p q)
 surface_decides (HalfSpace p) (Ball d s) = (λ h. cc, λ e. cc)
+surface_decides (HalfSpace p) (Cylinder g) = (λ h. cc, λ e. cc)
 surface_decides (Ball c r) (Planes ys) = (λ h. cc, λ e. cc)
 surface_decides (Ball c r) (HalfSpace q) = (λ h. cc, λ e. cc)
+surface_decides (Ball c r) (Cylinder g) = (λ h. cc, λ e. cc)
 surface_decides (Ball c r) (Ball d s) =
     Decides-like _ (λ h. ap (λ (x : V3). Ball x r) h.0 ∙ ap (λ (x : ℤ). Ball d x) h.1) (λ e. (ap (centre_in c) e, ap (radius_in r) e))
     (Decides-and _ _ (vector_decides c d) (Decides-int_eq r s))
+surface_decides (Cylinder f) (Planes ys) = (λ h. cc, λ e. cc)
+surface_decides (Cylinder f) (HalfSpace q) = (λ h. cc, λ e. cc)
+surface_decides (Cylinder f) (Ball d s) = (λ h. cc, λ e. cc)
+surface_decides (Cylinder f) (Cylinder g) = Decides-like _ (λ e. ap Cylinder e) (λ e. ap (cylinder_in f) e) (cylinder_decides f g)
 
 abbrev height_in : ℤ → Side → ℤ
 height_in other Open = other

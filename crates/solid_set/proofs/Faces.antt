@@ -41,7 +41,7 @@ cut_here ray n plane sides steep =
     let none : n - n ≡ 0 = omega arith in
     inr (record { plane = plane; from = omega arith; is = ap (λ (k : ℕ). slice_index_or (Some plane ∷ sides) k None) none; steep = steep })
 
-found_cut : (ray : Ray) (n : ℕ) (sides : List (Option Plane)) (b : Bool) (c : Crossed) (o : Option Crossed) → IsCutOrNone ray n sides c.face → IsCutOrNone ray n sides (face_or_none o)
+pub found_cut : (ray : Ray) (n : ℕ) (sides : List (Option Plane)) (b : Bool) (c : Crossed) (o : Option Crossed) → IsCutOrNone ray n sides c.face → IsCutOrNone ray n sides (face_or_none o)
     → IsCutOrNone ray n sides (face_or_none (cond b (Some c) o))
 found_cut ray n sides true c o h g = h
 found_cut ray n sides false c o h g = g
@@ -62,25 +62,25 @@ left_cut ray n plane sides test rest (Leaves r s) h more =
 left_cut ray n plane sides test rest Holds h more = more
 left_cut ray n plane sides test rest Misses h more = more
 
-entering_cut : (ray : Ray) (test : Crossed → Bool) (n : ℕ) (sides : List (Option Plane)) → IsCutOrNone ray n sides (face_or_none (find test (entering_from ray n sides)))
+pub entering_cut : (ray : Ray) (test : Crossed → Bool) (n : ℕ) (sides : List (Option Plane)) → IsCutOrNone ray n sides (face_or_none (find test (entering_from ray n sides)))
 entering_cut ray test n [] = inl refl
 entering_cut ray test n (None ∷ sides) = cut_later ray n None sides _ (entering_cut ray test (n + 1) sides)
 entering_cut ray test n (Some plane ∷ sides) =
     entered_cut ray n plane sides test (entering_from ray (n + 1) sides) (crossing_of plane ray) (crossing_is plane ray)
     (cut_later ray n (Some plane) sides _ (entering_cut ray test (n + 1) sides))
 
-leaving_cut : (ray : Ray) (test : Crossed → Bool) (n : ℕ) (sides : List (Option Plane)) → IsCutOrNone ray n sides (face_or_none (find test (leaving_from ray n sides)))
+pub leaving_cut : (ray : Ray) (test : Crossed → Bool) (n : ℕ) (sides : List (Option Plane)) → IsCutOrNone ray n sides (face_or_none (find test (leaving_from ray n sides)))
 leaving_cut ray test n [] = inl refl
 leaving_cut ray test n (None ∷ sides) = cut_later ray n None sides _ (leaving_cut ray test (n + 1) sides)
 leaving_cut ray test n (Some plane ∷ sides) =
     left_cut ray n plane sides test (leaving_from ray (n + 1) sides) (crossing_of plane ray) (crossing_is plane ray)
     (cut_later ray n (Some plane) sides _ (leaving_cut ray test (n + 1) sides))
 
-both_cut : (b : Bool) (P : ℕ → Type 0) (seg : Seg) (face : ℕ) → P seg.start_face → P seg.end_face → IsEndFace face (cond b (Some seg) None) → P face
+pub both_cut : (b : Bool) (P : ℕ → Type 0) (seg : Seg) (face : ℕ) → P seg.start_face → P seg.end_face → IsEndFace face (cond b (Some seg) None) → P face
 both_cut true P seg face h g at = elim at [ inl e ↦ subst P (sym e) h | inr e ↦ subst P (sym e) g ]
 both_cut false P seg face h g at = absurd at
 
-none_cut : (b : Bool) (P : ℕ → Type 0) (o : Option Seg) (face : ℕ) → (IsEndFace face o → P face) → IsEndFace face (cond b None o) → P face
+pub none_cut : (b : Bool) (P : ℕ → Type 0) (o : Option Seg) (face : ℕ) → (IsEndFace face o → P face) → IsEndFace face (cond b None o) → P face
 none_cut true P o face h at = absurd at
 none_cut false P o face h at = h at
 

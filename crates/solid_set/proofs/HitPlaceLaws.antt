@@ -14,7 +14,7 @@ use Rattle.lattice_core.specs.declared.ray.Ray.{Ray}
 use Rattle.lattice_core.specs.declared.vector.V3.{V3}
 use Rattle.lattice_core.specs.Placements.{placed}
 use Rattle.lattice_core.specs.Rays.{IsOnRay}
-use Rattle.lattice_core.proofs.Products.{mul_at_most, mul_below, square_at_least}
+use Rattle.lattice_core.proofs.Products.{mul_below, square_at_least}
 use Rattle.plane_geom.specs.declared.plane.Plane.{Plane}
 use Rattle.plane_geom.specs.declared.plane.Crossing.{Crossing}
 use Rattle.plane_geom.specs.declared.plane.Crossing.TheVariants.{Enters, Leaves, Holds, Misses}
@@ -23,7 +23,15 @@ use Rattle.plane_geom.specs.Planes.{placed_plane}
 use Rattle.prim_arb8.specs.Faces.{planes_of}
 use Rattle.prim_sphere.specs.Spheres.{squared, nearest_on, half_chord_squared, chord_of, IsNear}
 use Rattle.prim_sphere.proofs.Chords.{held_near}
-use Rattle.plane_geom.proofs.Squares.{square_none}
+use Rattle.plane_geom.proofs.Lines.{near_none}
+use Rattle.prim_rcc.specs.declared.rcc.RccFaces.{RccFaces}
+use Rattle.prim_rcc.specs.declared.side.RoundSide.{RoundSide}
+use Rattle.prim_rcc.specs.Cylinders.{faces_of, placed_faces}
+use Rattle.prim_rcc.specs.Sides.{SideHolds, apart_on, held_or_missed, through_or_missed, round_crossing}
+use Rattle.prim_rcc.proofs.Rounds.{a_on, k_on, runs_along, side_near, side_along}
+use Rattle.plane_geom.specs.Chords.{length_squared}
+use Rattle.solid_set.proofs.CylinderLaws.{has_parts, crossed_round}
+use Rattle.solid_set.proofs.InsideLaws.{missed_or}
 use Rattle.surd_order.specs.declared.position.Pos.{Pos}
 use Rattle.surd_order.specs.declared.position.Pos.TheVariants.{Frac, Surd}
 use Rattle.surd_order.specs.declared.position.Seg.{Seg}
@@ -38,11 +46,11 @@ use Rattle.solid_set.specs.declared.crossed.Crossed.{Crossed}
 use Rattle.solid_set.specs.declared.solid.Solid.{Solid}
 use Rattle.solid_set.specs.declared.solid.Solid.TheVariants as solids
 use Rattle.solid_set.specs.declared.surface.Surface.{Surface}
-use Rattle.solid_set.specs.declared.surface.Surface.TheVariants.{Planes, HalfSpace, Ball}
-use Rattle.solid_set.specs.Crossings.{entered, left, entering_from, leaving_from}
-use Rattle.solid_set.specs.HitPlaces.{crossing_places, side_places, root_places, surface_places, hit_places, IsAtOneOf, IsHitPlace, LiesBetweenEnds, EndsAreHitPlaces, TellsByHitPlaces}
+use Rattle.solid_set.specs.declared.surface.Surface.TheVariants.{Planes, HalfSpace, Ball, Cylinder}
+use Rattle.solid_set.specs.Crossings.{entered, left, entering_from, leaving_from, is_missed_by}
+use Rattle.solid_set.specs.HitPlaces.{crossing_places, side_places, root_places, round_places, surface_places, hit_places, IsAtOneOf, IsHitPlace, LiesBetweenEnds, EndsAreHitPlaces, TellsByHitPlaces}
 use Rattle.solid_set.specs.Laws.{TellsInside, IsSegInRange}
-use Rattle.solid_set.specs.Segments.{ray_start, ray_end, places_of, face_at, start_of, end_of, segment_between, segment_of, entering, leaving, is_missed, chord_end, is_no_chord}
+use Rattle.solid_set.specs.Segments.{ray_start, ray_end, places_of, face_at, start_of, end_of, segment_between, segment_of, entering, leaving, is_missed, chord_end, is_no_chord, caps_of, round_end, is_round_miss}
 use Rattle.solid_set.specs.Surfaces.{IsInside, IsMade, surface_of, placed_sides, plane_of_half}
 use Rattle.solid_set.proofs.BallLaws.{near_not_before}
 use Rattle.solid_set.proofs.Foremost.{Has}
@@ -85,15 +93,50 @@ chord_roots a (pos (suc k)) true x has = elim has [ inl e ↦ inr (inl e) | inr 
 chord_roots a (pos (suc k)) false x has = elim has [ inl e ↦ inl e | inr none ↦ absurd none ]
 chord_roots a (negsuc k) plus x has = absurd has
 
+-- those of a round side
+along_none : (k : ℤ) (plus : Bool) (x : Pos) → Has (places_of (round_end (held_or_missed k) plus)) x → ⊥
+along_none (pos zero) plus x has = has
+along_none (pos (suc k)) plus x has = has
+along_none (negsuc k) plus x has = has
+
+across_roots : (a k : ℤ) (plus : Bool) (x : Pos) → Has (places_of (round_end (through_or_missed (chord_of a k)) plus)) x → Has (root_places a k) x
+across_roots a (pos zero) plus x has = absurd has
+across_roots a (pos (suc k)) true x has = elim has [ inl e ↦ inr (inl e) | inr none ↦ absurd none ]
+across_roots a (pos (suc k)) false x has = elim has [ inl e ↦ inl e | inr none ↦ absurd none ]
+across_roots a (negsuc k) plus x has = absurd has
+
+round_roots : (a k along : ℤ) (plus : Bool) (x : Pos) (b : Bool) → Has (places_of (round_end (cond b (held_or_missed along) (through_or_missed (chord_of a k))) plus)) x → Has (cond b [] (root_places a k)) x
+round_roots a k along plus x true has = along_none along plus x has
+round_roots a k along plus x false has = across_roots a k plus x has
+
+round_among : (side : RoundSide) (ray : Ray) (plus : Bool) (x : Pos) → Has (places_of (round_end (round_crossing side ray) plus)) x → Has (round_places side ray) x
+round_among side ray plus x has = round_roots (a_on side ray) (k_on side ray) (squared side.radius -ℤ length_squared (apart_on side ray.origin)) plus x (runs_along side ray) has
+
+has_before : (xs ys : List Pos) (x : Pos) → Has xs x → Has (xs ++ ys) x
+has_before [] ys x has = absurd has
+has_before (y ∷ xs) ys x has = elim has [ inl e ↦ inl e | inr more ↦ inr (has_before xs ys x more) ]
+
+has_after : (xs ys : List Pos) (x : Pos) → Has ys x → Has (xs ++ ys) x
+has_after [] ys x has = has
+has_after (y ∷ xs) ys x has = inr (has_after xs ys x has)
+
 entering_among : (surface : Surface) (ray : Ray) (x : Pos) → Has (places_of (entering surface ray)) x → Has (surface_places surface ray) x
 entering_among (Planes sides) ray x has = entering_sides ray 1 sides x has
 entering_among (HalfSpace plane) ray x has = entering_sides ray 1 (Some plane ∷ []) x has
 entering_among (Ball c r) ray x has = chord_roots (nearest_on c ray) (half_chord_squared c r ray) false x has
+entering_among (Cylinder faces) ray x has = elim (has_parts (entering_from ray 1 (caps_of faces)) (round_end (crossed_round faces ray) false) x has) [
+  | inl cap ↦ has_before (side_places ray (caps_of faces)) (round_places faces.side ray) x (entering_sides ray 1 (caps_of faces) x cap)
+  | inr round ↦ has_after (side_places ray (caps_of faces)) (round_places faces.side ray) x (round_among faces.side ray false x round)
+]
 
 leaving_among : (surface : Surface) (ray : Ray) (x : Pos) → Has (places_of (leaving surface ray)) x → Has (surface_places surface ray) x
 leaving_among (Planes sides) ray x has = leaving_sides ray 1 sides x has
 leaving_among (HalfSpace plane) ray x has = leaving_sides ray 1 (Some plane ∷ []) x has
 leaving_among (Ball c r) ray x has = chord_roots (nearest_on c ray) (half_chord_squared c r ray) true x has
+leaving_among (Cylinder faces) ray x has = elim (has_parts (leaving_from ray 1 (caps_of faces)) (round_end (crossed_round faces ray) true) x has) [
+  | inl cap ↦ has_before (side_places ray (caps_of faces)) (round_places faces.side ray) x (leaving_sides ray 1 (caps_of faces) x cap)
+  | inr round ↦ has_after (side_places ray (caps_of faces)) (round_places faces.side ray) x (round_among faces.side ray true x round)
+]
 
 start_among : (surface : Surface) (ray : Ray) (x : Pos) → Has (ray_start ∷ places_of (entering surface ray)) x → Has (hit_places surface ray) x
 start_among surface ray x has = elim has [ inl e ↦ inl e | inr more ↦ inr (inr (entering_among surface ray x more)) ]
@@ -141,19 +184,10 @@ within_ends es ls f ends place h =
       is_kept_by_same_place.after f (end_of ls) (spelled (end_of ls)) h.before (same_symm _ _ (is_one_spelling.place (end_of ls) ends.end_place)),
     )
 
--- a ball that has no chord is met at one place at most
-near_whole : (a k p q : ℤ) → k ≤ℤ pos 0 → IsNear a k p q → p ≡ a *ℤ q
-near_whole a k p q low near =
-    let above : (k *ℤ squared q) ≤ℤ (pos 0 *ℤ squared q) = mul_at_most k (pos 0) (squared q) (square_at_least q) low in
-    let gone : p -ℤ (a *ℤ q) ≡ pos 0 = square_none (p -ℤ (a *ℤ q)) (under (squared (p -ℤ (a *ℤ q))) (k *ℤ squared q) (squared q) near above) in
-    omega (arith, ints, gone)
-  where
-    under : (x y z : ℤ) → x ≤ℤ y → y ≤ℤ (pos 0 *ℤ z) → x ≤ℤ pos 0
-    under x y z one two = omega (arith, ints)
-
+-- a ball or a round side that has no chord is met at one place at most
 at_touch : (a p q : ℤ) → pos 0 <ℤ q → IsNear a (pos 0) p q → SamePlace (Frac p q) (Surd a false 0)
 at_touch a p q some near =
-    let whole : p ≡ a *ℤ q = near_whole a (pos 0) p q (omega (arith, ints)) near in
+    let whole : p ≡ a *ℤ q = near_none a (pos 0) p q (omega (arith, ints)) near in
     record {
       not_before = near_not_before a p q 0 some near;
       not_after = not_before_fraction (Surd a false 0) p q tt some (omega (arith, ints, whole), none (squared q) ((a *ℤ q) -ℤ p) (omega (arith, ints, whole)));
@@ -173,10 +207,40 @@ touched a (pos zero) p q some e near = inl (at_touch a p q some near)
 touched a (pos (suc k)) p q some e near = absurd (let f : false ≡ true = e in cc)
 touched a (negsuc k) p q some e near = absurd (not_near a k p q some near)
 
+-- what a round side that is missed holds is where it is touched
+no_chord_missed : (a k : ℤ) → is_round_miss (through_or_missed (chord_of a k)) ≡ true → is_no_chord (chord_of a k) ≡ true
+no_chord_missed a (pos zero) e = refl
+no_chord_missed a (pos (suc k)) e = e
+no_chord_missed a (negsuc k) e = refl
+
+not_held : (k r l : ℤ) → k ≡ r -ℤ l → is_round_miss (held_or_missed k) ≡ true → ¬ (l <ℤ r)
+not_held (pos zero) r l is e = λ lt. omega (arith, ints, is, lt)
+not_held (pos (suc k)) r l is e = absurd (let f : false ≡ true = e in cc)
+not_held (negsuc k) r l is e = λ lt. omega (arith, ints, is, lt)
+
+touched_by : (side : RoundSide) (ray : Ray) (p q : ℤ) → pos 0 <ℤ q → SideHolds side ray p q → (b : Bool) → runs_along side ray ≡ b
+    → is_round_miss (cond b (held_or_missed (squared side.radius -ℤ length_squared (apart_on side ray.origin))) (through_or_missed (chord_of (a_on side ray) (k_on side ray)))) ≡ true
+    → IsAtOneOf (cond b [] (root_places (a_on side ray) (k_on side ray))) (Frac p q)
+touched_by side ray p q some held true e missed =
+    absurd (not_held (squared side.radius -ℤ length_squared (apart_on side ray.origin)) (squared side.radius) (length_squared (apart_on side ray.origin)) refl missed ((side_along side ray p q e).0 held))
+touched_by side ray p q some held false e missed =
+    touched (a_on side ray) (k_on side ray) p q some (no_chord_missed (a_on side ray) (k_on side ray) missed) ((side_near side ray p q e).0 held)
+
+touched_round : (side : RoundSide) (ray : Ray) (p q : ℤ) → pos 0 <ℤ q → SideHolds side ray p q → is_round_miss (round_crossing side ray) ≡ true → IsAtOneOf (round_places side ray) (Frac p q)
+touched_round side ray p q some held missed = touched_by side ray p q some held (runs_along side ray) refl missed
+
+at_after : (xs ys : List Pos) (x : Pos) → IsAtOneOf ys x → IsAtOneOf (xs ++ ys) x
+at_after [] ys x at = at
+at_after (y ∷ xs) ys x at = inr (at_after xs ys x at)
+
 missed_hit : (surface : Surface) (ray : Ray) → is_missed surface ray ≡ true → (p q : ℤ) → pos 0 <ℤ q → IsInside surface ray p q → IsHitPlace surface ray (Frac p q)
 missed_hit (Planes sides) ray e p q some inside = absurd (missed_all ray sides e p q some inside)
 missed_hit (HalfSpace plane) ray e p q some inside = absurd (missed_all ray (Some plane ∷ []) e p q some (inside, tt))
 missed_hit (Ball c r) ray e p q some inside = inr (inr (touched (nearest_on c ray) (half_chord_squared c r ray) p q some e ((held_near c r ray p q).0 inside)))
+missed_hit (Cylinder faces) ray e p q some inside =
+    missed_or (is_missed_by ray (caps_of faces)) (is_round_miss (crossed_round faces ray)) (IsHitPlace (Cylinder faces) ray (Frac p q)) e
+    (λ missed. absurd (missed_all ray (caps_of faces) missed p q some (inside.0, (inside.1, tt))))
+    (λ missed. inr (inr (at_after (side_places ray (caps_of faces)) (round_places faces.side ray) (Frac p q) (touched_round faces.side ray p q some inside.2 missed))))
 
 -- what is inside and no hit lies within the segment
 into_by : (surface : Surface) (ray : Ray) (p q : ℤ) → IsOnRay p q → ¬ (IsHitPlace surface ray (Frac p q)) → IsInside surface ray p q → (missed : Bool) → is_missed surface ray ≡ missed
@@ -225,6 +289,16 @@ few_roots : (a k : ℤ) → length (root_places a k) ≤ 2
 few_roots a (pos k) = omega arith
 few_roots a (negsuc k) = omega arith
 
+few_round : (a k : ℤ) (b : Bool) → length (cond b [] (root_places a k)) ≤ 2
+few_round a k true = omega arith
+few_round a k false = few_roots a k
+
+few_faces : (faces : RccFaces) (ray : Ray) → length (surface_places (Cylinder faces) ray) ≤ 4
+few_faces faces ray =
+    let caps : length (side_places ray (caps_of faces)) ≤ 2 = few_sides ray (caps_of faces) in
+    let round : length (round_places faces.side ray) ≤ 2 = few_round (a_on faces.side ray) (k_on faces.side ray) (runs_along faces.side ray) in
+    omega (arith, length-append (side_places ray (caps_of faces)) (round_places faces.side ray), caps, round)
+
 abbrev twelve : Placement → List V3 → List (Option Plane)
 twelve by vertices = placed_sides by (planes_of vertices)
 
@@ -232,6 +306,7 @@ few_of : (solid : Solid) (by : Placement) (ray : Ray) → length (hit_places (su
 few_of (solids.Arb8 solid) by ray = omega (arith, few_sides ray (twelve by solid.vertices))
 few_of (solids.Sphere sphere) by ray = omega (arith, few_roots (nearest_on (placed by sphere.centre) ray) (half_chord_squared (placed by sphere.centre) sphere.radius ray))
 few_of (solids.Half half) by ray = omega (arith, few_sides ray (Some (placed_plane by (plane_of_half half)) ∷ []))
+few_of (solids.Rcc rcc) by ray = omega (arith, few_faces (placed_faces by (faces_of rcc)) ray)
 
 few_made : (surface : Surface) (bounds : Box3) (ray : Ray) → IsMade surface bounds → length (hit_places surface ray) ≤ 14
 few_made surface bounds ray made = subst (λ (s : Surface). length (hit_places s ray) ≤ 14) (sym made.surface_is) (few_of made.solid made.by ray)

@@ -85,7 +85,7 @@ held_more plane ray n p q some es ls P h Holds crossing e = record {
 }
 held_more plane ray n p q some es ls P h Misses crossing e = absurd (let f : true ≡ false = e in cc)
 
-none_of_or : (a b : Bool) → (a || b) ≡ false → (a ≡ false) × (b ≡ false)
+pub none_of_or : (a b : Bool) → (a || b) ≡ false → (a ≡ false) × (b ≡ false)
 none_of_or true b e = absurd (let f : true ≡ false = e in cc)
 none_of_or false b e = (refl, e)
 
@@ -104,7 +104,7 @@ missed_plane plane ray (Leaves r s) h e p q some = absurd (let f : false ≡ tru
 missed_plane plane ray Holds h e p q some = absurd (let f : false ≡ true = e in cc)
 missed_plane plane ray Misses h e p q some = h p q some
 
-missed_or : (a b : Bool) (P : Type 0) → (a || b) ≡ true → (a ≡ true → P) → (b ≡ true → P) → P
+pub missed_or : (a b : Bool) (P : Type 0) → (a || b) ≡ true → (a ≡ true → P) → (b ≡ true → P) → P
 missed_or true b P e f g = f refl
 missed_or false b P e f g = g e
 

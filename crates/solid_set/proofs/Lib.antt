@@ -9,6 +9,7 @@ pub mod InsideLaws
 pub mod SpelledRange
 pub mod SpanLaws
 pub mod BallLaws
+pub mod CylinderLaws
 pub mod SurfaceLaws
 pub mod Landing
 pub mod Enclosed

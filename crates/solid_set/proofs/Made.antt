@@ -17,8 +17,11 @@ use Rattle.prim_arb8.specs.Rpps.{IsMadeOf, rpp_vertices}
 use Rattle.prim_arb8.specs.Solids.{EightVertices}
 use Rattle.solid_set.specs.declared.solid.Solid.TheVariants as solids
 use Rattle.solid_set.specs.Rpps.{IsArb8Of}
-use Rattle.solid_set.specs.declared.surface.Surface.TheVariants.{Planes, HalfSpace, Ball}
-use Rattle.solid_set.specs.Surfaces.{IsBallSize, IsBallSized}
+use Rattle.solid_set.specs.declared.surface.Surface.TheVariants.{Planes, HalfSpace, Ball, Cylinder}
+use Rattle.prim_rcc.specs.declared.rcc.RccFaces.{RccFaces}
+use Rattle.prim_rcc.specs.Cylinders.{AreFacesSized}
+use Rattle.prim_rcc.specs.Sides.{IsSideSized}
+use Rattle.solid_set.specs.Surfaces.{IsBallSize, IsBallSized, HasSizedSide}
 use Rattle.lattice_core.specs.declared.limit.TheConstants.{COORD}
 
 pub one_side : (plane : Plane) → IsWorldPlane plane → All (λ (side : Option Plane). ForSome side IsWorldPlane) (Some plane ∷ [])
@@ -54,3 +57,27 @@ rpp_same h i j k l m = cc
 
 pub fitted : (z : ℤ) → FitsSigned w64 z → to_z w64 (of_z w64 z) ≡ z
 fitted z f = simp to_z-of_z refl
+
+pub no_side_planes : (sides : List (Option Plane)) → HasSizedSide (Planes sides)
+no_side_planes sides faces e = absurd (let different : Planes sides ≡ Cylinder faces = e in cc)
+
+pub no_side_half : (plane : Plane) → HasSizedSide (HalfSpace plane)
+no_side_half plane faces e = absurd (let different : HalfSpace plane ≡ Cylinder faces = e in cc)
+
+pub no_side_ball : (c : V3) (r : ℤ) → HasSizedSide (Ball c r)
+no_side_ball c r faces e = absurd (let different : Ball c r ≡ Cylinder faces = e in cc)
+
+pub no_ball_cylinder : (faces : RccFaces) → IsBallSized (Cylinder faces)
+no_ball_cylinder faces centre radius e = absurd (let different : Cylinder faces ≡ Ball centre radius = e in cc)
+
+pub cylinder_sized : (faces : RccFaces) → IsSideSized faces.side → HasSizedSide (Cylinder faces)
+cylinder_sized faces h other e = let same : faces ≡ other = cc in subst (λ (f : RccFaces). IsSideSized f.side) same h
+
+pub two_sides : (a b : Plane) → IsWorldPlane a → IsWorldPlane b → All (λ (side : Option Plane). ForSome side IsWorldPlane) (Some a ∷ Some b ∷ [])
+two_sides a b h g zero d lt x e = let same : a ≡ x = cc in subst IsWorldPlane same h
+two_sides a b h g (suc zero) d lt x e = let same : b ≡ x = cc in subst IsWorldPlane same g
+two_sides a b h g (suc (suc k)) d lt x e = absurd (omega arith)
+
+-- the sizes of the faces of a placed cylinder
+pub faces_sized : (faces : RccFaces) → All (λ (side : Option Plane). ForSome side IsWorldPlane) (Some faces.base ∷ Some faces.top ∷ []) → IsSideSized faces.side → AreFacesSized faces
+faces_sized faces all h = record { base_size = all 0 (Some faces.base) (omega arith) faces.base refl; top_size = all 1 (Some faces.base) (omega arith) faces.top refl; side_size = h }

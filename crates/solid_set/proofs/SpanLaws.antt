@@ -32,7 +32,7 @@ use Rattle.solid_set.proofs.Foremost.{Has, IsForemost, IsBest, face_is, foremost
 use Rattle.plane_geom.proofs.Unique.{crossing_is}
 use Rattle.solid_set.proofs.Spellings.{spelled_tie, ranged_place}
 
-append_none : (cs : List Crossed) → cs ++ [] ≡ cs
+pub append_none : (cs : List Crossed) → cs ++ [] ≡ cs
 append_none [] = refl
 append_none (c ∷ cs) = ap (λ (ds : List Crossed). c ∷ ds) (append_none cs)
 

@@ -27,15 +27,17 @@ use Rattle.surd_order.proofs.SpelledPlaces.{is_one_spelling}
 use Rattle.surd_order.proofs.PlaceOrderLaws.{places_are_compared}
 use Rattle.solid_set.specs.declared.crossed.Crossed.{Crossed}
 use Rattle.solid_set.specs.declared.surface.Surface.{Surface}
-use Rattle.solid_set.specs.declared.surface.Surface.TheVariants.{Planes, HalfSpace, Ball}
+use Rattle.solid_set.specs.declared.surface.Surface.TheVariants.{Planes, HalfSpace, Ball, Cylinder}
 use Rattle.solid_set.specs.Segments.{ray_start, ray_end, places_of, face_at, start_of, end_of, segment_between, segment_of, entering, leaving, is_missed, chord_end, is_no_chord}
 use Rattle.solid_set.specs.Spans.{IsSpanInRange, ball_span, ball_crossed, finished_span, at}
-use Rattle.solid_set.specs.Levels.{side_at, IsFaceOn}
+use Rattle.solid_set.specs.Levels.{IsFaceOn}
 use Rattle.solid_set.specs.Laws.{HoldsAtMostOne, TellsInside, IsSound, IsSegInRange}
 use Rattle.solid_set.proofs.Ranking.{turned_cmp, forwards, backwards}
 use Rattle.solid_set.proofs.Foremost.{IsForemost, IsBest, none_moved, foremost_is, best_first, best_next}
 use Rattle.solid_set.proofs.SpanLaws.{ArePlaces, entering_places, leaving_places, finished_parts}
 use Rattle.solid_set.proofs.InsideLaws.{IsCutBy, AreEnds, planes_held, missed_all, ends_are, tells}
+use Rattle.solid_set.proofs.CylinderLaws.{cylinder_cut, cylinder_one, enter_cylinder, leave_cylinder, steep_cap}
+use Rattle.prim_rcc.specs.declared.rcc.RccFaces.{RccFaces}
 use Rattle.solid_set.proofs.BallLaws.{near_not_before, near_not_after, near_from}
 use Rattle.solid_set.proofs.Faces.{segment_cut, steep_at}
 
@@ -65,6 +67,7 @@ pub surface_cut : (surface : Surface) (ray : Ray) → is_missed surface ray ≡ 
 surface_cut (Planes sides) ray e = planes_cut sides ray e
 surface_cut (HalfSpace plane) ray e = half_cut plane ray e
 surface_cut (Ball c r) ray e = ball_cut c r ray (chord_at c r ray) (held_at c r ray) e
+surface_cut (Cylinder faces) ray e = cylinder_cut faces ray e
 
 no_chord_one : (c : V3) (r : ℤ) (ray : Ray) (o : Option Chord) → IfNone o (HoldsOnceAtMost c r ray) → is_no_chord o ≡ true → HoldsAtMostOne (Ball c r) ray
 no_chord_one c r ray None once e = λ p q p' q' on on' inside inside'. fractions_same p q p' q' on.positive on'.positive (once p q p' q' on.positive on'.positive inside inside')
@@ -74,6 +77,7 @@ missed_one : (surface : Surface) (ray : Ray) → is_missed surface ray ≡ true 
 missed_one (Planes sides) ray e = λ p q p' q' on on' inside inside'. absurd (missed_all ray sides e p q on.positive inside)
 missed_one (HalfSpace plane) ray e = λ p q p' q' on on' inside inside'. absurd (missed_all ray (Some plane ∷ []) e p q on.positive (inside, tt))
 missed_one (Ball c r) ray e = no_chord_one c r ray (chord_at c r ray) (missed_at c r ray) e
+missed_one (Cylinder faces) ray e = cylinder_one faces ray e
 
 chord_places : (o : Option Chord) (plus : Bool) → ArePlaces (chord_end o plus)
 chord_places None plus = record { each = λ x has. absurd has }
@@ -83,11 +87,13 @@ pub enter_places : (surface : Surface) (ray : Ray) → ArePlaces (entering surfa
 enter_places (Planes sides) ray = record { each = entering_places ray 1 sides }
 enter_places (HalfSpace plane) ray = record { each = entering_places ray 1 (Some plane ∷ []) }
 enter_places (Ball c r) ray = chord_places (chord_at c r ray) false
+enter_places (Cylinder faces) ray = enter_cylinder faces ray
 
 pub leave_places : (surface : Surface) (ray : Ray) → ArePlaces (leaving surface ray)
 leave_places (Planes sides) ray = record { each = leaving_places ray 1 sides }
 leave_places (HalfSpace plane) ray = record { each = leaving_places ray 1 (Some plane ∷ []) }
 leave_places (Ball c r) ray = chord_places (chord_at c r ray) true
+leave_places (Cylinder faces) ray = leave_cylinder faces ray
 
 -- some place is foremost
 foremost_more : (R : Pos → Pos → Ordering) → IsTotalOrder R → (first y x : Pos) (ys : List Pos) → IsForemost R first ys x → (r : Ordering) → R y x ≡ r → (z : Pos) × IsForemost R first (y ∷ ys) z
@@ -191,16 +197,21 @@ pub ball_none : (c : V3) (r : ℤ) (ray : Ray) → chord_at c r ray ≡ None →
 ball_none c r ray is = ap (λ (o : Option Chord). cond (is_no_chord o) None (segment_between (chord_end o false) (chord_end o true))) is
 
 -- a plane at an end of a segment is crossed
-pub steep_on : (surface : Surface) (ray : Ray) (face : ℕ) (plane : Plane) → face ≢ 0 → IsFaceOn surface ray face → side_at surface face ≡ Some plane → slope_on plane ray ≢ pos 0
-steep_on (Planes sides) ray face plane some on is =
-    steep_at ray sides face plane some (elim on [ inl none ↦ inl none | inr at_end ↦ segment_cut ray sides face at_end ]) is
-steep_on (HalfSpace half) ray face plane some on is =
-    steep_at ray (Some half ∷ []) face plane some (elim on [ inl none ↦ inl none | inr at_end ↦ segment_cut ray (Some half ∷ []) face at_end ]) is
-steep_on (Ball c r) ray face plane some on is = absurd (let none : None ≡ Some plane = is in cc)
-
 pub steep_sides : (sides : List (Option Plane)) (ray : Ray) (face : ℕ) → face ≢ 0 → IsFaceOn (Planes sides) ray face → ForSome (slice_index_or sides (face - 1) None) (λ plane. slope_on plane ray ≢ pos 0)
-steep_sides sides ray face some on plane is = steep_on (Planes sides) ray face plane some on is
+steep_sides sides ray face some on plane is =
+    steep_at ray sides face plane some (elim on [ inl none ↦ inl none | inr at_end ↦ segment_cut ray sides face at_end ]) is
 
 pub steep_half : (plane : Plane) (ray : Ray) (face : ℕ) → face ≢ 0 → IsFaceOn (HalfSpace plane) ray face → face ≡ 1 → slope_on plane ray ≢ pos 0
 steep_half plane ray face some on one =
-    steep_on (HalfSpace plane) ray face plane some on (subst (λ (k : ℕ). side_at (HalfSpace plane) k ≡ Some plane) (sym one) refl)
+    steep_at ray (Some plane ∷ []) face plane some (elim on [ inl none ↦ inl none | inr at_end ↦ segment_cut ray (Some plane ∷ []) face at_end ])
+    (subst (λ (k : ℕ). slice_index_or (Some plane ∷ []) (k - 1) None ≡ Some plane) (sym one) refl)
+
+pub steep_base : (faces : RccFaces) (ray : Ray) (face : ℕ) → IsFaceOn (Cylinder faces) ray face → face ≡ 1 → slope_on faces.base ray ≢ pos 0
+steep_base faces ray face on one =
+    steep_cap faces ray face faces.base (λ e. omega (arith, e, one)) (λ e. omega (arith, e, one)) on
+    (subst (λ (k : ℕ). slice_index_or (Some faces.base ∷ Some faces.top ∷ []) (k - 1) None ≡ Some faces.base) (sym one) refl)
+
+pub steep_top : (faces : RccFaces) (ray : Ray) (face : ℕ) → IsFaceOn (Cylinder faces) ray face → face ≡ 2 → slope_on faces.top ray ≢ pos 0
+steep_top faces ray face on two =
+    steep_cap faces ray face faces.top (λ e. omega (arith, e, two)) (λ e. omega (arith, e, two)) on
+    (subst (λ (k : ℕ). slice_index_or (Some faces.base ∷ Some faces.top ∷ []) (k - 1) None ≡ Some faces.top) (sym two) refl)

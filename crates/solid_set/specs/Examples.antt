@@ -3,12 +3,15 @@ use Rattle.std.specs.Prelude.{◌≡◌, refl, true, false, ℤ, pos, negsuc, So
 use Rattle.lattice_core.specs.declared.limit.TheConstants.{FAR}
 use Rattle.lattice_core.specs.declared.ray.Ray.{Ray}
 use Rattle.lattice_core.specs.declared.ray.Dir.{Dir}
-use Rattle.lattice_core.specs.declared.ray.Dir.TheVariants.{PlusX, MinusX}
+use Rattle.lattice_core.specs.declared.ray.Dir.TheVariants.{PlusX, MinusX, PlusZ}
 use Rattle.lattice_core.specs.Vectors.{zero_vector}
 use Rattle.plane_geom.specs.declared.plane.Plane.{Plane}
+use Rattle.prim_rcc.specs.Cylinders.{base_plane, top_plane, round_side}
+use Rattle.prim_rcc.specs.Examples.{upright}
+use Rattle.solid_set.specs.declared.surface.Surface.{Surface}
 use Rattle.surd_order.specs.declared.position.Pos.TheVariants.{Frac, Surd}
 use Rattle.surd_order.specs.PlaceOrder.{place_cmp}
-use Rattle.solid_set.specs.declared.surface.Surface.TheVariants.{Planes, HalfSpace, Ball}
+use Rattle.solid_set.specs.declared.surface.Surface.TheVariants.{Planes, HalfSpace, Ball, Cylinder}
 use Rattle.solid_set.specs.Segments.{segment_of}
 use Rattle.solid_set.specs.Levels.{level_at}
 use Rattle.solid_set.specs.HitPlaces.{hit_places}
@@ -78,3 +81,51 @@ places_of_a_touched_ball = refl
 
 places_of_a_missed_ball : hit_places (Ball zero_vector (pos 5)) (ray_from (negsuc 9) (pos 6) (pos 0) PlusX) ≡ Frac (pos 0) (pos 1) ∷ Frac FAR (pos 1) ∷ []
 places_of_a_missed_ball = refl
+
+-- the cylinder of radius 5 from the origin 20 up
+abbrev pillar : Surface
+pillar = Cylinder (record { base = base_plane upright; top = top_plane upright; side = round_side upright })
+
+through_a_pillar : segment_of pillar (ray_from (negsuc 9) (pos 3) (pos 10) PlusX)
+    ≡ Some (record { start = Frac (pos 6) (pos 1); start_face = 3; end = Frac (pos 14) (pos 1); end_face = 3 })
+unfolding place_cmp
+through_a_pillar = refl
+
+beside_the_axis_of_a_pillar : segment_of pillar (ray_from (negsuc 9) (pos 1) (pos 10) PlusX)
+    ≡ Some (record { start = Surd (pos 10) false 24; start_face = 3; end = Surd (pos 10) true 24; end_face = 3 })
+unfolding place_cmp
+beside_the_axis_of_a_pillar = refl
+
+up_a_pillar : segment_of pillar (ray_from (pos 0) (pos 0) (negsuc 4) PlusZ)
+    ≡ Some (record { start = Frac (pos 5) (pos 1); start_face = 1; end = Frac (pos 25) (pos 1); end_face = 2 })
+unfolding place_cmp
+up_a_pillar = refl
+
+along_the_surface_of_a_pillar : segment_of pillar (ray_from (pos 5) (pos 0) (negsuc 4) PlusZ) ≡ None
+unfolding place_cmp
+along_the_surface_of_a_pillar = refl
+
+-- of the rays in the planes of base and top it has those in the one of the base
+across_the_base_of_a_pillar : segment_of pillar (ray_from (negsuc 9) (pos 0) (pos 0) PlusX)
+    ≡ Some (record { start = Frac (pos 5) (pos 1); start_face = 3; end = Frac (pos 15) (pos 1); end_face = 3 })
+unfolding place_cmp
+across_the_base_of_a_pillar = refl
+
+across_the_top_of_a_pillar : segment_of pillar (ray_from (negsuc 9) (pos 0) (pos 20) PlusX) ≡ None
+unfolding place_cmp
+across_the_top_of_a_pillar = refl
+
+level_of_a_base : level_at pillar 1 (ray_from (pos 0) (pos 0) (negsuc 4) PlusZ) ≡ 255
+level_of_a_base = refl
+
+-- 55 + 200 · 16 / 25
+level_of_a_round_side : level_at pillar 3 (ray_from (negsuc 9) (pos 3) (pos 10) PlusX) ≡ 183
+level_of_a_round_side = refl
+
+places_of_a_touched_pillar : hit_places pillar (ray_from (negsuc 9) (pos 5) (pos 10) PlusX)
+    ≡ Frac (pos 0) (pos 1) ∷ Frac (pos 1048576) (pos 1) ∷ Surd (pos 10) false 0 ∷ Surd (pos 10) true 0 ∷ []
+places_of_a_touched_pillar = refl
+
+places_up_a_pillar : hit_places pillar (ray_from (pos 5) (pos 0) (negsuc 4) PlusZ)
+    ≡ Frac (pos 0) (pos 1) ∷ Frac (pos 1048576) (pos 1) ∷ Frac (pos 5) (pos 1) ∷ Frac (pos 25) (pos 1) ∷ []
+places_up_a_pillar = refl

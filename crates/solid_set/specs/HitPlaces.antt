@@ -1,6 +1,6 @@
 -- The places at which a ray may come into a surface or leave it, and which of the points between them lie inside. A hit place is a
 -- place on the ray, and no hit in the sense of an instance and a face.
-use Rattle.std.specs.Prelude.{◌↔◌, ◌⊎◌, ◌≤◌, ℤ, pos, negsuc, true, false, List, [], ◌∷◌, ◌++◌, length, Option, Some, None}
+use Rattle.std.specs.Prelude.{◌↔◌, ◌⊎◌, ◌≤◌, ℤ, pos, negsuc, true, false, cond, List, [], ◌∷◌, ◌++◌, length, Option, Some, None}
 use Rattle.std.specs.Option.{ForSome}
 use Rattle.lattice_core.specs.declared.ray.Ray.{Ray}
 use Rattle.lattice_core.specs.Rays.{IsOnRay}
@@ -8,15 +8,19 @@ use Rattle.plane_geom.specs.declared.plane.Plane.{Plane}
 use Rattle.plane_geom.specs.declared.plane.Crossing.{Crossing}
 use Rattle.plane_geom.specs.declared.plane.Crossing.TheVariants.{Enters, Leaves, Holds, Misses}
 use Rattle.plane_geom.specs.Crossings.{side_crossing}
+use Rattle.lattice_core.specs.Units.{unit_of}
 use Rattle.prim_sphere.specs.Spheres.{nearest_on, half_chord_squared}
+use Rattle.prim_rcc.specs.declared.side.RoundSide.{RoundSide}
+use Rattle.prim_rcc.specs.Axes.{is_along}
+use Rattle.prim_rcc.specs.Sides.{nearest_on as nearest_on_side, half_chord_on}
 use Rattle.surd_order.specs.declared.position.Pos.{Pos}
 use Rattle.surd_order.specs.declared.position.Pos.TheVariants.{Frac, Surd}
 use Rattle.surd_order.specs.declared.position.Seg.{Seg}
 use Rattle.surd_order.specs.Order.{Precedes, SamePlace}
 use Rattle.solid_set.specs.declared.surface.Surface.{Surface}
-use Rattle.solid_set.specs.declared.surface.Surface.TheVariants.{Planes, HalfSpace, Ball}
+use Rattle.solid_set.specs.declared.surface.Surface.TheVariants.{Planes, HalfSpace, Ball, Cylinder}
 use Rattle.solid_set.specs.Laws.{IsSound}
-use Rattle.solid_set.specs.Segments.{ray_start, ray_end}
+use Rattle.solid_set.specs.Segments.{ray_start, ray_end, caps_of}
 use Rattle.solid_set.specs.Surfaces.{IsInside}
 
 -- where the line of a ray crosses a plane; one that holds or misses the ray is crossed nowhere
@@ -36,12 +40,19 @@ abbrev pub root_places : ℤ → ℤ → List Pos
 root_places a (pos k) = Surd a false k ∷ Surd a true k ∷ []
 root_places a (negsuc k) = []
 
--- where the line of a ray crosses the planes of a surface or the ball, also where it only touches the ball, and also before the ray
--- begins and after it ends
+-- where the line of a ray crosses a round side; along its axis nowhere
+abbrev pub round_places : RoundSide → Ray → List Pos
+round_places side ray =
+    cond (is_along side.axis (unit_of ray.dir)) []
+    (root_places (nearest_on_side side ray.origin (unit_of ray.dir)) (half_chord_on side ray.origin (unit_of ray.dir)))
+
+-- where the line of a ray crosses the planes of a surface, the ball or the round side, also where it only touches what is round, and
+-- also before the ray begins and after it ends
 abbrev pub surface_places : Surface → Ray → List Pos
 surface_places (Planes sides) ray = side_places ray sides
 surface_places (HalfSpace plane) ray = side_places ray (Some plane ∷ [])
 surface_places (Ball centre radius) ray = root_places (nearest_on centre ray) (half_chord_squared centre radius ray)
+surface_places (Cylinder faces) ray = side_places ray (caps_of faces) ++ round_places faces.side ray
 
 -- these, and where the ray begins and ends
 abbrev pub hit_places : Surface → Ray → List Pos

@@ -4,7 +4,8 @@ use Rattle.lattice_core.specs.declared.ray.Ray.{Ray}
 use Rattle.plane_geom.specs.declared.plane.Plane.{Plane}
 use Rattle.plane_geom.specs.Planes.{level_of, side_level}
 use Rattle.prim_sphere.specs.Spheres.{chord_at, chord_level}
-use Rattle.solid_set.specs.declared.surface.Surface.TheVariants.{Planes, HalfSpace, Ball}
+use Rattle.prim_rcc.specs.Cylinders.{face_level as cylinder_level}
+use Rattle.solid_set.specs.declared.surface.Surface.TheVariants.{Planes, HalfSpace, Ball, Cylinder}
 use Rattle.surd_order.specs.declared.position.Seg.{Seg}
 use Rattle.solid_set.specs.declared.surface.Surface.{Surface}
 use Rattle.solid_set.specs.Segments.{sides_of, segment_of}
@@ -13,11 +14,12 @@ use Rattle.solid_set.specs.Segments.{sides_of, segment_of}
 abbrev pub side_at : Surface → ℕ → Option Plane
 side_at surface face = slice_index_or (sides_of surface) (face - 1) None
 
--- the level of a face from 1 on: that of its plane, or of the one face of a half-space or a ball
+-- the level of a face from 1 on: that of its plane, of the one face of a half-space or a ball, or of a face of a cylinder
 abbrev pub face_level : Surface → ℕ → Ray → ℕ
 face_level (Planes sides) face ray = side_level (slice_index_or sides (face - 1) None) ray
 face_level (HalfSpace plane) face ray = cond (face == 1) (level_of plane.n ray.dir) 255
 face_level (Ball centre radius) face ray = chord_level (chord_at centre radius ray) radius
+face_level (Cylinder faces) face ray = cylinder_level faces face ray
 
 -- the level of a face; face 0, where the ray begins or ends inside, has the highest
 abbrev pub level_at : Surface → ℕ → Ray → ℕ

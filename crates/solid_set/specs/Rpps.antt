@@ -12,6 +12,7 @@ abbrev pub HasVertices : Solid → List V3 → Type 0
 HasVertices (solids.Arb8 arb8) vertices = arb8.vertices ≡ vertices
 HasVertices (solids.Sphere sphere) vertices = ⊥
 HasVertices (solids.Half half) vertices = ⊥
+HasVertices (solids.Rcc rcc) vertices = ⊥
 
 -- the solid of eight vertices, or their first fault
 abbrev pub IsArb8Of : Result Solid ShapeFault → List V3 → Type 0

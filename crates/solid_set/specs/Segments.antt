@@ -1,5 +1,5 @@
 -- The segment between whole lists of crossings.
-use Rattle.std.specs.Prelude.{ℕ, ℤ, pos, Bool, true, false, cond, not, List, [], ◌∷◌, map, Option, Some, None}
+use Rattle.std.specs.Prelude.{ℕ, ℤ, pos, Bool, true, false, cond, not, ◌||◌, List, [], ◌∷◌, ◌++◌, map, Option, Some, None}
 use Rattle.std.specs.List.{find, list_all}
 use Rattle.std.specs.Ordering.{is_lt, is_eq, is_gt}
 use Rattle.lattice_core.specs.declared.ray.Ray.{Ray}
@@ -12,9 +12,13 @@ use Rattle.surd_order.specs.PlaceOrder.{place_cmp}
 use Rattle.surd_order.specs.Spelled.{spelled}
 use Rattle.plane_geom.specs.declared.chord.Chord.{Chord}
 use Rattle.prim_sphere.specs.Spheres.{chord_at}
+use Rattle.prim_rcc.specs.declared.rcc.RccFaces.{RccFaces}
+use Rattle.prim_rcc.specs.declared.side.RoundCrossing.{RoundCrossing}
+use Rattle.prim_rcc.specs.declared.side.RoundCrossing.TheVariants.{Through, Holds, Misses}
+use Rattle.prim_rcc.specs.Sides.{round_crossing}
 use Rattle.solid_set.specs.declared.crossed.Crossed.{Crossed}
 use Rattle.solid_set.specs.declared.surface.Surface.{Surface}
-use Rattle.solid_set.specs.declared.surface.Surface.TheVariants.{Planes, HalfSpace, Ball}
+use Rattle.solid_set.specs.declared.surface.Surface.TheVariants.{Planes, HalfSpace, Ball, Cylinder}
 use Rattle.solid_set.specs.Crossings.{entering_from, leaving_from, is_missed_by}
 
 -- where a ray begins and ends
@@ -93,11 +97,16 @@ segment_between entering leaving = segment_between_up_to FAR entering leaving
 abbrev pub segment_through : List (Option Plane) → Ray → Option Seg
 segment_through sides ray = cond (is_missed_by ray sides) None (segment_between (entering_from ray 1 sides) (leaving_from ray 1 sides))
 
--- the planes of the faces of a surface, from face 1 on; a ball has none
+-- the planes of base and top
+abbrev pub caps_of : RccFaces → List (Option Plane)
+caps_of faces = Some faces.base ∷ Some faces.top ∷ []
+
+-- the planes of the faces of a surface, from face 1 on; a ball has none, and the round side of a cylinder is none
 abbrev pub sides_of : Surface → List (Option Plane)
 sides_of (Planes sides) = sides
 sides_of (HalfSpace plane) = Some plane ∷ []
 sides_of (Ball centre radius) = []
+sides_of (Cylinder faces) = caps_of faces
 
 abbrev pub chord_end : Option Chord → Bool → List Crossed
 chord_end None plus = []
@@ -107,23 +116,41 @@ abbrev pub is_no_chord : Option Chord → Bool
 is_no_chord None = true
 is_no_chord (Some chord) = false
 
--- the entering crossings of a surface, in the order of its faces: a ball is entered at a - √k
+-- a round side is face 3
+abbrev pub round_end : RoundCrossing → Bool → List Crossed
+round_end (Through chord) plus = record { face = 3; place = Surd chord.a plus chord.k } ∷ []
+round_end Holds plus = []
+round_end Misses plus = []
+
+abbrev pub is_round_miss : RoundCrossing → Bool
+is_round_miss (Through chord) = false
+is_round_miss Holds = false
+is_round_miss Misses = true
+
+-- the entering crossings of a surface, in the order of its faces: a ball and a round side are entered at a - √k
 abbrev pub entering : Surface → Ray → List Crossed
 entering (Planes sides) ray = entering_from ray 1 sides
 entering (HalfSpace plane) ray = entering_from ray 1 (Some plane ∷ [])
 entering (Ball centre radius) ray = chord_end (chord_at centre radius ray) false
+entering (Cylinder faces) ray = entering_from ray 1 (caps_of faces) ++ round_end (round_crossing faces.side ray) false
 
--- the leaving ones: a ball is left at a + √k
+-- the leaving ones: a ball and a round side are left at a + √k
 abbrev pub leaving : Surface → Ray → List Crossed
 leaving (Planes sides) ray = leaving_from ray 1 sides
 leaving (HalfSpace plane) ray = leaving_from ray 1 (Some plane ∷ [])
 leaving (Ball centre radius) ray = chord_end (chord_at centre radius ray) true
+leaving (Cylinder faces) ray = leaving_from ray 1 (caps_of faces) ++ round_end (round_crossing faces.side ray) true
 
--- whether some plane or the ball misses the ray
+-- whether some plane, the ball or the round side misses the ray
 abbrev pub is_missed : Surface → Ray → Bool
 is_missed (Planes sides) ray = is_missed_by ray sides
 is_missed (HalfSpace plane) ray = is_missed_by ray (Some plane ∷ [])
 is_missed (Ball centre radius) ray = is_no_chord (chord_at centre radius ray)
+is_missed (Cylinder faces) ray = is_missed_by ray (caps_of faces) || is_round_miss (round_crossing faces.side ray)
+
+-- the segment that a surface encloses of a ray that ends so far
+abbrev pub segment_up_to : ℤ → Surface → Ray → Option Seg
+segment_up_to far surface ray = cond (is_missed surface ray) None (segment_between_up_to far (entering surface ray) (leaving surface ray))
 
 -- the segment that a surface encloses of a ray that ends so far
 abbrev pub segment_up_to : ℤ → Surface → Ray → Option Seg

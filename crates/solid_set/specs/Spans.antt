@@ -11,7 +11,9 @@ use Rattle.plane_geom.specs.declared.chord.Chord.{Chord}
 use Rattle.surd_order.specs.declared.position.Pos.{Pos}
 use Rattle.surd_order.specs.declared.position.Pos.TheVariants.{Frac, Surd}
 use Rattle.surd_order.specs.declared.position.Seg.{Seg}
-use Rattle.surd_order.specs.Range.{IsInRange}
+use Rattle.prim_rcc.specs.declared.side.RoundCrossing.{RoundCrossing}
+use Rattle.prim_rcc.specs.declared.side.RoundCrossing.TheVariants as rounds
+use Rattle.surd_order.specs.Range.{IsInRange, IsSurdInRange}
 use Rattle.surd_order.specs.PlaceOrder.{place_cmp}
 use Rattle.solid_set.specs.declared.crossed.Crossed.{Crossed}
 use Rattle.solid_set.specs.declared.span.Span.{Span}
@@ -65,8 +67,21 @@ segment_at start end = record { start = spelled start.place; start_face = start.
 abbrev pub finished_span : Span → Option Seg
 finished_span span = cond (is_lt (place_cmp span.start.place span.end.place)) (Some (segment_at span.start span.end)) None
 
+abbrev pub chord_crossed : ℕ → Chord → Bool → Crossed
+chord_crossed face chord plus = at face (Surd chord.a plus chord.k)
+
 abbrev pub ball_crossed : Chord → Bool → Crossed
-ball_crossed chord plus = at 1 (Surd chord.a plus chord.k)
+ball_crossed chord plus = chord_crossed 1 chord plus
 
 abbrev pub ball_span : Chord → Span
 ball_span chord = span_of (later (at 0 ray_start) (ball_crossed chord false)) (earlier (at 0 ray_end) (ball_crossed chord true))
+
+abbrev pub IsRoundInRange : RoundCrossing → Type 0
+IsRoundInRange (rounds.Through chord) = IsSurdInRange chord.a chord.k
+IsRoundInRange rounds.Holds = Unit {0}
+IsRoundInRange rounds.Misses = Unit {0}
+
+abbrev pub run_span : Span → RoundCrossing → Option Span
+run_span span (rounds.Through chord) = Some (span_of (later span.start (chord_crossed 3 chord false)) (earlier span.end (chord_crossed 3 chord true)))
+run_span span rounds.Holds = Some span
+run_span span rounds.Misses = None

@@ -4,15 +4,16 @@ ghost use Rattle.std.specs.Prelude.{All};
 ghost use Rattle.std.specs.Option.{ForSome};
 ghost use Rattle.plane_geom.specs.Planes.{IsWorldPlane};
 ghost use Rattle.solid_set.specs.Segments.{sides_of};
-ghost use Rattle.solid_set.specs.Surfaces.{IsMade, IsBallSized};
+ghost use Rattle.solid_set.specs.Surfaces.{IsMade, IsBallSized, HasSizedSide};
 
 use crate::solid::Solid;
-use crate::span::{segment_of_ball, segment_of_faces, segment_of_half};
+use crate::span::{segment_of_ball, segment_of_cylinder, segment_of_faces, segment_of_half};
 use crate::surface::Surface;
 use lattice_core::{Box3, Placement, Ray};
 use plane_geom::ShapeFault;
 use prim_arb8::Arb8;
 use prim_half::Half;
+use prim_rcc::Rcc;
 use prim_sphere::Sphere;
 use surd_order::Seg;
 
@@ -23,6 +24,7 @@ pub struct Placed {
     bounds: Box3,
     pub ghost size: { All (λ side. ForSome side IsWorldPlane) (sides_of surface) },
     pub ghost ball_size: { IsBallSized surface },
+    pub ghost side_size: { HasSizedSide surface },
     pub ghost made: { ∥ IsMade surface bounds ∥₁ },
 }
 
@@ -71,6 +73,7 @@ impl Solid {
             Solid::Arb8(arb8) => Placed::arb8(arb8, by),
             Solid::Sphere(sphere) => Placed::sphere(sphere, by),
             Solid::Half(half) => Placed::half(half, by),
+            Solid::Rcc(rcc) => Placed::rcc(rcc, by),
         }
     }
 }
@@ -126,6 +129,18 @@ impl Placed {
         }
     }
 
+    fn rcc(rcc: &Rcc, by: &Placement) -> Placed
+        requires { IsWithin SHIFT by.now.shift }
+        ensures surface { result.surface ≡ surface_of (Solid.Rcc rcc.now) by.now }
+        ensures bounds { result.bounds ≡ bounds_of (Solid.Rcc rcc.now) by.now }
+        ensures holds { HoldsSolid (Solid.Rcc rcc.now) by.now result.bounds }
+    {
+        Placed {
+            surface: Surface::Cylinder(rcc.placed(by)),
+            bounds: rcc.bounds(by),
+        }
+    }
+
     /// The part of a ray that is inside, with the faces at its ends, or `None` where there is none. It takes no memory.
     pub fn segment(&self, ray: &Ray) -> Option<Seg>
         requires { IsWithin WORLD ray.now.origin }
@@ -146,11 +161,12 @@ impl Placed {
             Surface::Planes(sides) => segment_of_faces(sides, ray),
             Surface::HalfSpace(plane) => segment_of_half(plane, ray),
             Surface::Ball { centre, radius } => segment_of_ball(*centre, *radius, ray),
+            Surface::Cylinder(faces) => segment_of_cylinder(faces, ray),
         }
     }
 
     /// A closed box that holds the solid: of a solid of eight vertices the box of the vertices, of a sphere from the centre
-    /// by the radius, of a half-space all of space.
+    /// by the radius, of a half-space all of space, of a cylinder the least one.
     pub fn bounds(&self) -> Box3
         ensures value { result ≡ self.now.bounds }
         ensures holds { HoldsInside self.now.surface result }
@@ -171,6 +187,7 @@ impl Placed {
             Surface::Planes(sides) => prim_arb8::level_at(sides, face, ray),
             Surface::HalfSpace(plane) => prim_half::level_at(plane, face, ray),
             Surface::Ball { centre, radius } => prim_sphere::level_at(*centre, *radius, ray),
+            Surface::Cylinder(faces) => prim_rcc::level_at(faces, face, ray),
         }
     }
 }

@@ -2,6 +2,7 @@
 
 use prim_arb8::Arb8;
 use prim_half::Half;
+use prim_rcc::Rcc;
 use prim_sphere::Sphere;
 
 /// A solid where it was made, before it is placed.
@@ -10,4 +11,5 @@ pub enum Solid {
     Arb8(Arb8),
     Sphere(Sphere),
     Half(Half),
+    Rcc(Rcc),
 }

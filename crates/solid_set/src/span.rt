@@ -5,6 +5,7 @@ ghost use Rattle.std.specs.Option.{ForSome};
 ghost use Rattle.lattice_core.specs.declared.limit.TheConstants.{WORLD};
 ghost use Rattle.lattice_core.specs.Limits.{IsWithin};
 ghost use Rattle.plane_geom.specs.Planes.{IsWorldPlane};
+ghost use Rattle.prim_rcc.specs.Cylinders.{AreFacesSized};
 ghost use Rattle.surd_order.specs.PlaceOrder.{place_cmp};
 ghost use Rattle.surd_order.specs.Range.{IsInRange, IsSurdInRange};
 ghost use Rattle.surd_order.specs.Spelled.{spelled};
@@ -12,11 +13,12 @@ ghost use Rattle.solid_set.specs.declared.surface.Surface.{Surface};
 ghost use Rattle.solid_set.specs.Segments.{segment_of};
 ghost use Rattle.solid_set.specs.Surfaces.{IsBallSize};
 ghost use Rattle.solid_set.specs.Laws.{IsSegInRange};
-ghost use Rattle.solid_set.specs.Spans.{IsSpanInRange, IsCrossingInRange, chosen, later, earlier, whole_span, crossed_span, cut_span, finished_span, ball_span, ball_crossed};
+ghost use Rattle.solid_set.specs.Spans.{IsSpanInRange, IsCrossingInRange, chosen, later, earlier, whole_span, crossed_span, cut_span, finished_span, ball_span, ball_crossed, chord_crossed, run_span, IsRoundInRange};
 
 use crate::crossed::Crossed;
 use lattice_core::{FAR, Ray, V3};
 use plane_geom::{Chord, Crossing, Plane};
+use prim_rcc::{RccFaces, RoundCrossing};
 use std::cmp::Ordering;
 use surd_order::{Pos, Seg};
 
@@ -200,17 +202,56 @@ fn ball_span(chord: Chord) -> Span
     ensures range { IsSpanInRange result }
 {
     let mut span = whole_span();
-    keep_later(&mut span.start, ball_crossed(chord, false));
-    keep_earlier(&mut span.end, ball_crossed(chord, true));
+    keep_later(&mut span.start, chord_crossed(1, chord, false));
+    keep_earlier(&mut span.end, chord_crossed(1, chord, true));
     span
 }
 
-fn ball_crossed(chord: Chord, plus: bool) -> Crossed
+/// The one end of a chord or the other, on a face.
+fn chord_crossed(face: u8, chord: Chord, plus: bool) -> Crossed
     requires { IsSurdInRange chord.a chord.k }
-    ensures value { result ≡ ball_crossed chord plus }
+    ensures value { result ≡ chord_crossed face chord plus }
     ensures range { IsInRange result.place }
 {
     let Chord { a, k } = chord;
     let place = Pos::Surd { a, plus, k };
-    Crossed { face: 1, place }
+    Crossed { face, place }
+}
+
+/// The part of the ray that is in a cylinder: face 1 is the base, 2 the top and 3 the round side.
+pub fn segment_of_cylinder(faces: &RccFaces, ray: &Ray) -> Option<Seg>
+    requires faces { AreFacesSized faces.now }
+    requires origin { IsWithin WORLD ray.now.origin }
+    ensures value { result ≡ segment_of (Surface.Cylinder faces.now) ray.now }
+    ensures range { ForSome result IsSegInRange }
+{
+    let mut span = whole_span();
+    if !cross_span(&mut span, 1, faces.base.crossing(ray)) {
+        return None;
+    }
+    if !cross_span(&mut span, 2, faces.top.crossing(ray)) {
+        return None;
+    }
+    if !run_span(&mut span, prim_rcc::crossed_at(&faces.side, ray)) {
+        return None;
+    }
+    finished_span(span)
+}
+
+/// Cuts a span by what a round side, face 3, does to the ray. Where the ray misses it, nothing is left, and the answer is no.
+fn run_span(span: &mut Span, crossing: RoundCrossing) -> bool
+    requires span { IsSpanInRange span.old }
+    requires crossing { IsRoundInRange crossing }
+    ensures value { cond result (Some span.new) None ≡ run_span span.old crossing }
+    ensures range { IsSpanInRange span.new }
+{
+    match crossing {
+        RoundCrossing::Through(chord) => {
+            keep_later(&mut span.start, chord_crossed(3, chord, false));
+            keep_earlier(&mut span.end, chord_crossed(3, chord, true));
+            true
+        }
+        RoundCrossing::Holds => true,
+        RoundCrossing::Misses => false,
+    }
 }

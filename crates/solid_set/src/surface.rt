@@ -2,9 +2,10 @@
 
 use lattice_core::V3;
 use plane_geom::Plane;
+use prim_rcc::RccFaces;
 
 /// The surface of a placed solid: what decides where a ray is inside. Two are equal where they are of one kind and have
-/// the same planes face by face, or the same centre and radius.
+/// the same planes face by face, the same centre and radius of spheres, and the same base and radius of cylinders.
 #[derive(Clone, Copy, Debug, PartialEq, Eq, Hash)]
 pub enum Surface {
     /// The planes of the faces 1 to 12 of a solid of eight vertices. A degenerate face has none.
@@ -13,4 +14,6 @@ pub enum Surface {
     HalfSpace(Plane),
     /// The centre and the radius of a sphere, in tenths of a millimetre. Its one face has number 1.
     Ball { centre: V3, radius: i64 },
+    /// The faces 1 to 3 of a cylinder.
+    Cylinder(RccFaces),
 }

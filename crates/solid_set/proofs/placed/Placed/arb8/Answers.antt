@@ -5,7 +5,7 @@ use Rattle.prim_arb8.specs.Bounds.{box_of, HoldsVertices}
 use Rattle.prim_arb8.specs.Solids.{IsArb8}
 use Rattle.solid_set.specs.declared.solid.Solid.TheVariants as solids
 use Rattle.solid_set.specs.declared.surface.Surface.TheVariants.{Planes}
-use Rattle.solid_set.proofs.Made.{no_ball_planes}
+use Rattle.solid_set.proofs.Made.{no_ball_planes, no_side_planes}
 use Rattle.solid_set.proofs.placed.Placed.arb8.Goals as goal
 
 box_is : (c : goal.After-bounds_at) → c.bounds_at.result ≡ box_of c.args.by.now c.args.arb8.now.vertices
@@ -15,6 +15,7 @@ pub invariant_of-result : goal.invariant_of-result
 invariant_of-result c = record {
   size = c.placed.ensures.size;
   ball_size = no_ball_planes c.placed.result;
+  side_size = no_side_planes c.placed.result;
   made = ∣ (record {
     solid = solids.Arb8 c.args.arb8.now;
     by = c.args.by.now;

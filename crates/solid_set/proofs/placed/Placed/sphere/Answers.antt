@@ -9,9 +9,9 @@ use Rattle.prim_sphere.specs.Spheres.{box_of, HoldsPointsOf, IsBall}
 use Rattle.solid_set.specs.declared.solid.Solid.TheVariants as solids
 use Rattle.solid_set.specs.declared.surface.Surface.TheVariants.{Ball}
 use Rattle.solid_set.specs.Surfaces.{IsBallSize}
-use Rattle.solid_set.proofs.Made.{ball_sized, no_side}
-use Rattle.lattice_core.specs.declared.limit.TheConstants.{COORD}
+use Rattle.solid_set.proofs.Made.{ball_sized, no_side, no_side_ball}
 use Rattle.solid_set.proofs.placed.Placed.sphere.Goals as goal
+use Rattle.lattice_core.specs.declared.limit.TheConstants.{COORD}
 
 centre_is : (c : goal.After-bounds_at) → c.placed-centre.result ≡ placed c.args.by.now c.args.sphere.now.centre
 centre_is c = c.placed-centre.ensures.value
@@ -42,6 +42,7 @@ invariant_of-result c =
     record {
       size = no_side c.placed-centre.result c.radius-radius.result;
       ball_size = ball_sized c.placed-centre.result (to_z w64 (of_z w64 c.radius-radius.result)) sized;
+      side_size = no_side_ball c.placed-centre.result (to_z w64 (of_z w64 c.radius-radius.result));
       made = ∣ (record {
         solid = solids.Sphere c.args.sphere.now;
         by = c.args.by.now;

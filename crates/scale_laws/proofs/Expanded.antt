@@ -21,7 +21,7 @@ use Rattle.scene_prep.specs.Solids.{PlacedSolid, Expanded, placed_tree}
 use Rattle.scene_prep.specs.Expanding.{expanded_tree, expanded_body, expanded_object, expanded_within, most_levels}
 use Rattle.scene_prep.specs.Regions.{NamedRegion, within_comb, placed_region, whole_region, node_region, united_parts, regions_united, regions_of_tree, regions_of_body, regions_of_object, regions_within, regions_of_name, regions_of}
 use Rattle.scene_prep.specs.Sizes.{body_size, object_size, size_within, size_of_name, names_size}
-use Rattle.scale_laws.specs.Larger.{larger_solid, larger_placement}
+use Rattle.solid_set.specs.Larger.{larger_solid, larger_placement}
 use Rattle.scale_laws.specs.Models.{larger_member, larger_body, larger_object, larger_directory}
 
 -- a placed solid, a tree over such and a region with all lengths m times as large

@@ -10,9 +10,9 @@ use Rattle.plane_geom.specs.Planes.{plane_through}
 use Rattle.prim_arb8.specs.Points.{lies_in, lies_beyond, lies_before, are_all_in, are_coplanar_with, are_coplanar_from, is_flat}
 use Rattle.prim_arb8.specs.Faces.{corners_of, face_plane, parts, Case, case_of, first_fault, face_cases, cases_of}
 use Rattle.order_laws.proofs.Listed.{any_moved}
-use Rattle.scale_laws.specs.Larger.{IsLargerSide}
+use Rattle.solid_set.specs.Larger.{IsLargerSide}
 use Rattle.scale_laws.specs.ModelLaws.{FaultsStay}
-use Rattle.scale_laws.proofs.Solids.{height_same, beyond_same, corners_scaled, through_larger, face_larger}
+use Rattle.solid_set.proofs.ScaledSolids.{height_same, beyond_same, corners_scaled, through_larger, face_larger}
 use Rattle.scale_laws.proofs.Models.{flat_same}
 
 all_moved : {X Y : Type 0} (f : Y → Bool) (g : X → Bool) (carry : X → Y) (xs : List X) → ((x : X) → f (carry x) ≡ g x) → list_all f (map carry xs) ≡ list_all g xs

@@ -1,10 +1,3 @@
-pub mod Vectors
-pub mod Crossed
-pub mod Ends
-pub mod Segments
-pub mod Bright
-pub mod Solids
-pub mod Composed
 pub mod Woven
 pub mod Seen
 pub mod Expanded

@@ -18,18 +18,19 @@ use Rattle.shot_core.specs.Regions.{Region}
 use Rattle.ppm_write.specs.Pictures.{row_bytes, block_bytes, whole_span}
 use Rattle.tile_shot.specs.Pixels.{part_of, pixel_of, pixel_up_to}
 use Rattle.scene_prep.specs.declared.fault.PrepFault.TheVariants.{Missing, TooMany}
-use Rattle.scene_prep.specs.Solids.{PlacedSolid, Expanded, solids_of, numbered, own_surface, surface_under, in_world}
+use Rattle.solid_set.specs.Placings.{own_surface, surface_under}
+use Rattle.scene_prep.specs.Solids.{PlacedSolid, Expanded, solids_of, numbered, in_world}
 use Rattle.scene_prep.specs.Outcomes.{first_missing, too_many, prep_fault}
 use Rattle.scene_prep.specs.Regions.{NamedRegion, regions_of}
 use Rattle.scene_prep.specs.Scenes.{body_of, region_at, scene_of}
 use Rattle.scene_prep.specs.Sizes.{most_size, told_size}
 use Rattle.order_laws.proofs.Listed.{length_moved}
-use Rattle.scale_laws.specs.Larger.{IsLargerSurface, larger_solid, larger_placement}
+use Rattle.solid_set.specs.Larger.{IsLargerSurface, larger_solid, larger_placement}
 use Rattle.scale_laws.specs.Scenes.{AreLargerInstances, IsLargerBody, AreLargerRegions, larger_view}
 use Rattle.scale_laws.specs.SceneLaws.{millimetre}
 use Rattle.scale_laws.specs.Models.{larger_object, larger_directory}
 use Rattle.scale_laws.specs.ModelLaws.{heading_of, ModelsScale, RaysOfModelsScaleToTenths, PicturesOfModelsStay}
-use Rattle.scale_laws.proofs.Solids.{own_larger, surface_placed}
+use Rattle.solid_set.proofs.ScaledSolids.{own_larger, surface_placed}
 use Rattle.scale_laws.proofs.Seen.{rays_scale_to_tenths, pictures_stay_in_tenths}
 use Rattle.scale_laws.proofs.Expanded.{larger_placed, larger_expanded, larger_named, object_larger, names_larger, names_size_same}
 

@@ -16,7 +16,7 @@ use Rattle.shot_core.specs.Shots.{overlaps_on, overlaps_on_up_to}
 use Rattle.tile_shot.specs.Reports.{Spot, CheckedRay, spots_of, checked_ray, PlacePair, place_pairs, is_of_pair, run_of, rays_of, pair_at, pair_of, report_on}
 use Rattle.scene_prep.specs.Regions.{NamedRegion, regions_of}
 use Rattle.scene_prep.specs.Scenes.{scene_of}
-use Rattle.order_laws.specs.Times.{enlarged}
+use Rattle.solid_set.specs.Times.{enlarged}
 use Rattle.order_laws.specs.RaysMoved.{moved_overlap}
 use Rattle.order_laws.proofs.Listed.{filter_moved, filter_map_moved, length_moved, map_same, map_twice}
 use Rattle.scale_laws.specs.Scenes.{larger_view}

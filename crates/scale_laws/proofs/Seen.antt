@@ -22,13 +22,13 @@ use Rattle.shot_core.specs.Regions.{Instance, Region, instances_of}
 use Rattle.shot_core.specs.Shots.{claims_from_up_to, claims_on_up_to, woven_up_to, level_on, lit_by, lit_up_to, overlaps_on_up_to}
 use Rattle.shot_core.specs.FirstShots.{is_solid, first_of}
 use Rattle.tile_shot.specs.Pixels.{shaded, colour_of, pixel_by, pixel_up_to}
-use Rattle.order_laws.specs.Times.{enlarged}
+use Rattle.solid_set.specs.Times.{enlarged}
 use Rattle.order_laws.specs.RaysMoved.{moved_woven, moved_partition, moved_overlap}
 use Rattle.order_laws.proofs.Listed.{map_same, map_twice}
 use Rattle.order_laws.proofs.RaysMoved.{partitions_same, overlaps_same}
-use Rattle.scale_laws.specs.Larger.{larger_ray}
-use Rattle.scale_laws.proofs.Bright.{levels_stay}
-use Rattle.scale_laws.proofs.Vectors.{past, sum_scaled, scaled_twice}
+use Rattle.solid_set.specs.Larger.{larger_ray}
+use Rattle.solid_set.proofs.ScaledLevels.{levels_stay}
+use Rattle.solid_set.proofs.ScaledVectors.{past, sum_scaled, scaled_twice}
 use Rattle.scale_laws.specs.Scenes.{AreLargerInstances, AreLargerRegions, moved_lit, larger_view}
 use Rattle.scale_laws.specs.SceneLaws.{ScalesOnRay, ScenesScale, PicturesStay, millimetre, RaysScaleToTenths, PicturesStayInTenths}
 use Rattle.scale_laws.proofs.Woven.{instances_larger, woven_same, is_moved, claims_larger}

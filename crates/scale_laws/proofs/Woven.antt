@@ -23,13 +23,13 @@ use Rattle.overlap_list.specs.declared.region.RegionClaims.{RegionClaims}
 use Rattle.shot_core.specs.Regions.{Instance, RegionBody, Region, instances_of}
 use Rattle.shot_core.specs.Shots.{woven_if, woven_from_up_to, woven_up_to, body_claims_up_to, claims_from_up_to}
 use Rattle.order_laws.specs.Moving.{IsMoved}
-use Rattle.order_laws.specs.Times.{enlarged}
+use Rattle.solid_set.specs.Times.{enlarged}
 use Rattle.order_laws.specs.RaysMoved.{moved_segment, moved_woven}
 use Rattle.order_laws.proofs.Moved.{claims_same}
-use Rattle.order_laws.proofs.Times.{enlarged_cmp}
-use Rattle.scale_laws.specs.Larger.{larger_ray}
-use Rattle.scale_laws.proofs.Segments.{segments_scale, ends_are_places}
-use Rattle.scale_laws.proofs.Solids.{solids_scale}
+use Rattle.solid_set.proofs.Times.{enlarged_cmp}
+use Rattle.solid_set.specs.Larger.{larger_ray}
+use Rattle.solid_set.proofs.ScaledSegments.{segments_scale, ends_are_places}
+use Rattle.solid_set.proofs.ScaledSolids.{solids_scale}
 use Rattle.scale_laws.specs.SceneLaws.{InstancesScale}
 use Rattle.scale_laws.specs.Scenes.{AreLargerInstances, IsLargerBody, AreLargerRegions}
 

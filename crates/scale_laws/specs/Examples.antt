@@ -8,8 +8,8 @@ use Rattle.tree_forms.specs.Trees.{Leaf}
 use Rattle.region_attr.specs.declared.attr.Attr.{Attr}
 use Rattle.solid_set.specs.declared.solid.Solid.TheVariants as solids
 use Rattle.object_set.specs.declared.object.Body.TheVariants as bodies
-use Rattle.order_laws.specs.Times.{enlarged}
-use Rattle.scale_laws.specs.Larger.{larger_solid}
+use Rattle.solid_set.specs.Times.{enlarged}
+use Rattle.solid_set.specs.Larger.{larger_solid}
 use Rattle.scale_laws.specs.Models.{larger_directory}
 use Rattle.scale_laws.specs.SceneLaws.{millimetre}
 

@@ -1,5 +1,3 @@
-pub mod Larger
-pub mod Laws
 pub mod Scenes
 pub mod SceneLaws
 pub mod Models

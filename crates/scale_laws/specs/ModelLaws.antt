@@ -24,7 +24,7 @@ use Rattle.tile_shot.specs.Reports.{Spot, CheckedRay, spots_of, report_on, view_
 use Rattle.scene_prep.specs.Outcomes.{prep_fault}
 use Rattle.scene_prep.specs.Scenes.{scene_of}
 use Rattle.scene_prep.specs.Sizes.{names_size}
-use Rattle.order_laws.specs.Times.{enlarged}
+use Rattle.solid_set.specs.Times.{enlarged}
 use Rattle.scale_laws.specs.Scenes.{AreLargerRegions, larger_view}
 use Rattle.scale_laws.specs.SceneLaws.{ScalesToTenths, millimetre}
 use Rattle.scale_laws.specs.Models.{larger_object, larger_directory}

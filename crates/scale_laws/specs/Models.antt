@@ -6,7 +6,7 @@ use Rattle.object_set.specs.declared.object.Body.{Body}
 use Rattle.object_set.specs.declared.object.Body.TheVariants.{Solid, Comb}
 use Rattle.object_set.specs.Objects.{Parts}
 use Rattle.directory.specs.Walks.{Entries}
-use Rattle.scale_laws.specs.Larger.{larger_solid, larger_placement}
+use Rattle.solid_set.specs.Larger.{larger_solid, larger_placement}
 
 -- a member of the same name, with a larger shift
 abbrev pub larger_member : ℕ → Member → Member

@@ -9,9 +9,9 @@ use Rattle.lattice_core.specs.Views.{pixel_ray}
 use Rattle.shot_core.specs.Regions.{Region}
 use Rattle.shot_core.specs.Shots.{claims_on, claims_on_up_to, lit_of, lit_up_to, overlaps_on, overlaps_on_up_to}
 use Rattle.tile_shot.specs.Pixels.{pixel_of, pixel_up_to}
-use Rattle.order_laws.specs.Times.{enlarged}
+use Rattle.solid_set.specs.Times.{enlarged}
 use Rattle.order_laws.specs.RaysMoved.{moved_overlap}
-use Rattle.scale_laws.specs.Larger.{larger_ray}
+use Rattle.solid_set.specs.Larger.{larger_ray}
 use Rattle.scale_laws.specs.Scenes.{AreLargerInstances, AreLargerRegions, PlacedSolid, instance_of, larger_instance_of, moved_lit, larger_view}
 
 -- regions claim the same intervals, and have the same parts of the ray, with the same hits and levels, from places to places that are m

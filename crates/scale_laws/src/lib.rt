@@ -3,17 +3,8 @@
 //! of a millimetre means what it meant in millimetres.
 #![tactic(auto)]
 
-ghost use Rattle.scale_laws.specs.Laws.{SegmentsScale, LevelsStay, SolidsScale, PlacementsScale};
 ghost use Rattle.scale_laws.specs.SceneLaws.{InstancesScale, ScenesScale, PicturesStay, PicturesStayInTenths, RaysScaleToTenths};
 ghost use Rattle.scale_laws.specs.ModelLaws.{ModelsScale, RaysOfModelsScaleToTenths, PicturesOfModelsStay, ReportsOfModelsScaleToTenths, FaultsStay, EditsStay};
-
-/// The law of scale for solids. The function does nothing: its contract is the law.
-pub fn scale_law()
-    ensures segments { SegmentsScale }
-    ensures levels { LevelsStay }
-    ensures solids { SolidsScale }
-    ensures placements { PlacementsScale }
-{}
 
 /// The law of scale for rays: the regions of a scene that is so many times as large win, overlap and are hit as before, and
 /// each position is as many times as far. The function does nothing: its contract is the law.

@@ -7,7 +7,6 @@ mod Keys
 mod Numbers
 mod Parts
 mod PathLines
-mod Placements
 pub mod Pointing
 pub mod Scening
 mod Settling

@@ -16,7 +16,8 @@ use Rattle.shot_core.specs.Regions.{Instance, RegionBody, Region}
 use Rattle.scene_prep.specs.declared.colour.Colour.{Colour}
 use Rattle.scene_prep.specs.declared.context.Context.{Context}
 use Rattle.scene_prep.specs.declared.walk.Walk.{Walk}
-use Rattle.scene_prep.specs.Solids.{Expanded, placed_tree, solids_of, numbered, in_world, point_under}
+use Rattle.solid_set.specs.Placings.{point_under}
+use Rattle.scene_prep.specs.Solids.{Expanded, placed_tree, solids_of, numbered, in_world}
 use Rattle.scene_prep.specs.Regions.{NamedRegion, within_comb, placed_region}
 use Rattle.scene_prep.specs.Scenes.{path_text, node_text, body_of, region_at}
 use Rattle.scene_prep.specs.Steps.{under_combs, under_comb, path_to}

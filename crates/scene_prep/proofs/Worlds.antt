@@ -14,8 +14,9 @@ use Rattle.solid_set.specs.declared.surface.Surface.{Surface}
 use Rattle.solid_set.specs.declared.surface.Surface.TheVariants.{Planes, HalfSpace, Ball}
 use Rattle.solid_set.specs.Surfaces.{surface_of, bounds_of}
 use Rattle.shot_core.specs.Regions.{Instance}
-use Rattle.scene_prep.specs.Solids.{PlacedSolid, point_under, surface_under, own_surface, bounds_under, in_world}
-use Rattle.scene_prep.proofs.Placements.{turned_under, origin_under, plane_by, plane_under, surface_at_once, box_by, sum_left, under_is, surface_is}
+use Rattle.solid_set.specs.Placings.{point_under, surface_under, own_surface, bounds_under}
+use Rattle.scene_prep.specs.Solids.{PlacedSolid, in_world}
+use Rattle.solid_set.proofs.UnderPlacements.{turned_under, origin_under, plane_by, plane_under, surface_at_once, box_by, sum_left, under_is, surface_is}
 
 abbrev surface_by : (Plane → Plane) → (V3 → V3) → Surface → Surface
 surface_by f g (Planes sides) = Planes (map (option_map f) sides)

@@ -34,7 +34,7 @@ use Rattle.scene_prep.specs.Levels.{IsPlacedAbove, node_size, nodes_size}
 use Rattle.scene_prep.specs.Writing.{Writes, WritesNode}
 use Rattle.scene_prep.specs.declared.expansion.Expansion.{Expansion}
 use Rattle.scene_prep.proofs.Numbers.{sizes_count_leaves}
-use Rattle.scene_prep.proofs.Placements.{turned_zero, zero_sum}
+use Rattle.solid_set.proofs.UnderPlacements.{turned_zero, zero_sum}
 use Rattle.scene_prep.proofs.Worlds.{same_world}
 
 -- ---- the solids of trees

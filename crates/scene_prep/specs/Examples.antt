@@ -22,7 +22,8 @@ use Rattle.object_set.specs.declared.object.Body.TheVariants.{Solid, Comb}
 use Rattle.directory.specs.Walks.{Entries}
 use Rattle.scene_prep.specs.declared.fault.PrepFault.TheVariants.{Missing, TooMany}
 use Rattle.shot_core.specs.Regions.{Region}
-use Rattle.scene_prep.specs.Solids.{Expanded, in_world, point_under, surface_under, box_under}
+use Rattle.solid_set.specs.Placings.{point_under, surface_under, box_under}
+use Rattle.scene_prep.specs.Solids.{Expanded, in_world}
 use Rattle.scene_prep.specs.Regions.{NamedRegion, regions_of, regions_of_name}
 use Rattle.scene_prep.specs.Scenes.{white, colour_under, path_text, body_of, scene_of}
 use Rattle.scene_prep.specs.Sizes.{names_size, size_of_name, told_size}

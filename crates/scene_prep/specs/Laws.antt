@@ -5,16 +5,15 @@ use Rattle.tree_forms.specs.Trees.{leaves, holds_by}
 use Rattle.name_core.specs.declared.name.Name.{Name}
 use Rattle.lattice_core.specs.declared.placement.Placement.{Placement}
 use Rattle.lattice_core.specs.declared.ray.Ray.{Ray}
-use Rattle.lattice_core.specs.declared.vector.V3.{V3}
-use Rattle.lattice_core.specs.Placements.{placed}
 use Rattle.solid_set.specs.Surfaces.{surface_of, bounds_of}
+use Rattle.solid_set.specs.PlacingLaws.{DoesAll}
 use Rattle.directory.specs.Walks.{Entries, object_of, IsSound}
 use Rattle.shot_core.specs.FirstShots.{first_seen}
 use Rattle.shot_core.specs.OverlapPoints.{AreTrueOverlaps}
 use Rattle.shot_core.specs.Points.{stretches_of, IsTrueOfPoints}
 use Rattle.shot_core.specs.SeenPoints.{IsSeenFirst}
 use Rattle.shot_core.specs.Shots.{lit_of, overlaps_on}
-use Rattle.scene_prep.specs.Solids.{PlacedSolid, Expanded, solids_of, numbered, point_under, in_world}
+use Rattle.scene_prep.specs.Solids.{PlacedSolid, Expanded, solids_of, numbered, in_world}
 use Rattle.scene_prep.specs.Expanding.{expanded, expanded_object}
 use Rattle.scene_prep.specs.Regions.{regions_of_name, regions_of, regions_of_object}
 use Rattle.scene_prep.specs.Scenes.{scene_of}
@@ -55,10 +54,6 @@ RegionsHoldTogether = (directory : Entries) (name : Name) (values : PlacedSolid 
 -- the numbers of a tree's leaves are those of its solids, in order
 abbrev pub NumbersFollow : Type 0
 NumbersFollow = (first : ℕ) (tree : Expanded) → filter_map (λ leaf. leaf) (leaves (numbered first tree)) ≡ range_with_len first (length (solids_of tree))
-
--- a placement does what the placements of a solid do one after the other
-abbrev pub DoesAll : Placement → List Placement → Type 0
-DoesAll by placements = (p : V3) → placed by p ≡ point_under placements p
 
 -- a solid below several placements stands where the one placement takes it that they compose to
 abbrev pub PlacementsAreOne : Type 0

@@ -18,3 +18,12 @@ pub mod HitPlaceLaws
 pub mod Between
 pub mod Separated
 mod SeparationExamples
+pub mod Times
+pub mod UnderPlacements
+pub mod ScaledVectors
+pub mod ScaledCrossings
+pub mod ScaledEnds
+pub mod ScaledSegments
+pub mod ScaledLevels
+pub mod ScaledSolids
+pub mod ScaledPlacements

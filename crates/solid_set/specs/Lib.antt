@@ -8,4 +8,9 @@ pub mod Separation
 pub mod HitPlaces
 pub mod Levels
 pub mod Rpps
+pub mod Times
+pub mod Placings
+pub mod PlacingLaws
+pub mod Larger
+pub mod ScaleLaws
 pub mod Examples

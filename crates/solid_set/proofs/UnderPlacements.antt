@@ -28,8 +28,8 @@ use Rattle.solid_set.specs.declared.solid.Solid.TheVariants as solids
 use Rattle.solid_set.specs.declared.surface.Surface.{Surface}
 use Rattle.solid_set.specs.declared.surface.Surface.TheVariants.{Planes, HalfSpace, Ball}
 use Rattle.solid_set.specs.Surfaces.{surface_of, bounds_of, placed_sides, plane_of_half}
-use Rattle.scene_prep.specs.Solids.{point_under, placed_surface, surface_under, own_surface, bounds_under}
-use Rattle.scene_prep.specs.Laws.{DoesAll, PlacementsAreOne}
+use Rattle.solid_set.specs.Placings.{point_under, placed_surface, surface_under, own_surface, bounds_under}
+use Rattle.solid_set.specs.PlacingLaws.{DoesAll, SolidsStandUnderOne, SolidsStandAlike}
 
 -- the turn of the placements: where they take a vector, less where they take the origin
 abbrev pub turned_under : List Placement → V3 → V3

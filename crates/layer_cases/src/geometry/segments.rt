@@ -5,7 +5,7 @@ ghost use Rattle.lattice_core.specs.Limits.{IsWithin};
 
 use crate::geometry::boxes::push_box;
 use crate::geometry::positions::put_position;
-use crate::geometry::solids::{arb8, half, sphere};
+use crate::geometry::solids::{arb8, cylinder, half, sphere};
 use crate::geometry::words::Words;
 use case_text::{CaseFault, Shown};
 use lattice_core::{COORD, Ray};
@@ -24,13 +24,15 @@ fn rpp(words: &mut Words) -> Result<Solid, ShapeFault> {
     Solid::rpp(xmin, xmax, ymin, ymax, zmin, zmax)
 }
 
-/// A solid: `rpp XMIN XMAX YMIN YMAX ZMIN ZMAX`, `arb8 VERTEX*8`, `sphere CENTRE RADIUS` or `half NX,NY,NZ:D`.
+/// A solid: `rpp XMIN XMAX YMIN YMAX ZMIN ZMAX`, `arb8 VERTEX*8`, `sphere CENTRE RADIUS`, `half NX,NY,NZ:D` or
+/// `rcc BASE HEIGHT RADIUS`.
 fn solid(words: &mut Words) -> Result<Solid, ShapeFault> {
     match words.next() {
         b"rpp" => rpp(words),
         b"arb8" => Ok(Solid::Arb8(arb8(words)?)),
         b"sphere" => Ok(Solid::Sphere(sphere(words)?)),
         b"half" => Ok(Solid::Half(half(words)?)),
+        b"rcc" => Ok(Solid::Rcc(cylinder(words)?)),
         _ => {
             words.refuse(CaseFault::Line);
             Err(ShapeFault::Flat)

@@ -13,6 +13,7 @@ use lattice_core::{COORD, HALF_NORMAL, PLACED, V3};
 use plane_geom::ShapeFault;
 use prim_arb8::Arb8;
 use prim_half::Half;
+use prim_rcc::Rcc;
 use prim_sphere::{Chord, Sphere, bounds_at, crossed_at};
 
 /// The half-space that a word `X,Y,Z:D` is, by its normal and its distance.
@@ -29,6 +30,14 @@ pub fn sphere(words: &mut Words) -> Result<Sphere, ShapeFault> {
     let centre = words.point(COORD);
     let radius = words.whole(COORD);
     Sphere::new(centre, radius)
+}
+
+/// The cylinder of the centre of its base, the vector from there to that of its top, and a radius.
+pub fn cylinder(words: &mut Words) -> Result<Rcc, ShapeFault> {
+    let base = words.point(COORD);
+    let height = words.point(COORD);
+    let radius = words.whole(COORD);
+    Rcc::new(base, height, radius)
 }
 
 /// Eight vertices.

@@ -69,6 +69,12 @@ fn put_solid(solid: &Solid, out: &mut Shown) {
             put_point(sphere.centre(), out);
             put_number(sphere.radius(), out);
         }
+        Solid::Rcc(rcc) => {
+            out.put(b" rcc");
+            put_point(rcc.base(), out);
+            put_point(rcc.height(), out);
+            put_number(rcc.radius(), out);
+        }
         Solid::Arb8(arb8) => {
             out.put(b" arb8");
             for vertex in arb8.vertices() {

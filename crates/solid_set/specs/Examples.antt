@@ -123,9 +123,22 @@ level_of_a_round_side : level_at pillar 3 (ray_from (negsuc 9) (pos 3) (pos 10) 
 level_of_a_round_side = refl
 
 places_of_a_touched_pillar : hit_places pillar (ray_from (negsuc 9) (pos 5) (pos 10) PlusX)
-    ≡ Frac (pos 0) (pos 1) ∷ Frac (pos 1048576) (pos 1) ∷ Surd (pos 10) false 0 ∷ Surd (pos 10) true 0 ∷ []
+    ≡ Frac (pos 0) (pos 1) ∷ Frac FAR (pos 1) ∷ Surd (pos 10) false 0 ∷ Surd (pos 10) true 0 ∷ []
 places_of_a_touched_pillar = refl
 
 places_up_a_pillar : hit_places pillar (ray_from (pos 5) (pos 0) (negsuc 4) PlusZ)
-    ≡ Frac (pos 0) (pos 1) ∷ Frac (pos 1048576) (pos 1) ∷ Frac (pos 5) (pos 1) ∷ Frac (pos 25) (pos 1) ∷ []
+    ≡ Frac (pos 0) (pos 1) ∷ Frac FAR (pos 1) ∷ Frac (pos 5) (pos 1) ∷ Frac (pos 25) (pos 1) ∷ []
 places_up_a_pillar = refl
+
+-- from a cap, from the side and from inside
+on_the_base : segment_of pillar (ray_from (pos 1) (pos 1) (pos 0) PlusZ) ≡ Some (record { start = Frac (pos 0) (pos 1); start_face = 1; end = Frac (pos 20) (pos 1); end_face = 2 })
+unfolding place_cmp
+on_the_base = refl
+
+on_the_side : segment_of pillar (ray_from (negsuc 4) (pos 0) (pos 10) PlusX) ≡ Some (record { start = Frac (pos 0) (pos 1); start_face = 3; end = Frac (pos 10) (pos 1); end_face = 3 })
+unfolding place_cmp
+on_the_side = refl
+
+inside_it : segment_of pillar (ray_from (pos 0) (pos 0) (pos 10) PlusX) ≡ Some (record { start = Frac (pos 0) (pos 1); start_face = 0; end = Frac (pos 5) (pos 1); end_face = 3 })
+unfolding place_cmp
+inside_it = refl

@@ -7,6 +7,7 @@ pub mod Laws
 pub mod Separation
 pub mod HitPlaces
 pub mod Levels
+pub mod PlacedFaces
 pub mod Rpps
 pub mod Times
 pub mod Placings

@@ -152,10 +152,6 @@ is_missed (Cylinder faces) ray = is_missed_by ray (caps_of faces) || is_round_mi
 abbrev pub segment_up_to : ℤ → Surface → Ray → Option Seg
 segment_up_to far surface ray = cond (is_missed surface ray) None (segment_between_up_to far (entering surface ray) (leaving surface ray))
 
--- the segment that a surface encloses of a ray that ends so far
-abbrev pub segment_up_to : ℤ → Surface → Ray → Option Seg
-segment_up_to far surface ray = cond (is_missed surface ray) None (segment_between_up_to far (entering surface ray) (leaving surface ray))
-
 -- the segment of a ray that a surface encloses
 abbrev pub segment_of : Surface → Ray → Option Seg
 segment_of surface ray = segment_up_to FAR surface ray

@@ -12,4 +12,4 @@ pub use crossed::Crossed;
 pub use laws::{limit_laws, placing_law, ray_laws, scale_law, separation_law, times_law};
 pub use placed::Placed;
 pub use solid::Solid;
-pub use surface::Surface;
+pub use surface::{Round, Surface};

@@ -1,6 +1,6 @@
 //! Placed solids, and what is asked of them: each kind of solid has its branch here.
 
-ghost use Rattle.std.specs.Prelude.{All};
+ghost use Rattle.std.specs.Prelude.{All, ◌≡◌, ◌∷◌, None, replicate};
 ghost use Rattle.std.specs.Option.{ForSome};
 ghost use Rattle.plane_geom.specs.Planes.{IsWorldPlane};
 ghost use Rattle.solid_set.specs.Segments.{sides_of};
@@ -8,9 +8,9 @@ ghost use Rattle.solid_set.specs.Surfaces.{IsMade, IsBallSized, HasSizedSide};
 
 use crate::solid::Solid;
 use crate::span::{segment_of_ball, segment_of_cylinder, segment_of_faces, segment_of_half};
-use crate::surface::Surface;
+use crate::surface::{Round, Surface};
 use lattice_core::{Box3, Placement, Ray};
-use plane_geom::ShapeFault;
+use plane_geom::{Plane, ShapeFault};
 use prim_arb8::Arb8;
 use prim_half::Half;
 use prim_rcc::Rcc;
@@ -79,7 +79,7 @@ impl Solid {
 }
 
 impl Placed {
-    ghost use Rattle.std.specs.Prelude.{◌≡◌};
+    ghost use Rattle.std.specs.Prelude.{◌≡◌, All};
     ghost use Rattle.lattice_core.specs.declared.limit.TheConstants.{SHIFT};
     ghost use Rattle.solid_set.specs.declared.solid.Solid.{Solid};
     ghost use Rattle.solid_set.specs.Surfaces.{surface_of, bounds_of, HoldsSolid, HoldsInside};
@@ -90,6 +90,8 @@ impl Placed {
     ghost use Rattle.solid_set.specs.Levels.{level_at, IsFaceOn};
     ghost use Rattle.solid_set.specs.Laws.{TellsInside, IsSound, IsSegInRange};
     ghost use Rattle.solid_set.specs.HitPlaces.{TellsByHitPlaces};
+    ghost use Rattle.plane_geom.specs.Planes.{IsWorldPlane};
+    ghost use Rattle.solid_set.specs.PlacedFaces.{planes_of_faces, round_of, IsRoundSized};
 
     fn arb8(arb8: &Arb8, by: &Placement) -> Placed
         requires { IsWithin SHIFT by.now.shift }
@@ -190,4 +192,48 @@ impl Placed {
             Surface::Cylinder(faces) => prim_rcc::level_at(faces, face, ray),
         }
     }
+
+    /// The planes of the faces in their order, for rays that go along any vector. A degenerate face has none, and the rest of
+    /// twelve are none.
+    pub fn planes(&self) -> [Option<Plane>; 12]
+        ensures value { result ≡ planes_of_faces self.now.surface }
+        ensures size { All (λ side. ForSome side IsWorldPlane) result }
+    {
+        match &self.surface {
+            Surface::Planes(sides) => *sides,
+            Surface::HalfSpace(plane) => first_two(Some(*plane), None),
+            Surface::Ball { .. } => first_two(None, None),
+            Surface::Cylinder(faces) => first_two(Some(faces.base), Some(faces.top)),
+        }
+    }
+
+    /// The round face, for rays that go along any vector: `None` where all faces are planes.
+    pub fn round(&self) -> Option<Round>
+        ensures value { result ≡ round_of self.now.surface }
+        ensures size { ForSome result IsRoundSized }
+    {
+        match &self.surface {
+            Surface::Planes(_) | Surface::HalfSpace(_) => None,
+            Surface::Ball { centre, radius } => Some(Round {
+                centre: *centre,
+                radius: *radius,
+                axis: None,
+            }),
+            Surface::Cylinder(faces) => Some(Round {
+                centre: faces.side.centre,
+                radius: faces.side.radius,
+                axis: Some(faces.side.axis),
+            }),
+        }
+    }
+}
+
+/// Twelve sides, of which all but two have no plane.
+fn first_two(first: Option<Plane>, second: Option<Plane>) -> [Option<Plane>; 12]
+    ensures { result ≡ first ∷ second ∷ replicate 10 None }
+{
+    let none = None;
+    [
+        first, second, none, none, none, none, none, none, none, none, none, none,
+    ]
 }

@@ -32,6 +32,7 @@ use Rattle.solid_set.proofs.Foremost.{Has, IsBest, best_next, foremost_is}
 use Rattle.solid_set.proofs.SpanLaws.{IsSpanOf, ArePlaces, append_none, entering_places, leaving_places, finished_parts}
 use Rattle.solid_set.proofs.InsideLaws.{NoneAfter, NoneBefore, IsCutBy, none_of_or, missed_or, planes_held, missed_all}
 use Rattle.solid_set.proofs.BallLaws.{near_not_before, near_not_after, near_from}
+use Rattle.solid_set.proofs.Ranges.{small_whole, small_square}
 use Rattle.solid_set.proofs.Faces.{IsCutOrNone, entering_cut, leaving_cut, both_cut, none_cut, steep_at}
 
 -- lists one behind the other
@@ -179,7 +180,7 @@ cylinder_finished faces ray span next range caps run =
     ∙ sym (ap (by_miss faces ray) (ap (λ (b : Bool). b || is_round_miss (crossed_round faces ray)) caps.missed ∙ run.missed))
 
 pub round_range : (radius : ℤ) (c : RoundCrossing) → IsSmallRound radius c → IsRoundInRange c
-round_range radius (Through chord) h = record { whole = h.whole; square = h.root }
+round_range radius (Through chord) h = record { whole = small_whole chord.a h.whole; square = small_square chord.k h.root }
 round_range radius Holds h = tt
 round_range radius Misses h = tt
 

@@ -1,5 +1,5 @@
 -- What a solid that was made and placed keeps.
-use Rattle.std.proofs.Common.{◌≡◌, zero, suc, All, List, [], ◌∷◌, Option, Some, subst, arith}
+use Rattle.std.proofs.Common.{◌≡◌, ℕ, zero, suc, All, List, [], ◌∷◌, replicate, Option, Some, None, subst, arith}
 use Rattle.std.proofs.Common.{FitsSigned, w64, lit<}
 use Rattle.std.proofs.Common.{refl}
 use mir.Val.{to_z, of_z}
@@ -21,8 +21,11 @@ use Rattle.solid_set.specs.declared.surface.Surface.TheVariants.{Planes, HalfSpa
 use Rattle.prim_rcc.specs.declared.rcc.RccFaces.{RccFaces}
 use Rattle.prim_rcc.specs.Cylinders.{AreFacesSized}
 use Rattle.prim_rcc.specs.Sides.{IsSideSized}
+use Rattle.solid_set.specs.declared.surface.Round.{Round}
+use Rattle.solid_set.specs.PlacedFaces.{IsRoundSized}
 use Rattle.solid_set.specs.Surfaces.{IsBallSize, IsBallSized, HasSizedSide}
-use Rattle.lattice_core.specs.declared.limit.TheConstants.{COORD}
+use Rattle.lattice_core.specs.declared.limit.TheConstants.{COORD, PLACED}
+use Rattle.lattice_core.specs.Limits.{IsWithin}
 
 pub one_side : (plane : Plane) → IsWorldPlane plane → All (λ (side : Option Plane). ForSome side IsWorldPlane) (Some plane ∷ [])
 one_side plane h zero d lt x e = let same : plane ≡ x = cc in subst IsWorldPlane same h
@@ -81,3 +84,21 @@ two_sides a b h g (suc (suc k)) d lt x e = absurd (omega arith)
 -- the sizes of the faces of a placed cylinder
 pub faces_sized : (faces : RccFaces) → All (λ (side : Option Plane). ForSome side IsWorldPlane) (Some faces.base ∷ Some faces.top ∷ []) → IsSideSized faces.side → AreFacesSized faces
 faces_sized faces all h = record { base_size = all 0 (Some faces.base) (omega arith) faces.base refl; top_size = all 1 (Some faces.base) (omega arith) faces.top refl; side_size = h }
+
+pub none_sized : ForSome None IsWorldPlane
+none_sized x e = absurd (let different : (None ≡ Some x) = e in cc)
+
+none_sides : (n : ℕ) → All (λ (side : Option Plane). ForSome side IsWorldPlane) (replicate n None)
+none_sides zero k d lt = absurd (omega (arith, lt))
+none_sides (suc n) zero d lt = none_sized
+none_sides (suc n) (suc k) d lt = none_sides n k d (omega (arith, lt))
+
+-- two sides, and none behind them
+pub padded_sides : (first second : Option Plane) → ForSome first IsWorldPlane → ForSome second IsWorldPlane
+    → All (λ (side : Option Plane). ForSome side IsWorldPlane) (first ∷ second ∷ replicate 10 None)
+padded_sides first second h g zero d lt = h
+padded_sides first second h g (suc zero) d lt = g
+padded_sides first second h g (suc (suc k)) d lt = none_sides 10 k d (omega (arith, lt))
+
+pub round_sized : (round : Round) → IsWithin PLACED round.centre → IsRadius round.radius → ForSome (Some round) IsRoundSized
+round_sized round h g x e = let same : round ≡ x = cc in subst IsRoundSized same (record { centre = h; radius = g })

@@ -1,5 +1,5 @@
 -- Spans stay in range.
-use Rattle.std.proofs.Common.{◌≡◌, Option, Some, None, sym, subst, ◌<◌, ℤ, pos, ◌<ℤ◌, arith, FitsSigned, w64}
+use Rattle.std.proofs.Common.{◌≡◌, Option, Some, None, sym, subst, ◌<◌, ℕ, ℤ, pos, ◌<ℤ◌, ◌≤ℤ◌, arith, FitsSigned, w64}
 use Rattle.std.proofs.lemmas.Int.{ints, fits_signed_from_abs}
 use mir.Syntax.{w128}
 use Rattle.std.specs.Int.RustNames.{unsigned_abs}
@@ -12,9 +12,11 @@ use Rattle.plane_geom.specs.Planes.{IsCrossing, IsSmallCrossing}
 use Rattle.plane_geom.proofs.Unique.{crossing_is}
 use Rattle.solid_set.specs.Spans.{IsCrossingInRange, IsSpanInRange, whole_span}
 use Rattle.lattice_core.specs.Limits.{IsAtMost}
-use Rattle.plane_geom.specs.declared.limit.TheConstants.{GAP, NORMAL}
+use Rattle.plane_geom.specs.declared.limit.TheConstants.{GAP, NORMAL, REMOTE}
+use Rattle.plane_geom.specs.Chords.{squared}
+use Rattle.lattice_core.specs.declared.limit.TheConstants.{COORD}
 use Rattle.plane_geom.proofs.Sizes.{abs_of}
-use Rattle.surd_order.specs.declared.range.TheConstants.{OVER_LIMIT, UNDER_LIMIT, WHOLE_LIMIT}
+use Rattle.surd_order.specs.declared.range.TheConstants.{OVER_LIMIT, UNDER_LIMIT, WHOLE_LIMIT, SQUARE_LIMIT}
 
 pub fits_over : (z : ℤ) → unsigned_abs z < OVER_LIMIT → FitsSigned w128 z
 fits_over z h = fits_signed_from_abs w128 z (omega arith)
@@ -30,6 +32,12 @@ small_over r h = omega (arith, abs_of GAP r h)
 
 small_under : (s : ℤ) → IsAtMost NORMAL s → s <ℤ UNDER_LIMIT
 small_under s h = omega (arith, ints, h.1)
+
+pub small_whole : (z : ℤ) → IsAtMost REMOTE z → unsigned_abs z < WHOLE_LIMIT
+small_whole z h = omega (arith, abs_of REMOTE z h)
+
+pub small_square : (k : ℕ) → pos k ≤ℤ squared COORD → k < SQUARE_LIMIT
+small_square k h = omega (arith, ints, h)
 
 pub crossing_range : (plane : Plane) (ray : Ray) (c : Crossing) → IsCrossing plane ray c → IsSmallCrossing c → IsCrossingInRange c
 crossing_range plane ray (Enters r s) h small = record { over = small_over r small.0; positive = h.2; under = small_under s small.1 }

@@ -1,5 +1,5 @@
 -- The faces of placed solids, whatever their kinds: planes, and at most one round face.
-use Rattle.std.specs.Prelude.{ℤ, List, ◌∷◌, Option, Some, None, replicate}
+use Rattle.std.specs.Prelude.{List, ◌∷◌, Option, Some, None, replicate}
 use Rattle.lattice_core.specs.declared.limit.TheConstants.{PLACED}
 use Rattle.lattice_core.specs.Limits.{IsWithin}
 use Rattle.plane_geom.specs.declared.plane.Plane.{Plane}

@@ -20,6 +20,7 @@ pub mod Separated
 mod SeparationExamples
 pub mod Times
 pub mod UnderPlacements
+pub mod PlacedAlike
 pub mod ScaledVectors
 pub mod ScaledCrossings
 pub mod ScaledEnds

@@ -1,35 +1,30 @@
--- One placement that does what the placements of a solid do gives the solid the same surface and the same box.
-use Rattle.std.proofs.Common.{◌≡◌, ◌∙◌, ℕ, ℤ, pos, ◌+ℤ◌, ◌-ℤ◌, List, [], ◌∷◌, map, refl, ap, sym, arith}
-use Rattle.std.specs.Prelude.{Option, Some, None, fold}
+-- Where placements take a surface and a cylinder one after the other, they take it at once: by one turn and one move.
+use Rattle.std.proofs.Common.{◌≡◌, ◌∙◌, ◌≢◌, ℕ, ℤ, pos, ◌+ℤ◌, List, [], ◌∷◌, map, refl, ap, sym, inl, inr, arith}
+use Rattle.std.specs.Prelude.{Option, Some, None}
 use Rattle.std.specs.Option.{option_map}
-use Rattle.std.specs.Int.{int_max}
-use Rattle.std.proofs.Math.Path.{fun_ext}
 use Rattle.std.proofs.lemmas.Int.{ints}
 use Rattle.lattice_core.specs.declared.vector.V3.{V3}
 use Rattle.lattice_core.specs.declared.placement.Placement.{Placement}
-use Rattle.lattice_core.specs.declared.ray.Dir.{Dir}
-use Rattle.lattice_core.specs.declared.ray.Dir.TheVariants.{PlusX, MinusX, PlusY, MinusY, PlusZ, MinusZ}
-use Rattle.lattice_core.specs.declared.boxes.Box3.{Box3}
-use Rattle.lattice_core.specs.declared.boxes.Box3.TheVariants.{Span}
-use Rattle.lattice_core.specs.declared.extent.Extent.{Extent}
 use Rattle.lattice_core.specs.Vectors.{dot_product, vector_sum, zero_vector}
 use Rattle.lattice_core.specs.Turns.{turned, row_of}
-use Rattle.lattice_core.specs.Extents.{extent_between}
 use Rattle.lattice_core.specs.Placements.{placed}
-use Rattle.lattice_core.specs.Units.{unit_of}
 use Rattle.lattice_core.proofs.Products.{mul_add}
 use Rattle.lattice_core.proofs.Turning.{vector_same, turned_sum, turned_dot, sum_zero}
 use Rattle.plane_geom.specs.declared.plane.Plane.{Plane}
 use Rattle.plane_geom.specs.Planes.{placed_plane}
-use Rattle.prim_arb8.specs.Faces.{planes_of, vertex_at}
-use Rattle.prim_sphere.specs.Spheres.{box_of as ball_box}
-use Rattle.solid_set.specs.declared.solid.Solid.{Solid}
-use Rattle.solid_set.specs.declared.solid.Solid.TheVariants as solids
+use Rattle.prim_rcc.specs.declared.axis.Axis.{Axis}
+use Rattle.prim_rcc.specs.declared.axis.Axis.TheVariants.{X, Y, Z}
+use Rattle.prim_rcc.specs.declared.rcc.RccFaces.{RccFaces}
+use Rattle.prim_rcc.specs.declared.side.RoundSide.{RoundSide}
+use Rattle.prim_rcc.specs.Axes.{HasOneComponent, axis_of, unit_on}
+use Rattle.prim_rcc.specs.Cylinders as cylinders
+use Rattle.prim_rcc.specs.Cylinders.{placed_cylinder, placed_faces}
+use Rattle.prim_rcc.proofs.Axial.{axis_turned, turned_has_one}
+use Rattle.prim_rcc.proofs.Planes.{faces_same}
 use Rattle.solid_set.specs.declared.surface.Surface.{Surface}
-use Rattle.solid_set.specs.declared.surface.Surface.TheVariants.{Planes, HalfSpace, Ball}
-use Rattle.solid_set.specs.Surfaces.{surface_of, bounds_of, placed_sides, plane_of_half}
-use Rattle.solid_set.specs.Placings.{point_under, placed_surface, surface_under, own_surface, bounds_under}
-use Rattle.solid_set.specs.PlacingLaws.{DoesAll, SolidsStandUnderOne, SolidsStandAlike}
+use Rattle.solid_set.specs.declared.surface.Surface.TheVariants.{Planes, HalfSpace, Ball, Cylinder}
+use Rattle.solid_set.specs.Surfaces.{placed_sides}
+use Rattle.solid_set.specs.Placings.{point_under, placed_surface, surface_under, cylinder_under}
 
 -- the turn of the placements: where they take a vector, less where they take the origin
 abbrev pub turned_under : List Placement → V3 → V3
@@ -107,69 +102,80 @@ sides_none (Some plane ∷ sides) =
     ap (λ (xs : List (Option Plane)). Some (plane_under [] plane) ∷ xs) (sides_none sides)
     ∙ ap (λ (x : Plane). Some x ∷ sides) (none_under plane)
 
--- the surface, taken as one
+-- the axis that the placements take one to
+abbrev pub axis_under : List Placement → Axis → Axis
+axis_under placements axis = axis_of (turned_under placements (unit_on axis))
+
+one_some : pos 1 ≢ pos 0
+one_some e = omega (arith, ints, e)
+
+unit_has_one : (axis : Axis) → HasOneComponent (unit_on axis)
+unit_has_one X = inl (one_some, refl, refl)
+unit_has_one Y = inr (inl (refl, one_some, refl))
+unit_has_one Z = inr (inr (refl, refl, one_some))
+
+turned_one : (placements : List Placement) (axis : Axis) → HasOneComponent (turned_under placements (unit_on axis))
+turned_one [] axis = unit_has_one axis
+turned_one (upper ∷ lower) axis = turned_has_one upper.turn.number (turned_under lower (unit_on axis)) upper.turn.in_range (turned_one lower axis)
+
+axis_none : (axis : Axis) → axis_under [] axis ≡ axis
+axis_none X = refl
+axis_none Y = refl
+axis_none Z = refl
+
+abbrev pub side_by : V3 → Axis → ℤ → RoundSide
+side_by centre axis radius = record { centre = centre; axis = axis; radius = radius }
+
+-- the faces of a cylinder that the placements take those of one to
+abbrev pub faces_under : List Placement → RccFaces → RccFaces
+faces_under placements faces = record {
+  base = plane_under placements faces.base;
+  top = plane_under placements faces.top;
+  side = side_by (point_under placements faces.side.centre) (axis_under placements faces.side.axis) faces.side.radius;
+}
+
+faces_none : (faces : RccFaces) → faces_under [] faces ≡ faces
+faces_none faces =
+    faces_same (none_under faces.base) (none_under faces.top)
+    (ap (λ (a : Axis). side_by faces.side.centre a faces.side.radius) (axis_none faces.side.axis))
+
+faces_next : (upper : Placement) (lower : List Placement) (faces : RccFaces) → placed_faces upper (faces_under lower faces) ≡ faces_under (upper ∷ lower) faces
+faces_next upper lower faces =
+    faces_same (next_under upper lower faces.base) (next_under upper lower faces.top)
+    (ap (λ (a : Axis). side_by (point_under (upper ∷ lower) faces.side.centre) a faces.side.radius)
+    (axis_turned upper.turn.number (turned_under lower (unit_on faces.side.axis)) (turned_one lower faces.side.axis)))
+
+-- the surface, taken at once
 abbrev pub surface_at_once : List Placement → Surface → Surface
 surface_at_once placements (Planes sides) = Planes (map (option_map (plane_under placements)) sides)
 surface_at_once placements (HalfSpace plane) = HalfSpace (plane_under placements plane)
 surface_at_once placements (Ball centre radius) = Ball (point_under placements centre) radius
+surface_at_once placements (Cylinder faces) = Cylinder (faces_under placements faces)
 
 surface_none : (surface : Surface) → surface ≡ surface_at_once [] surface
 surface_none (Planes sides) = ap (λ (s : List (Option Plane)). Planes s) (sym (sides_none sides))
 surface_none (HalfSpace plane) = ap (λ (p : Plane). HalfSpace p) (sym (none_under plane))
 surface_none (Ball centre radius) = refl
+surface_none (Cylinder faces) = ap (λ (f : RccFaces). Cylinder f) (sym (faces_none faces))
 
 surface_next : (upper : Placement) (lower : List Placement) (surface : Surface) → placed_surface upper (surface_at_once lower surface) ≡ surface_at_once (upper ∷ lower) surface
 surface_next upper lower (Planes sides) = ap (λ (s : List (Option Plane)). Planes s) (sides_next upper lower sides)
 surface_next upper lower (HalfSpace plane) = ap (λ (p : Plane). HalfSpace p) (next_under upper lower plane)
 surface_next upper lower (Ball centre radius) = refl
+surface_next upper lower (Cylinder faces) = ap (λ (f : RccFaces). Cylinder f) (faces_next upper lower faces)
 
 pub surface_is : (placements : List Placement) (surface : Surface) → surface_under placements surface ≡ surface_at_once placements surface
 surface_is [] surface = surface_none surface
 surface_is (upper ∷ lower) surface = ap (placed_surface upper) (surface_is lower surface) ∙ surface_next upper lower surface
 
+-- a cylinder, taken at once
+abbrev pub cylinder_by : V3 → V3 → ℤ → cylinders.Cylinder
+cylinder_by base height radius = record { base = base; height = height; radius = radius }
+
+pub cylinder_is : (placements : List Placement) (c : cylinders.Cylinder)
+    → cylinder_under placements c ≡ cylinder_by (point_under placements c.base) (turned_under placements c.height) c.radius
+cylinder_is [] c = refl
+cylinder_is (upper ∷ lower) c = ap (placed_cylinder upper) (cylinder_is lower c)
+
 pub turned_zero : (turn : ℕ) → turned turn zero_vector ≡ zero_vector
 turned_zero turn = vector_same (dot_zero (row_of turn 1)) (dot_zero (row_of turn 2)) (dot_zero (row_of turn 3))
-
-origin_is : (by : Placement) (placements : List Placement) → DoesAll by placements → by.shift ≡ origin_under placements
-origin_is by placements all =
-    sym (zero_sum by.shift) ∙ ap (λ (v : V3). vector_sum v by.shift) (sym (turned_zero by.turn.number)) ∙ all zero_vector
-
-turn_is : (by : Placement) (placements : List Placement) → DoesAll by placements → (v : V3) → turned by.turn.number v ≡ turned_under placements v
-turn_is by placements all v =
-    sum_left (turned by.turn.number v) (turned_under placements v) by.shift
-    (all v ∙ under_is placements v ∙ ap (λ (w : V3). vector_sum (turned_under placements v) w) (sym (origin_is by placements all)))
-
-plane_is : (by : Placement) (placements : List Placement) → DoesAll by placements → (plane : Plane) → plane_under placements plane ≡ placed_plane by plane
-plane_is by placements all plane =
-    ap (λ (n : V3). plane_by n (plane.d +ℤ dot_product n (origin_under placements))) (sym (turn_is by placements all plane.n))
-    ∙ ap (λ (s : V3). plane_by (turned by.turn.number plane.n) (plane.d +ℤ dot_product (turned by.turn.number plane.n) s)) (sym (origin_is by placements all))
-
-sides_are : (by : Placement) (placements : List Placement) → DoesAll by placements → (sides : List (Option Plane)) → map (option_map (plane_under placements)) sides ≡ placed_sides by sides
-sides_are by placements all [] = refl
-sides_are by placements all (None ∷ sides) = ap (λ (xs : List (Option Plane)). None ∷ xs) (sides_are by placements all sides)
-sides_are by placements all (Some plane ∷ sides) =
-    ap (λ (xs : List (Option Plane)). Some (plane_under placements plane) ∷ xs) (sides_are by placements all sides)
-    ∙ ap (λ (x : Plane). Some x ∷ placed_sides by sides) (plane_is by placements all plane)
-
-at_once_is : (by : Placement) (placements : List Placement) → DoesAll by placements → (solid : Solid) → surface_at_once placements (own_surface solid) ≡ surface_of solid by
-at_once_is by placements all (solids.Arb8 solid) = ap (λ (s : List (Option Plane)). Planes s) (sides_are by placements all (planes_of solid.vertices))
-at_once_is by placements all (solids.Sphere sphere) = ap (λ (c : V3). Ball c sphere.radius) (sym (all sphere.centre))
-at_once_is by placements all (solids.Half half) = ap (λ (p : Plane). HalfSpace p) (plane_is by placements all (plane_of_half half))
-
--- how far the farthest vertex lies where a function takes it
-abbrev farthest_by : (V3 → V3) → List V3 → Dir → ℤ
-farthest_by f vertices direction = fold (λ most p. int_max most (dot_product (unit_of direction) (f p))) (dot_product (unit_of direction) (f (vertex_at vertices 1))) vertices
-
-abbrev extent_by : (V3 → V3) → List V3 → Dir → Dir → Extent
-extent_by f vertices down up = extent_between (pos 0 -ℤ farthest_by f vertices down) (farthest_by f vertices up)
-
-abbrev pub box_by : (V3 → V3) → List V3 → Box3
-box_by f vertices = Span (extent_by f vertices MinusX PlusX) (extent_by f vertices MinusY PlusY) (extent_by f vertices MinusZ PlusZ)
-
-bounds_are : (by : Placement) (placements : List Placement) → DoesAll by placements → (solid : Solid) → bounds_under placements solid ≡ bounds_of solid by
-bounds_are by placements all (solids.Arb8 solid) = ap (λ (f : V3 → V3). box_by f solid.vertices) (sym (fun_ext all))
-bounds_are by placements all (solids.Sphere sphere) = ap (λ (c : V3). ball_box c sphere.radius) (sym (all sphere.centre))
-bounds_are by placements all (solids.Half half) = refl
-
-pub placements_one : PlacementsAreOne
-placements_one one by all = (surface_is one.placements (own_surface one.solid) ∙ at_once_is by one.placements all one.solid, bounds_are by one.placements all one.solid)

@@ -24,6 +24,7 @@ pub mod PlacedAlike
 pub mod ScaledVectors
 pub mod ScaledCrossings
 pub mod ScaledEnds
+pub mod ScaledChords
 pub mod ScaledSegments
 pub mod ScaledLevels
 pub mod ScaledSolids

@@ -4,10 +4,11 @@ use Rattle.lattice_core.specs.declared.limit.TheConstants.{FAR}
 use Rattle.lattice_core.specs.declared.ray.Ray.{Ray}
 use Rattle.lattice_core.specs.declared.ray.Dir.{Dir}
 use Rattle.lattice_core.specs.declared.ray.Dir.TheVariants.{PlusX, MinusX, PlusZ}
-use Rattle.lattice_core.specs.Vectors.{zero_vector}
+use Rattle.lattice_core.specs.Vectors.{vector, zero_vector}
 use Rattle.plane_geom.specs.declared.plane.Plane.{Plane}
 use Rattle.prim_rcc.specs.Cylinders.{base_plane, top_plane, round_side}
 use Rattle.prim_rcc.specs.Examples.{upright}
+use Rattle.solid_set.specs.declared.solid.Solid.TheVariants as solids
 use Rattle.solid_set.specs.declared.surface.Surface.{Surface}
 use Rattle.surd_order.specs.declared.position.Pos.TheVariants.{Frac, Surd}
 use Rattle.surd_order.specs.PlaceOrder.{place_cmp}
@@ -15,6 +16,8 @@ use Rattle.solid_set.specs.declared.surface.Surface.TheVariants.{Planes, HalfSpa
 use Rattle.solid_set.specs.Segments.{segment_of}
 use Rattle.solid_set.specs.Levels.{level_at}
 use Rattle.solid_set.specs.HitPlaces.{hit_places}
+use Rattle.solid_set.specs.Larger.{larger_solid}
+use Rattle.solid_set.specs.Times.{enlarged}
 
 abbrev ray_from : ℤ → ℤ → ℤ → Dir → Ray
 ray_from x y z dir = record { origin = record { x = x; y = y; z = z }; dir = dir }
@@ -142,3 +145,16 @@ on_the_side = refl
 inside_it : segment_of pillar (ray_from (pos 0) (pos 0) (pos 10) PlusX) ≡ Some (record { start = Frac (pos 0) (pos 1); start_face = 0; end = Frac (pos 5) (pos 1); end_face = 3 })
 unfolding place_cmp
 inside_it = refl
+
+-- 10 - √23 becomes 100 - √2300
+root_ten_times : enlarged 10 (Surd (pos 10) false 23) ≡ Surd (pos 100) false 2300
+root_ten_times = refl
+
+-- 5/2 becomes 25, which is in lowest terms again
+fraction_ten_times : enlarged 10 (Frac (pos 5) (pos 2)) ≡ Frac (pos 25) (pos 1)
+fraction_ten_times = refl
+
+-- a cylinder down an axis
+cylinder_ten_times : larger_solid 10 (solids.Rcc (record { base = vector (pos 1) (negsuc 1) (pos 0); height = vector (pos 0) (pos 0) (negsuc 19); radius = pos 5 }))
+    ≡ solids.Rcc (record { base = vector (pos 10) (negsuc 19) (pos 0); height = vector (pos 0) (pos 0) (negsuc 199); radius = pos 50 })
+cylinder_ten_times = refl

@@ -1,19 +1,18 @@
 -- The words of a line, and numbers among them.
-use Rattle.std.proofs.Common.{◌≡◌, ◌<◌, ◌≤◌, ◌+◌, ◌++◌, ◌^◌, ◌∷◌, [], ◌∙◌, ℕ, ℤ, List, set, take, length, get_or, drop, map, Option, Some, None, arith, lit<, ap, sym, refl}
+use Rattle.std.proofs.Common.{◌≡◌, ◌<◌, ◌≤◌, ◌+◌, ◌++◌, ◌∷◌, [], ◌∙◌, ℕ, ℤ, List, set, take, length, get_or, drop, map, Option, Some, None, arith, ap, sym, refl}
 use Rattle.std.specs.Borrow.{Bor}
 use Rattle.std.proofs.lemmas.Grind.{common_steps}
 use Rattle.std.proofs.lemmas.List.{drop_more, take_more, map-append, length-take}
-use Rattle.std.proofs.Common.{cond, Bool, true, false, ◌==◌, ◌||◌, eq-eqb, ne_eqb, Ok, Err, nat_lt, ◌≢◌}
+use Rattle.std.proofs.Common.{cond, Bool, true, false, ◌==◌, eq-eqb, ne_eqb, Ok, Err, ◌≢◌}
 use Rattle.name_core.specs.NameText.{read_name, read_with, first_bad}
 use Rattle.name_core.specs.declared.name.NameFault.TheVariants.{Empty, Long}
 use Rattle.std.proofs.lemmas.Bool.{cond-true, cond-false}
 use Rattle.std.proofs.lemmas.List.{length-map}
 use Rattle.word_values.specs.declared.solid.SolidKind.{SolidKind}
-use Rattle.word_values.specs.declared.solid.SolidKind.TheVariants as solids
 use Rattle.command_set.specs.declared.command.Command.{Command}
 use Rattle.command_set.specs.declared.refusal.Refusal.{Refusal}
 use Rattle.word_values.specs.Solids.{number_count}
-use Rattle.word_values.specs.Kinds.{coordinate_kind, kind_at, most_of, normal_kind, number_as, numbers_as, numbers_from, plain_kind, point_kind}
+use Rattle.word_values.specs.Kinds.{kind_at, number_as, numbers_as, numbers_from}
 use Rattle.word_values.specs.declared.atoms.NumberKind.{NumberKind}
 use Rattle.word_values.specs.declared.atoms.NumberList.{NumberList}
 use Rattle.word_values.specs.declared.atoms.NumberList.TheVariants as lists
@@ -49,19 +48,6 @@ next_read list atoms out i d n lt len is h =
     ∙ ap (λ o. numbers_as list before ++ o ∷ []) (sym is) in
     let right : take (i + 1) (set out i n) ≡ take i out ++ n ∷ [] = grind (arith, common_steps) in
     left ∙ ap (λ xs. xs ++ Some n ∷ []) h ∙ sym (ap (map (λ (m : ℤ). Some m)) right ∙ map-append (λ (m : ℤ). Some m) (take i out) (n ∷ []))
-
-either_small : (b : Bool) (one other : NumberKind) → most_of one < 2 ^ 62 → most_of other < 2 ^ 62 → most_of (cond b one other) < 2 ^ 62
-either_small true one other h k = h
-either_small false one other h k = k
-
--- each number of a line fits 64 bits
-pub kinds_small : (list : NumberList) (place : ℕ) → most_of (kind_at list place) < 2 ^ 62
-kinds_small (lists.Solid solids.Half) place = either_small (nat_lt place 3) normal_kind coordinate_kind (lit< tt) (lit< tt)
-kinds_small (lists.Solid solids.Rpp) place = lit< tt
-kinds_small (lists.Solid solids.Arb8) place = lit< tt
-kinds_small (lists.Solid solids.Sphere) place = lit< tt
-kinds_small lists.Point place = lit< tt
-kinds_small lists.Matrix place = either_small (place == 3 || place == 7 || place == 11) point_kind plain_kind (lit< tt) (lit< tt)
 
 -- too few words behind `in`
 pub in_short : (atoms : List (Bor (List ℕ))) → length atoms < 2 → Bad Syntax ≡ in_command (map (λ (a : Bor (List ℕ)). a.now) atoms)

@@ -42,10 +42,10 @@ use Rattle.word_values.specs.declared.atoms.NumberKind.TheVariants.{Whole, Lengt
 use Rattle.word_values.specs.declared.atoms.NumberList.{NumberList}
 use Rattle.word_values.specs.declared.atoms.NumberList.TheVariants as lists
 use Rattle.word_values.proofs.KindLaws.{kept_back, numbers_length}
+use Rattle.word_values.proofs.SolidLaws.{kind_again, kind_good}
 use Rattle.word_values.specs.Matrices.{placement_in, placement_of_all, placement_read, identity}
-use Rattle.word_values.specs.Solids.{kind_of, number_count, solid_made}
+use Rattle.word_values.specs.Solids.{kind_of, kind_word, number_count, solid_made}
 use Rattle.word_values.specs.declared.solid.SolidKind.{SolidKind}
-use Rattle.word_values.specs.declared.solid.SolidKind.TheVariants.{Half, Rpp, Arb8, Sphere}
 use Rattle.command_set.specs.declared.command.Command.{Command}
 use Rattle.command_set.specs.declared.command.Command.TheVariants.{Bad, Edit, Query, Shoot}
 use Rattle.command_set.specs.declared.command.Shoot.TheVariants.{Picture, Check}
@@ -55,7 +55,7 @@ use Rattle.command_set.specs.declared.refusal.Refusal.{Refusal}
 use Rattle.command_set.specs.declared.refusal.Refusal.TheVariants.{Syntax, Number, View}
 use Rattle.lattice_core.specs.declared.view.ViewFault.TheVariants.{World}
 use Rattle.mged_words.specs.Commands.{unless_refused, name_fault, names_fault, numbers_fault, solid_object, make_command, solid_command, kind_command, direction_of, is_in_world, is_from_world, world_fault, ray_of, shot_command, from_zero, side_number, size_numbers, view_numbers, view_refusal, picture_command, check_command, placement_fault, matrix_command, sixteen_command, matrix_words, matrix_step, place_with, setting_fault, set_command, set_with, worded_command, command_of_words, command_read, command_of}
-use Rattle.mged_words.specs.OneLine.{AreNames, AreNumbers, AreViewNumbers, IsAtom, IsAtomByte, line_of, kind_word, direction_word}
+use Rattle.mged_words.specs.OneLine.{AreNames, AreNumbers, AreViewNumbers, IsAtom, IsAtomByte, line_of, direction_word}
 use Rattle.mged_words.proofs.SettingLaws.{no_key}
 use Rattle.mged_words.proofs.OneLineLaws.{IsAtomWord, HasAtoms, atoms, atoms_from, line_is, line_read, line_command, name_good, names_good, all_there, fine_names, one_word, word_here, text_here, rest_here, unless_both}
 
@@ -153,18 +153,6 @@ unless_three : (one two three : Option Refusal) (command : Command) → one ≡ 
 unless_three one two three command h k l = ap (λ (o : Option Refusal). unless_refused (o ∷ two ∷ three ∷ []) command) h ∙ unless_both two three command k l
 
 -- ---- a solid
-
-kind_again : (kind : SolidKind) → kind_of (kind_word kind) ≡ Some kind
-kind_again Half = refl
-kind_again Rpp = refl
-kind_again Arb8 = refl
-kind_again Sphere = refl
-
-kind_good : (kind : SolidKind) → IsAtomWord (kind_word kind)
-kind_good Half = (omega arith, (refl, refl, (refl, refl, (refl, refl, (refl, refl, tt)))))
-kind_good Rpp = (omega arith, (refl, refl, (refl, refl, (refl, refl, tt))))
-kind_good Arb8 = (omega arith, (refl, refl, (refl, refl, (refl, refl, (refl, refl, tt)))))
-kind_good Sphere = (omega arith, (refl, refl, (refl, refl, (refl, refl, tt))))
 
 pub in_line : (name : List ℕ) (kind : SolidKind) (words : List (List ℕ)) (numbers : List ℤ) (solid : Solid) → IsName name → length words ≡ number_count kind → AreNumbers (lists.Solid kind) words numbers
     → solid_made kind (map (λ (n : ℤ). Some n) numbers) ≡ Ok solid → command_of (line_of (codes "in") (name ∷ kind_word kind ∷ words)) ≡ Edit (Make name (solid_object solid))

@@ -33,8 +33,10 @@ use Rattle.word_values.specs.declared.atoms.NumberList.TheVariants as lists
 use Rattle.word_values.specs.Groups.{words_of_tokens}
 use Rattle.word_values.specs.Matrices.{placement_read, identity}
 use Rattle.word_values.specs.Solids.{kind_of, number_count, solid_made, vector_at}
+use Rattle.word_values.specs.SolidForms.{made_as}
 use Rattle.word_values.specs.Trees.{Given, given_leaves, has_name, has_placement, members_in, most_leaves, tree_if, tree_of, tree_in as tree_spelled}
 use Rattle.word_values.specs.declared.solid.SolidKind.{SolidKind}
+use Rattle.word_values.specs.declared.solid_form.SolidForm.{SolidForm}
 use Rattle.word_values.specs.declared.tree.TreeFault.{TreeFault}
 use Rattle.word_values.specs.declared.tree.TreeFault.TheVariants as tree
 use Rattle.put_form.specs.Combs as combs
@@ -43,12 +45,10 @@ use Rattle.put_form.specs.Pairs.{Pair, pairs_of}
 use Rattle.put_form.specs.Puts as puts
 use Rattle.put_form.specs.Puts.{Put, unless_fault, when, name_of, solid_put, solid_with, comb_with, kind_named, kind_put, is_put, put_of, place_of}
 use Rattle.put_form.specs.Solids as solids
-use Rattle.put_form.specs.Kinds.{made_as}
 use Rattle.put_form.specs.declared.fault.PutFault.{PutFault}
 use Rattle.put_form.specs.declared.fault.PutFault.TheVariants as put
 use Rattle.put_form.specs.declared.kind.Kind.{Kind}
 use Rattle.put_form.specs.declared.kind.Kind.TheVariants as kinds
-use Rattle.put_form.specs.declared.kind.SolidForm.{SolidForm}
 use Rattle.command_set.specs.declared.command.Command.{Command}
 use Rattle.command_set.specs.declared.command.Command.TheVariants.{Bad, Edit, Query, Shoot}
 use Rattle.command_set.specs.declared.command.Shoot.TheVariants.{Picture, Check}

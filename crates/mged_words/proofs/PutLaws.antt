@@ -16,13 +16,14 @@ use Rattle.comb_tree.specs.Nodes.{Comb, members}
 use Rattle.object_set.specs.declared.kept.KeptAttr.{KeptAttr}
 use Rattle.object_set.specs.declared.object.Body.TheVariants as bodies
 use Rattle.word_values.specs.Solids.{number_count, solid_made}
+use Rattle.word_values.specs.SolidForms.{made_as}
+use Rattle.word_values.specs.declared.solid_form.SolidForm.{SolidForm}
 use Rattle.word_values.specs.Groups.{words_of_tokens}
 use Rattle.word_values.specs.Trees as trees
 use Rattle.word_values.specs.Trees.{Given, given_leaves, has_name, has_placement, member_of, members_in, most_leaves, tree_with, tree_if, tree_of}
 use Rattle.word_values.specs.declared.tree.TreeFault.{TreeFault}
 use Rattle.word_values.specs.declared.tree.TreeFault.TheVariants as tree
 use Rattle.put_form.specs.Keeps.{is_text, word_text, key_text, kept_attr, has_form, is_named, unnamed_at, kept_or, kept_of}
-use Rattle.put_form.specs.Kinds.{made_as}
 use Rattle.put_form.specs.Pairs.{Pair, pairs_of}
 use Rattle.put_form.specs.Solids as solids
 use Rattle.put_form.specs.Combs as combs
@@ -32,7 +33,6 @@ use Rattle.put_form.specs.declared.fault.PutFault.{PutFault}
 use Rattle.put_form.specs.declared.fault.PutFault.TheVariants as faults
 use Rattle.put_form.specs.declared.kind.Kind.{Kind}
 use Rattle.put_form.specs.declared.kind.Kind.TheVariants as kinds
-use Rattle.put_form.specs.declared.kind.SolidForm.{SolidForm}
 use Rattle.put_form.proofs.ListLaws.{both}
 use Rattle.put_form.proofs.KeepLaws.{text_value}
 use Rattle.mged_words.specs.Readable.{ArePlainPairs, IsPlainObject}

@@ -4,7 +4,7 @@ use Rattle.lattice_core.specs.declared.limit.TheConstants.{COORD, VIEW_NUMBER, W
 use Rattle.lattice_core.specs.declared.ray.Dir.{Dir}
 use Rattle.lattice_core.specs.declared.ray.Dir.TheVariants.{MinusX, PlusX, PlusY, MinusZ}
 use Rattle.lattice_core.specs.declared.view.View as views
-use Rattle.plane_geom.specs.declared.fault.ShapeFault.TheVariants.{Flat, NotPlanar, NotConvex, Radius, ZeroNormal}
+use Rattle.plane_geom.specs.declared.fault.ShapeFault.TheVariants.{Axis, Flat, NotPlanar, NotConvex, Radius, ZeroNormal}
 use Rattle.tree_forms.specs.declared.Op.TheVariants.{U, Minus, X}
 use Rattle.solid_set.specs.declared.solid.Solid.TheVariants as solids
 use Rattle.transcript.specs.Merge.{entry}
@@ -49,6 +49,21 @@ finer_than_a_tenth = refl
 pub normal_not_whole : command_of (codes "in h half 1.5 0 0 5") ≡ Bad (Number 4)
 normal_not_whole = refl
 
+pub no_axis : command_of (codes "in d rcc 0 0 0 1 0 1 5") ≡ Bad (Shape Axis)
+no_axis = refl
+
+pub axis_before_radius : command_of (codes "in d rcc 0 0 0 1 0 1 0") ≡ Bad (Shape Axis)
+axis_before_radius = refl
+
+pub no_radius_of_a_cylinder : command_of (codes "in d rcc 0 0 0 0 0 20 0") ≡ Bad (Shape Radius)
+no_radius_of_a_cylinder = refl
+
+pub six_numbers_of_a_cylinder : command_of (codes "in d rcc 0 0 0 0 0 20") ≡ Bad Syntax
+six_numbers_of_a_cylinder = refl
+
+pub numbers_before_axes : command_of (codes "in d rcc 0 0 0 1 0 16384.1 0") ≡ Bad (Number 9)
+numbers_before_axes = refl
+
 pub numbers_before_shapes : command_of (codes "in t sph 0 0 x 0") ≡ Bad (Number 6)
 numbers_before_shapes = refl
 
@@ -74,6 +89,11 @@ a_small_sphere = refl
 -- three whole numbers, and a length
 pub a_half_space : command_of (codes "in h half 1 0 -2 0.5") ≡ Edit (Make (codes "h") (solid_object (solids.Half (record { normal = vector (pos 1) (pos 0) (negsuc 1); distance = pos 5 }))))
 a_half_space = refl
+
+-- by the centre of the base, the height and the radius
+pub a_cylinder : command_of (codes "in c rcc 0 0 0 0 0 20 5")
+    ≡ Edit (Make (codes "c") (solid_object (solids.Rcc (record { base = vector (pos 0) (pos 0) (pos 0); height = vector (pos 0) (pos 0) (pos 200); radius = pos 50 }))))
+a_cylinder = refl
 
 pub a_shot : command_of (codes "nirt 1 2 3 -x s") ≡ Query (Shot (ray_of (vector (pos 10) (pos 20) (pos 30)) MinusX) (codes "s" ∷ []))
 a_shot = refl
@@ -478,6 +498,10 @@ at_sign_behind_a_blank = refl
 -- one object as a line
 pub a_put : command_of (codes "put s sph r 5 V {0 0 0}") ≡ Edit (Make (codes "s") (solid_object (solids.Sphere (record { centre = vector (pos 0) (pos 0) (pos 0); radius = pos 50 }))))
 a_put = refl
+
+pub put_of_a_cylinder : command_of (codes "put c rcc r 5 H {0 0 -20} V {0 0 0.5}")
+    ≡ Edit (Make (codes "c") (solid_object (solids.Rcc (record { base = vector (pos 0) (pos 0) (pos 5); height = vector (pos 0) (pos 0) (negsuc 199); radius = pos 50 }))))
+put_of_a_cylinder = refl
 
 -- a group where the object's name is wanted, which a text of a model has as a name that is none
 pub put_of_a_group : command_of (codes "put {a b} sph r 5 V {0 0 0}") ≡ Bad Syntax

@@ -10,8 +10,6 @@ use Rattle.tcl_words.specs.Faults.{is_bad_at}
 use Rattle.word_values.specs.Kinds.{number_as, numbers_as, plain_kind, point_kind}
 use Rattle.word_values.specs.declared.atoms.NumberList.{NumberList}
 use Rattle.word_values.specs.declared.atoms.NumberList.TheVariants as lists
-use Rattle.word_values.specs.declared.solid.SolidKind.{SolidKind}
-use Rattle.word_values.specs.declared.solid.SolidKind.TheVariants.{Half, Rpp, Arb8, Sphere}
 use Rattle.tree_forms.specs.declared.Op.{Op}
 use Rattle.tree_forms.specs.declared.Op.TheVariants.{U, N, Minus, X}
 use Rattle.comb_tree.specs.declared.node.ListEntry.{ListEntry}
@@ -49,13 +47,6 @@ member_words members = flat_map (λ (m : Member). operator_word m.0 ∷ m.1 ∷ 
 -- a member as a new entry of a list, where it stands
 abbrev pub new_entry : Member → ListEntry
 new_entry m = entry_of m.0 m.1
-
--- the word of a kind of solid
-abbrev pub kind_word : SolidKind → List ℕ
-kind_word Half = codes "half"
-kind_word Rpp = codes "rpp"
-kind_word Arb8 = codes "arb8"
-kind_word Sphere = codes "sph"
 
 -- the word of a direction
 abbrev pub direction_word : Dir → List ℕ

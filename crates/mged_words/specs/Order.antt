@@ -22,19 +22,19 @@ use Rattle.word_values.specs.declared.atoms.NumberList.TheVariants as lists
 use Rattle.word_values.specs.Groups.{words_of_tokens}
 use Rattle.word_values.specs.Matrices.{placement_read}
 use Rattle.word_values.specs.Solids.{kind_of, number_count, solid_made, vector_at}
+use Rattle.word_values.specs.SolidForms.{made_as}
 use Rattle.word_values.specs.Trees.{Given, given_leaves, tree_in as tree_spelled}
 use Rattle.word_values.specs.declared.solid.SolidKind.{SolidKind}
+use Rattle.word_values.specs.declared.solid_form.SolidForm.{SolidForm}
 use Rattle.tree_forms.specs.Trees.{Tree}
 use Rattle.put_form.specs.Combs as combs
 use Rattle.put_form.specs.Combs.{tree_pair}
 use Rattle.put_form.specs.Keeps.{key_text}
-use Rattle.put_form.specs.Kinds.{made_as}
 use Rattle.put_form.specs.Pairs.{Pair, pairs_of}
 use Rattle.put_form.specs.Puts.{kind_named}
 use Rattle.put_form.specs.Solids as solids
 use Rattle.put_form.specs.declared.kind.Kind.{Kind}
 use Rattle.put_form.specs.declared.kind.Kind.TheVariants as kinds
-use Rattle.put_form.specs.declared.kind.SolidForm.{SolidForm}
 use Rattle.command_set.specs.declared.command.Command.{Command}
 use Rattle.command_set.specs.declared.command.Command.TheVariants.{Bad}
 use Rattle.command_set.specs.declared.refusal.Refusal.{Refusal}

@@ -13,7 +13,7 @@ ghost use Rattle.region_attr.specs.Attrs.{is_setting};
 ghost use Rattle.solid_set.specs.declared.solid.Solid.{Solid};
 ghost use Rattle.word_values.specs.Kinds.{numbers_as};
 ghost use Rattle.word_values.specs.Matrices.{placement_read};
-ghost use Rattle.word_values.specs.Solids.{number_count, solid_made};
+ghost use Rattle.word_values.specs.Solids.{kind_word, number_count, solid_made};
 ghost use Rattle.word_values.specs.declared.atoms.NumberList.TheVariants as lists;
 ghost use Rattle.word_values.specs.declared.solid.SolidKind.{SolidKind};
 ghost use Rattle.command_set.specs.declared.command.Command.TheVariants as command;
@@ -21,7 +21,7 @@ ghost use Rattle.command_set.specs.declared.command.Edit.TheVariants as edits;
 ghost use Rattle.command_set.specs.declared.command.Query.TheVariants as queries;
 ghost use Rattle.command_set.specs.declared.command.Shoot.TheVariants as shoots;
 ghost use Rattle.mged_words.specs.Commands.{command_of, entry_of, ray_of, solid_object};
-ghost use Rattle.mged_words.specs.OneLine.{AreMembers, AreNames, AreNumbers, AreViewNumbers, IsAtom, Member, direction_word, kind_word, line_of, member_words, new_entry};
+ghost use Rattle.mged_words.specs.OneLine.{AreMembers, AreNames, AreNumbers, AreViewNumbers, IsAtom, Member, direction_word, line_of, member_words, new_entry};
 ghost use Rattle.mged_words.specs.Order.{TellsFirst, TellsNames, names_of_line, wanted_of_line};
 ghost use Rattle.mged_words.specs.declared.script.TheConstants.{LINE_COUNT, LINE_SIZE, SCRIPT_SIZE};
 

@@ -3,61 +3,32 @@ use Rattle.std.proofs.Common.{◌≡◌, ◌<◌, ◌≤◌, ◌+◌, ◌++◌, 
 use Rattle.std.specs.List.{list_all}
 use Rattle.std.specs.Option.{option_map}
 use Rattle.std.specs.Int.RustNames.{unsigned_abs}
-use Rattle.std.proofs.lemmas.Bool.{leb-true, lt-ltb, le-ltb}
+use Rattle.std.proofs.lemmas.Bool.{leb-true}
 use Rattle.std.proofs.lemmas.List.{length-map}
-use Rattle.lattice_core.specs.declared.vector.V3.{V3}
-use Rattle.plane_geom.specs.declared.fault.ShapeFault.{ShapeFault}
-use Rattle.solid_set.specs.Rpps.{vector, rpp_vertices}
-use Rattle.solid_set.specs.declared.solid.Solid.{Solid}
 use Rattle.tcl_words.specs.Numbers.{number_of, tenths_of}
 use Rattle.tcl_words.specs.TopWords.{atom_of}
 use Rattle.tcl_words.specs.declared.token.Token.{Token}
 use Rattle.tcl_words.specs.declared.token.Word.{Word}
 use Rattle.word_values.specs.Atoms.{words_in, kept_to}
-use Rattle.word_values.specs.Kinds.{number_as, most_of, coordinate_kind, normal_kind, kind_at, AllWithinKinds}
+use Rattle.word_values.specs.Kinds.{number_as, most_of, kind_at, AllWithinKinds}
 use Rattle.word_values.specs.declared.atoms.NumberKind.{NumberKind}
 use Rattle.word_values.specs.declared.atoms.NumberKind.TheVariants.{Whole, Length}
 use Rattle.word_values.specs.declared.atoms.NumberList.{NumberList}
 use Rattle.word_values.specs.declared.atoms.NumberList.TheVariants as lists
-use Rattle.word_values.specs.Solids.{number_count, solid_made, half_made, sphere_made, arb8_made}
+use Rattle.word_values.specs.Solids.{number_count, solid_made}
 use Rattle.word_values.specs.Solids as made
+use Rattle.word_values.specs.SolidForms.{Key, keys_of, key_at, made_as}
 use Rattle.word_values.specs.declared.solid.SolidKind.{SolidKind}
-use Rattle.word_values.specs.declared.solid.SolidKind.TheVariants as kinds
-use Rattle.put_form.specs.Kinds.{Key, keys_of, made_as}
+use Rattle.word_values.specs.declared.solid_form.SolidForm.{SolidForm}
+use Rattle.word_values.proofs.SolidLaws.{same_made}
+use Rattle.word_values.proofs.FormLaws.{HasPlaces, HavePlaces, total, enough, keys_more, keys_placed}
 use Rattle.put_form.specs.Pairs.{Pair, pair_of}
-use Rattle.std.specs.Str.{bytes_eq}
-use Rattle.put_form.specs.Solids.{key_in, of_count, single, value_atoms, value_numbers, numbers_at, key_numbers, appended, all_numbers, numbers_of, pair_numbers, radius_in, is_good, bad_pair}
-use Rattle.put_form.specs.Solids as solids
+use Rattle.put_form.specs.Solids.{of_count, single, value_atoms, value_numbers, numbers_at, key_numbers, appended, all_numbers, numbers_of, pair_numbers, radius_in, is_good, bad_pair}
 use Rattle.put_form.specs.Puts.{Put, unless_fault, name_fault, number_fault, solid_put, solid_of, solid_with}
 use Rattle.put_form.specs.Steps.{IsPutRead, word_of, word_fault}
-use Rattle.put_form.specs.SolidSteps.{key_at, has_axis, IsOfKind, AreOfKinds, or_zero, named_solid}
+use Rattle.put_form.specs.SolidSteps.{IsOfKind, AreOfKinds, or_zero, named_solid}
 use Rattle.put_form.specs.SolidSteps as steps
-use Rattle.put_form.specs.declared.kind.SolidForm.{SolidForm}
-use Rattle.put_form.specs.declared.kind.SolidForm.TheVariants.{Sphere, Ellipsoid, Half, Arb8}
 use Rattle.put_form.proofs.ListLaws.{found_here, found_end}
-
--- the keys from a place on
-pub keys_more : (form : SolidForm) (i : ℕ) → i < length (keys_of form) → drop i (keys_of form) ≡ key_at form i ∷ drop (i + 1) (keys_of form)
-keys_more Sphere zero lt = refl
-keys_more Sphere (suc zero) lt = refl
-keys_more Sphere (suc (suc i)) lt = absurd (omega (arith, lt))
-keys_more Half zero lt = refl
-keys_more Half (suc zero) lt = refl
-keys_more Half (suc (suc i)) lt = absurd (omega (arith, lt))
-keys_more Ellipsoid zero lt = refl
-keys_more Ellipsoid (suc zero) lt = refl
-keys_more Ellipsoid (suc (suc zero)) lt = refl
-keys_more Ellipsoid (suc (suc (suc zero))) lt = refl
-keys_more Ellipsoid (suc (suc (suc (suc i)))) lt = absurd (omega (arith, lt))
-keys_more Arb8 zero lt = refl
-keys_more Arb8 (suc zero) lt = refl
-keys_more Arb8 (suc (suc zero)) lt = refl
-keys_more Arb8 (suc (suc (suc zero))) lt = refl
-keys_more Arb8 (suc (suc (suc (suc zero)))) lt = refl
-keys_more Arb8 (suc (suc (suc (suc (suc zero))))) lt = refl
-keys_more Arb8 (suc (suc (suc (suc (suc (suc zero)))))) lt = refl
-keys_more Arb8 (suc (suc (suc (suc (suc (suc (suc zero))))))) lt = refl
-keys_more Arb8 (suc (suc (suc (suc (suc (suc (suc (suc i)))))))) lt = absurd (omega (arith, lt))
 
 -- the numbers of one key more
 appended_assoc : (done found : List (Option ℤ)) (rest : Option (List (Option ℤ))) → appended (Some (done ++ found)) rest ≡ appended (Some done) (appended (Some found) rest)
@@ -139,14 +110,6 @@ record Fits (list : NumberList) (place room : ℕ) (numbers : List (Option ℤ))
   pub count : length numbers ≡ room
   pub kinds : AreFrom list place numbers
 
--- a key's numbers have its kind in the list that all make
-abbrev HasPlaces : NumberList → ℕ → Key → Type 0
-HasPlaces list place key = (k : ℕ) → k < key.count → kind_at list (place + k) ≡ key.kind
-
-abbrev HavePlaces : NumberList → ℕ → List Key → Type 0
-HavePlaces list place [] = Unit {0}
-HavePlaces list place (key ∷ keys) = HasPlaces list place key × HavePlaces list (place + key.count) keys
-
 value_fits : (text : List ℕ) (tokens : List Token) (list : NumberList) (place : ℕ) (key : Key) (value : Word) (found : List (Option ℤ)) → HasPlaces list place key
     → value_numbers text tokens key value ≡ Some found → Fits list place key.count found
 value_fits text tokens list place key value found are h =
@@ -163,10 +126,6 @@ key_fits : (text : List ℕ) (tokens : List Token) (list : NumberList) (place : 
     → numbers_at text tokens key o ≡ Some found → Fits list place key.count found
 key_fits text tokens list place key None found are h = absurd cc
 key_fits text tokens list place key (Some p) found are h = value_fits text tokens list place key p.value found are h
-
-abbrev total : List Key → ℕ
-total [] = 0
-total (key ∷ keys) = key.count + total keys
 
 joined_some : (a b : Option (List (Option ℤ))) (found : List (Option ℤ)) → appended a b ≡ Some found
     → (x : List (Option ℤ)) × (y : List (Option ℤ)) × (a ≡ Some x) × (b ≡ Some y) × (x ++ y ≡ found)
@@ -191,18 +150,6 @@ all_fit text tokens pairs list place (key ∷ keys) found are h =
       kinds = from_joined list place j.0 j.1 first.kinds next;
     })
 
-enough : (form : SolidForm) → number_count (made_as form) ≤ total (keys_of form)
-enough Sphere = omega arith
-enough Ellipsoid = omega arith
-enough Half = omega arith
-enough Arb8 = omega arith
-
-keys_placed : (form : SolidForm) → HavePlaces (lists.Solid (made_as form)) 0 (keys_of form)
-keys_placed Sphere = (λ k lt. refl, (λ k lt. refl, tt))
-keys_placed Ellipsoid = (λ k lt. refl, (λ k lt. refl, (λ k lt. refl, (λ k lt. refl, tt))))
-keys_placed Half = (λ k lt. ap (λ b. cond b normal_kind coordinate_kind) (lt-ltb (0 + k) 3 (omega (arith, lt))), (λ k lt. ap (λ b. cond b normal_kind coordinate_kind) (le-ltb (3 + k) 3 (omega arith)), tt))
-keys_placed Arb8 = (λ k lt. refl, (λ k lt. refl, (λ k lt. refl, (λ k lt. refl, (λ k lt. refl, (λ k lt. refl, (λ k lt. refl, (λ k lt. refl, tt))))))))
-
 numbers_if : (t : Bool) (o : Option (List (Option ℤ))) (found : List (Option ℤ)) → cond t o None ≡ Some found → o ≡ Some found
 numbers_if true o found h = h
 numbers_if false o found h = absurd cc
@@ -223,17 +170,8 @@ numbers_of_kinds text tokens form pairs found h k lt =
     subst (λ (n : ℕ). IsOfKind (kind_at (lists.Solid (made_as form)) n) (get_or found k None)) sum ((numbers_fit text tokens form pairs found h).kinds k lt)
 
 -- the first bad pair, by the radius
-axis_same : (text : List ℕ) (tokens : List Token) (form : SolidForm) (pairs : List Pair) (p : Pair) → has_axis form p.key (radius_in text tokens pairs) (pair_numbers text tokens form p) ≡ solids.has_axis form text tokens pairs p
-axis_same text tokens Sphere pairs p = refl
-axis_same text tokens Ellipsoid pairs p = refl
-axis_same text tokens Half pairs p = refl
-axis_same text tokens Arb8 pairs p = refl
-
-good_same : (text : List ℕ) (tokens : List Token) (form : SolidForm) (pairs : List Pair) (p : Pair) → steps.is_good text tokens form (radius_in text tokens pairs) p ≡ is_good text tokens form pairs p
-good_same text tokens form pairs p = ap (λ b. list_all is_some (pair_numbers text tokens form p) && b) (axis_same text tokens form pairs p)
-
-pub bad_same : (text : List ℕ) (tokens : List Token) (form : SolidForm) (pairs : List Pair) → find (λ p. not (steps.is_good text tokens form (radius_in text tokens pairs) p)) pairs ≡ bad_pair text tokens form pairs
-bad_same text tokens form pairs = λ i. find (λ p. not (good_same text tokens form pairs p i)) pairs
+bad_same : (text : List ℕ) (tokens : List Token) (form : SolidForm) (pairs : List Pair) → find (λ p. not (steps.is_good text tokens form (radius_in text tokens pairs) p)) pairs ≡ bad_pair text tokens form pairs
+bad_same text tokens form pairs = refl
 
 bad_from : (text : List ℕ) (tokens : List Token) (form : SolidForm) (pairs : List Pair) (r : Option ℤ) (i : ℕ) → r ≡ radius_in text tokens pairs
     → find (λ p. not (steps.is_good text tokens form r p)) (drop i pairs) ≡ find (λ p. not (steps.is_good text tokens form r p)) pairs
@@ -259,26 +197,8 @@ nth_same [] i = refl
 nth_same (x ∷ xs) zero = refl
 nth_same (x ∷ xs) (suc i) = nth_same xs i
 
-abbrev vector_by : (ℕ → ℤ) → ℕ → V3
-vector_by at i = vector (at i) (at (i + 1)) (at (i + 2))
-
-abbrev made_by : SolidKind → (ℕ → ℤ) → Result Solid ShapeFault
-made_by kinds.Half at = half_made (vector_by at 0) (at 3)
-made_by kinds.Rpp at = arb8_made (rpp_vertices (at 0) (at 1) (at 2) (at 3) (at 4) (at 5))
-made_by kinds.Arb8 at =
-    arb8_made (vector_by at 0 ∷ vector_by at 3 ∷ vector_by at 6 ∷ vector_by at 9 ∷ vector_by at 12 ∷ vector_by at 15 ∷ vector_by at 18 ∷ vector_by at 21 ∷ [])
-made_by kinds.Sphere at = sphere_made (vector_by at 0) (at 3)
-
-by_places : (kind : SolidKind) (numbers : List (Option ℤ)) → solid_made kind numbers ≡ made_by kind (made.nth_number numbers)
-by_places kinds.Half numbers = refl
-by_places kinds.Rpp numbers = refl
-by_places kinds.Arb8 numbers = refl
-by_places kinds.Sphere numbers = refl
-
 pub zeros_made : (kind : SolidKind) (numbers : List (Option ℤ)) → solid_made kind (map (λ (n : ℤ). Some n) (map or_zero numbers)) ≡ solid_made kind numbers
-zeros_made kind numbers =
-    let both : made.nth_number (map (λ (n : ℤ). Some n) (map or_zero numbers)) ≡ made.nth_number numbers = λ i k. nth_same numbers k i in
-    by_places kind (map (λ (n : ℤ). Some n) (map or_zero numbers)) ∙ ap (made_by kind) both ∙ sym (by_places kind numbers)
+zeros_made kind numbers = same_made kind (map (λ (n : ℤ). Some n) (map or_zero numbers)) numbers (nth_same numbers)
 
 pub filled : (kind : SolidKind) (numbers : List (Option ℤ)) (whole : List ℤ) (count : ℕ) → count ≡ number_count kind → count ≤ length numbers
     → take (length (take count numbers)) whole ≡ map or_zero (take count numbers)
@@ -325,14 +245,3 @@ solid_read r text tokens form name pairs numbers bad is at h =
     let same : solid_of text tokens form name pairs ≡ named_solid name form numbers bad =
     ap (solid_with text tokens form name pairs) (sym is) ∙ ap (λ f. unless_fault (name_fault name ∷ f ∷ []) made) (fault_same (bad_pair text tokens form pairs) ∙ ap word_fault (sym at)) in
     subst (IsPutRead r) (sym same) h
-
--- a key of another name
-other_by : (t : Bool) (key : Key) (rest : Option Key) → t ≡ false → cond t (Some key) rest ≡ rest
-other_by true key rest e = absurd cc
-other_by false key rest e = refl
-
-pub other_key : (form : SolidForm) (i : ℕ) (name : List ℕ) → i < length (keys_of form) → bytes_eq (key_at form i).name name ≡ false
-    → key_in (drop (i + 1) (keys_of form)) (Some name) ≡ key_in (drop i (keys_of form)) (Some name)
-other_key form i name lt other =
-    sym (ap (λ (keys : List Key). key_in keys (Some name)) (keys_more form i lt)
-    ∙ other_by (bytes_eq (key_at form i).name name) (key_at form i) (key_in (drop (i + 1) (keys_of form)) (Some name)) other)

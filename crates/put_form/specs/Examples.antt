@@ -5,7 +5,7 @@ use Rattle.tree_forms.specs.Trees.{Leaf, Join}
 use Rattle.tcl_words.specs.Tokens.{tokens_of}
 use Rattle.tcl_words.specs.TopWords.{top_words}
 use Rattle.region_attr.specs.Attrs.{group_attr}
-use Rattle.plane_geom.specs.declared.fault.ShapeFault.TheVariants.{Flat, Radius, ZeroNormal}
+use Rattle.plane_geom.specs.declared.fault.ShapeFault.TheVariants.{Axis, Flat, Radius, ZeroNormal}
 use Rattle.solid_set.specs.Rpps.{vector}
 use Rattle.solid_set.specs.declared.solid.Solid.TheVariants as solids
 use Rattle.object_set.specs.declared.object.Body.TheVariants as bodies
@@ -48,6 +48,33 @@ not_along_x = refl
 -- where the first number of A is none in its range, the others need only be 0 beside their axis
 no_length : put (codes "put s ell B {0 6 0} V {1 -2 3} A {x 0 0} C {0 0 7}") ≡ Err (Number 9)
 no_length = refl
+
+abbrev cylinder : Put
+cylinder = Ok (codes "c", record { body = bodies.Solid (solids.Rcc (record { base = vector (pos 0) (pos 0) (pos 5); height = vector (pos 0) (pos 0) (negsuc 199); radius = pos 50 })); kept = [] })
+
+a_cylinder : put (codes "put c rcc V {0 0 0.5} H {0 0 -20} r 5") ≡ cylinder
+a_cylinder = refl
+
+a_cylinder_s_keys_in_any_order : put (codes "put c rcc r 5 H {0 0 -20} V {0 0 0.5}") ≡ cylinder
+a_cylinder_s_keys_in_any_order = refl
+
+no_height : put (codes "put c rcc V {0 0 0.5} r 5") ≡ Err Attr
+no_height = refl
+
+a_height_twice : put (codes "put c rcc V {0 0 0.5} H {0 0 -20} H {0 0 -20}") ≡ Err Attr
+a_height_twice = refl
+
+two_numbers_of_a_height : put (codes "put c rcc V {0 0 0.5} H {0 0} r 5") ≡ Err Attr
+two_numbers_of_a_height = refl
+
+no_axis : put (codes "put c rcc r 0 V {0 0 0} H {1 0 1}") ≡ Err (Shape Axis)
+no_axis = refl
+
+no_radius_of_a_cylinder : put (codes "put c rcc r 0 V {0 0 0} H {0 -1 0}") ≡ Err (Shape Radius)
+no_radius_of_a_cylinder = refl
+
+a_height_out_of_range : put (codes "put c rcc r 0 V {0 0 0} H {1 0 16384.1}") ≡ Err (Number 9)
+a_height_out_of_range = refl
 
 a_key_twice : put (codes "put s sph V {1 2 3} V {1 2 3}") ≡ Err Attr
 a_key_twice = refl
@@ -154,6 +181,10 @@ a_group_as_a_value = refl
 written_sphere : lines sphere ≡ codes "put s sph V {1 -2 3} r 5" ∷ []
 unfolding digits
 written_sphere = refl
+
+written_cylinder : lines cylinder ≡ codes "put c rcc V {0 0 0.5} H {0 0 -20} r 5" ∷ []
+unfolding digits
+written_cylinder = refl
 
 lengths_in_millimetres : map length_text (negsuc 4 ∷ pos 0 ∷ pos 30 ∷ pos 163839 ∷ []) ≡ codes "-0.5" ∷ codes "0" ∷ codes "3" ∷ codes "16383.9" ∷ []
 unfolding digits

@@ -12,9 +12,11 @@ use Rattle.comb_tree.specs.Nodes.{Comb}
 use Rattle.object_set.specs.Objects.{Parts}
 use Rattle.object_set.specs.declared.object.Body.TheVariants as bodies
 use Rattle.word_values.specs.Solids.{number_count, solid_made}
+use Rattle.word_values.specs.SolidForms.{made_as}
+use Rattle.word_values.specs.declared.solid_form.SolidForm.{SolidForm}
 use Rattle.word_values.specs.declared.tree.TreeFault.{TreeFault}
 use Rattle.word_values.specs.declared.tree.TreeFault.TheVariants as tree
-use Rattle.put_form.specs.Kinds.{kind_of, made_as}
+use Rattle.put_form.specs.Kinds.{kind_of}
 use Rattle.put_form.specs.Pairs.{Pair, pairs_of}
 use Rattle.put_form.specs.Solids as solids
 use Rattle.put_form.specs.Combs as combs
@@ -22,7 +24,6 @@ use Rattle.put_form.specs.declared.fault.PutFault.{PutFault}
 use Rattle.put_form.specs.declared.fault.PutFault.TheVariants.{NoType, Attr, Tree, Name, Number, Shape}
 use Rattle.put_form.specs.declared.kind.Kind.{Kind}
 use Rattle.put_form.specs.declared.kind.Kind.TheVariants as kinds
-use Rattle.put_form.specs.declared.kind.SolidForm.{SolidForm}
 
 -- a name and its object, or why there is none
 abbrev pub Put : Type 0

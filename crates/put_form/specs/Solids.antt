@@ -1,5 +1,5 @@
 -- Solids that are put: their keys, their numbers, and the first fault of these.
-use Rattle.std.specs.Prelude.{ℕ, ℤ, pos, Bool, true, false, not, ◌&&◌, ◌==◌, List, [], ◌∷◌, ◌++◌, length, map, Option, None, Some, is_some, codes, bytes_eq, find, if◌then◌else◌}
+use Rattle.std.specs.Prelude.{ℕ, ℤ, pos, Bool, true, false, not, ◌&&◌, ◌==◌, List, [], ◌∷◌, ◌++◌, length, map, Option, None, Some, is_some, codes, find, if◌then◌else◌}
 use Rattle.std.specs.List.{list_all, slice_index_or}
 use Rattle.std.specs.Option.{option_map}
 use Rattle.std.specs.Ordering.{int_eq}
@@ -8,10 +8,10 @@ use Rattle.tcl_words.specs.declared.token.Token.{Token}
 use Rattle.tcl_words.specs.declared.token.Word.{Word}
 use Rattle.word_values.specs.Atoms.{words_in}
 use Rattle.word_values.specs.Kinds.{number_as}
-use Rattle.put_form.specs.Kinds.{Key, keys_of, vector_key}
+use Rattle.word_values.specs.SolidForms.{Key, keys_of, key_in, vector_key}
+use Rattle.word_values.specs.declared.solid_form.SolidForm.{SolidForm}
+use Rattle.word_values.specs.declared.solid_form.SolidForm.TheVariants.{Sphere, Ellipsoid, Half, Arb8, Rcc}
 use Rattle.put_form.specs.Pairs.{Pair, pair_of, is_key}
-use Rattle.put_form.specs.declared.kind.SolidForm.{SolidForm}
-use Rattle.put_form.specs.declared.kind.SolidForm.TheVariants.{Sphere, Ellipsoid, Half, Arb8}
 
 abbrev pub nth_number : List (Option ℤ) → ℕ → Option ℤ
 nth_number numbers i = slice_index_or numbers i None
@@ -55,11 +55,6 @@ all_numbers text tokens pairs (key ∷ keys) = appended (key_numbers text tokens
 -- And each value is in its form.
 abbrev pub numbers_of : List ℕ → List Token → SolidForm → List Pair → Option (List (Option ℤ))
 numbers_of text tokens form pairs = if length pairs == length (keys_of form) then all_numbers text tokens pairs (keys_of form) else None
-
--- the key that a pair is of
-abbrev pub key_in : List Key → Option (List ℕ) → Option Key
-key_in keys None = None
-key_in keys (Some name) = find (λ (key : Key). bytes_eq key.name name) keys
 
 abbrev pub or_no_numbers : Option (List (Option ℤ)) → List (Option ℤ)
 or_no_numbers None = []
@@ -106,15 +101,16 @@ radius_in text tokens pairs = nth_number (or_no_numbers (key_numbers text tokens
 
 -- An axis of an ellipsoid is as long as A, and lies along x, y or z by its key; where A has no length in its range, it only
 -- lies so. Every other value has no axis to look at.
-abbrev pub has_axis : SolidForm → List ℕ → List Token → List Pair → Pair → Bool
-has_axis Sphere text tokens pairs p = true
-has_axis Ellipsoid text tokens pairs p = is_on (axis_of p.key) (radius_in text tokens pairs) (pair_numbers text tokens Ellipsoid p)
-has_axis Half text tokens pairs p = true
-has_axis Arb8 text tokens pairs p = true
+abbrev pub has_axis : SolidForm → Option (List ℕ) → Option ℤ → List (Option ℤ) → Bool
+has_axis Sphere key radius numbers = true
+has_axis Ellipsoid key radius numbers = is_on (axis_of key) radius numbers
+has_axis Half key radius numbers = true
+has_axis Arb8 key radius numbers = true
+has_axis Rcc key radius numbers = true
 
 -- a value is good where all its numbers are in their range, and an axis where it has its form too
 abbrev pub is_good : List ℕ → List Token → SolidForm → List Pair → Pair → Bool
-is_good text tokens form pairs p = list_all is_some (pair_numbers text tokens form p) && has_axis form text tokens pairs p
+is_good text tokens form pairs p = list_all is_some (pair_numbers text tokens form p) && has_axis form p.key (radius_in text tokens pairs) (pair_numbers text tokens form p)
 
 -- the first pair whose value is not good
 abbrev pub bad_pair : List ℕ → List Token → SolidForm → List Pair → Option Pair

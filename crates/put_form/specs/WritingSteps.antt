@@ -31,6 +31,10 @@ vertex_text number v = codes " V" ++ (decimal number ++ (codes " " ++ vector_tex
 abbrev pub keyed_text : List ℕ → NumberKind → V3 → List ℕ → ℤ → List ℕ
 keyed_text before kind vector between length = before ++ (vector_text kind vector ++ (between ++ length_text length))
 
+-- `rcc` and its keys with their values
+abbrev pub rcc_text : V3 → V3 → ℤ → List ℕ
+rcc_text base height radius = codes "rcc V " ++ (vector_text coordinate_kind base ++ keyed_text (codes " H ") coordinate_kind height (codes " r ") radius)
+
 abbrev pub numbers_of_attr : Attr → List ℕ
 numbers_of_attr attr =
     codes " id " ++ (decimal attr.id ++ (codes " air " ++ (decimal attr.air ++ (codes " los " ++ (decimal attr.los ++ (codes " mater " ++ decimal attr.mater))))))

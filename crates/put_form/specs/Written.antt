@@ -74,6 +74,8 @@ abbrev pub solid_text : Solid → List ℕ
 solid_text (solids.Sphere s) = codes "sph V " ++ (vector_text coordinate_kind s.centre ++ (codes " r " ++ length_text s.radius))
 solid_text (solids.Half h) = codes "half N " ++ (vector_text normal_kind h.normal ++ (codes " d " ++ length_text h.distance))
 solid_text (solids.Arb8 a) = codes "arb8" ++ vertices_text 1 a.vertices
+solid_text (solids.Rcc c) =
+    codes "rcc V " ++ (vector_text coordinate_kind c.base ++ (codes " H " ++ (vector_text coordinate_kind c.height ++ (codes " r " ++ length_text c.radius))))
 
 abbrev pub truth_text : Bool → List ℕ
 truth_text true = codes "yes"

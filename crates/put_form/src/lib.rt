@@ -11,7 +11,6 @@ mod name;
 mod pairs;
 mod put;
 mod solid;
-mod solid_keys;
 mod write;
 mod write_attr;
 mod write_number;
@@ -20,6 +19,6 @@ mod write_tree;
 
 pub use fault::PutFault;
 pub use keep::read_keep;
-pub use kind::{Kind, SolidForm};
+pub use kind::Kind;
 pub use put::read_put;
 pub use write::{push_kept_line, push_put_line, write_put};

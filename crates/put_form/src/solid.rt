@@ -4,20 +4,18 @@ ghost use Rattle.std.specs.List.{list_all};
 ghost use Rattle.std.specs.Option.{option_copied, option_map};
 ghost use Rattle.tcl_words.specs.TopWords.{AreTokensIn, IsWordOf};
 ghost use Rattle.word_values.specs.Solids.{number_count, solid_made};
+ghost use Rattle.word_values.specs.SolidForms as forms;
+ghost use Rattle.word_values.specs.SolidForms.{made_as};
 ghost use Rattle.word_values.specs.Kinds.{number_as};
 ghost use Rattle.word_values.specs.declared.atoms.NumberList.TheVariants as lists;
-ghost use Rattle.put_form.specs.Kinds as kinds;
-ghost use Rattle.put_form.specs.Kinds.{made_as};
 ghost use Rattle.put_form.specs.Solids as solids;
 ghost use Rattle.put_form.specs.Puts.{solid_of};
 ghost use Rattle.put_form.specs.SolidSteps as steps;
 ghost use Rattle.put_form.specs.Steps.{HaveWords, IsPutRead, word_of};
 
 use crate::fault::PutFault;
-use crate::kind::SolidForm;
 use crate::name::read_name;
 use crate::pairs::{KeyValue, is_key, pair_of};
-use crate::solid_keys::{Key, key_at, key_count, key_in, vector_key};
 use memory_core::Memory;
 use name_core::Name;
 use object_set::Object;
@@ -25,7 +23,7 @@ use plane_geom::ShapeFault;
 use solid_set::Solid;
 use std::alloc::Global;
 use tcl_words::{Token, Word, atom_text};
-use word_values::{NumberKind, group_atoms};
+use word_values::{Key, NumberKind, SolidForm, group_atoms, vector_key};
 
 /// A list of one atom.
 fn single(alloc: Global, atom: Option<&[u8]>) -> Result<Option<Vec<&[u8]>>, Memory>
@@ -133,11 +131,11 @@ fn all_numbers(
 ) -> Result<Option<Vec<Option<i64>>>, Memory>
     requires tokens { AreTokensIn (length text.now) tokens.now }
     requires words { HaveWords tokens.now pairs.now }
-    ensures { IfOk result (λ found. option_map (λ v. v.items) found ≡ solids.all_numbers text.now tokens.now pairs.now (kinds.keys_of form)) }
+    ensures { IfOk result (λ found. option_map (λ v. v.items) found ≡ solids.all_numbers text.now tokens.now pairs.now (forms.keys_of form)) }
 {
     let mut numbers = Vec::with_capacity(alloc, 24)?;
-    for place in 0..key_count(form) {
-        let key = key_at(form, place);
+    for place in 0..form.key_count() {
+        let key = form.key_at(place);
         let Some(found) = key_numbers(alloc, text, tokens, pairs, &key)? else {
             return Ok(None);
         };
@@ -158,7 +156,7 @@ fn numbers_of(
     requires words { HaveWords tokens.now pairs.now }
     ensures { IfOk result (λ found. option_map (λ v. v.items) found ≡ solids.numbers_of text.now tokens.now form pairs.now) }
 {
-    if pairs.len() == key_count(form) {
+    if pairs.len() == form.key_count() {
         all_numbers(alloc, text, tokens, pairs, form)
     } else {
         Ok(None)
@@ -175,10 +173,10 @@ fn or_no_numbers(alloc: Global, numbers: Option<Vec<Option<i64>>>) -> Vec<Option
 }
 
 fn key_of_pair(form: SolidForm, name: Option<&[u8]>) -> Option<Key>
-    ensures { result ≡ solids.key_in (kinds.keys_of form) (option_copied name.entry) }
+    ensures { result ≡ forms.key_in (forms.keys_of form) (option_copied name.entry) }
 {
     match name {
-        Some(name) => key_in(form, name),
+        Some(name) => form.key_in(name),
         None => None,
     }
 }
@@ -284,7 +282,7 @@ fn has_axis(
     radius: Option<i64>,
     numbers: &[Option<i64>],
 ) -> bool
-    ensures { result ≡ steps.has_axis form (option_copied key.entry) radius numbers.now }
+    ensures { result ≡ solids.has_axis form (option_copied key.entry) radius numbers.now }
 {
     match form {
         SolidForm::Ellipsoid => is_on(axis_of(key), radius, numbers),

@@ -2,7 +2,7 @@
 ghost use Rattle.std.specs.Prelude.{◌≡◌, ◌++◌, OnOk, codes};
 ghost use Rattle.word_values.specs.Kinds.{coordinate_kind, normal_kind};
 ghost use Rattle.put_form.specs.Written.{vertices_text, solid_text};
-ghost use Rattle.put_form.specs.WritingSteps.{keyed_text, vertex_text};
+ghost use Rattle.put_form.specs.WritingSteps.{keyed_text, rcc_text, vertex_text};
 
 use crate::write_number::{push_length, push_number, push_vector};
 use lattice_core::V3;
@@ -59,6 +59,14 @@ fn push_half(line: &mut Vec<u8>, normal: V3, distance: i64) -> Result<(), Memory
     push_keyed(line, b"half N ", normal_kind(), normal, b" d ", distance)
 }
 
+fn push_rcc(line: &mut Vec<u8>, base: V3, height: V3, radius: i64) -> Result<(), Memory>
+    ensures { OnOk result (line.new.items ≡ line.old.items ++ rcc_text base height radius) }
+{
+    line.extend_from_slice(b"rcc V ")?;
+    push_vector(line, coordinate_kind(), base)?;
+    push_keyed(line, b" H ", coordinate_kind(), height, b" r ", radius)
+}
+
 fn push_arb8(line: &mut Vec<u8>, vertices: &[V3]) -> Result<(), Memory>
     ensures { OnOk result (line.new.items ≡ line.old.items ++ (codes "arb8" ++ vertices_text 1 vertices.now)) }
 {
@@ -73,5 +81,6 @@ pub(crate) fn push_solid(line: &mut Vec<u8>, solid: &Solid) -> Result<(), Memory
         Solid::Sphere(sphere) => push_sphere(line, sphere.centre(), sphere.radius()),
         Solid::Half(half) => push_half(line, half.normal(), half.distance()),
         Solid::Arb8(arb8) => push_arb8(line, &arb8.vertices()),
+        Solid::Rcc(rcc) => push_rcc(line, rcc.base(), rcc.height(), rcc.radius()),
     }
 }

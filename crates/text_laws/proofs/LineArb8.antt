@@ -21,11 +21,11 @@ use Rattle.tcl_words.proofs.Scan.{Piece}
 use Rattle.tcl_words.proofs.Written.{Good}
 use Rattle.word_values.specs.Kinds.{coordinate_kind}
 use Rattle.word_values.specs.Solids.{unless_faulty}
-use Rattle.put_form.specs.Kinds.{vector_key}
+use Rattle.word_values.specs.SolidForms.{vector_key}
+use Rattle.word_values.specs.declared.solid_form.SolidForm.TheVariants.{Arb8}
 use Rattle.put_form.specs.Pairs.{Pair, pair}
 use Rattle.put_form.specs.Puts.{put_of, kind_put, solid_put}
 use Rattle.put_form.specs.declared.kind.Kind.TheVariants as kinds
-use Rattle.put_form.specs.declared.kind.SolidForm.TheVariants.{Arb8}
 use Rattle.put_form.specs.Solids as solid_keys
 use Rattle.put_form.specs.Written.{length_text, put_line, vertices_text}
 use Rattle.text_laws.specs.PutAgain.{IsPutAgain}

@@ -17,7 +17,7 @@ use Rattle.lattice_core.specs.Vectors.{zero_vector}
 use Rattle.name_core.specs.NameText.{IsName, read_name}
 use Rattle.name_core.proofs.NameLaws.{accepted}
 use Rattle.prim_half.specs.Halves.{HalfSpace}
-use Rattle.prim_sphere.specs.Spheres.{Ball, IsRadius}
+use Rattle.prim_sphere.specs.Spheres.{Ball}
 use Rattle.solid_set.specs.declared.solid.Solid.{Solid}
 use Rattle.solid_set.specs.declared.solid.Solid.TheVariants as solids
 use Rattle.object_set.specs.declared.object.Body.TheVariants as bodies
@@ -31,17 +31,22 @@ use Rattle.tcl_words.proofs.Written.{Good}
 use Rattle.word_values.specs.Atoms.{words_in}
 use Rattle.word_values.specs.Kinds.{number_as, coordinate_kind, normal_kind}
 use Rattle.word_values.specs.declared.atoms.NumberKind.{NumberKind}
-use Rattle.plane_geom.specs.declared.fault.ShapeFault.TheVariants.{Radius, ZeroNormal}
-use Rattle.word_values.specs.Solids.{solid_made, is_zero, number_count}
-use Rattle.put_form.specs.Kinds.{Key, kind_of, made_as, vector_key, normal_key, number_key}
+use Rattle.plane_geom.specs.Chords.{IsRadius}
+use Rattle.prim_rcc.specs.Axes.{HasOneComponent}
+use Rattle.prim_rcc.specs.Cylinders.{Cylinder}
+use Rattle.plane_geom.specs.declared.fault.ShapeFault.TheVariants.{Axis, Radius, ZeroNormal}
+use Rattle.word_values.specs.Solids.{solid_made, is_zero, has_one_component, number_count}
+use Rattle.word_values.specs.SolidForms.{Key, made_as, vector_key, normal_key, number_key}
+use Rattle.word_values.specs.declared.solid_form.SolidForm.{SolidForm}
+use Rattle.word_values.specs.declared.solid_form.SolidForm.TheVariants.{Sphere, Half, Rcc}
+use Rattle.word_values.proofs.SolidLaws.{Decides-has_one_component}
+use Rattle.put_form.specs.Kinds.{kind_of}
 use Rattle.put_form.specs.Pairs.{Pair, pair, pairs_of}
 use Rattle.put_form.specs.Puts.{Put, put_of, kind_put, solid_of, solid_with, solid_put, unless_fault, number_fault, name_fault, when, is_put, kind_named}
 use Rattle.put_form.specs.declared.fault.PutFault.{PutFault}
 use Rattle.put_form.specs.declared.fault.PutFault.TheVariants.{Name}
-use Rattle.put_form.specs.declared.kind.SolidForm.{SolidForm}
-use Rattle.put_form.specs.declared.kind.SolidForm.TheVariants.{Sphere, Half}
 use Rattle.put_form.specs.Solids as solid_keys
-use Rattle.put_form.specs.Written.{length_text, number_text, put_line}
+use Rattle.put_form.specs.Written.{length_text, number_text, vector_text, put_line}
 use Rattle.text_laws.specs.PutAgain.{IsPutAgain}
 use Rattle.put_form.proofs.NameWords.{is_word, name_word, word_good}
 use Rattle.text_laws.proofs.LineNumbers.{IsOf, AreOf, of_kind_again, of_kind_word, coordinate_of, coordinates_of, components_of}
@@ -215,3 +220,64 @@ half_again name s is within small direction =
     let line : List ℕ = put_line name (bodies.Solid (solids.Half s)) in
     let have : HasPieces line (half_pieces name s) = read_line line (half_pieces name s) (half_written name s) (two_good name (codes "half") (codes "N") (codes "d") normal_kind s.normal s.distance is refl refl refl (components_of s.normal within) (coordinate_of s.distance small)) in
     (have.tokens, have.read, by_places (λ ts. put_of line ts (top_words ts) ≡ put_solid name (solids.Half s)) line have.tokens (half_pieces name s) have.are (λ start end bytes. half_put line start end name s bytes is within small direction))
+
+-- ---- a cylinder
+
+abbrev rcc_pieces : List ℕ → Cylinder → List Piece
+rcc_pieces name c =
+    atom (codes "put") ∷ atom name ∷ atom (codes "rcc") ∷ atom (codes "V")
+    ∷ vector_pieces coordinate_kind c.base (atom (codes "H") ∷ vector_pieces coordinate_kind c.height (atom (codes "r") ∷ atom (length_text c.radius) ∷ []))
+
+rcc_written : (name : List ℕ) (c : Cylinder) → put_line name (bodies.Solid (solids.Rcc c)) ≡ written_after Open (rcc_pieces name c)
+rcc_written name c =
+    ap (λ (text : List ℕ). codes "put " ++ (name ++ (codes " rcc V " ++ text)))
+    (vector_written coordinate_kind c.base (codes " H " ++ (vector_text coordinate_kind c.height ++ (codes " r " ++ length_text c.radius)))
+    ∙ ap (λ (height : List ℕ). triple_text (length_text c.base.x) (length_text c.base.y) (length_text c.base.z) (codes " H " ++ height))
+    (vector_written coordinate_kind c.height (codes " r " ++ length_text c.radius)
+    ∙ ap (λ (radius : List ℕ). triple_text (length_text c.height.x) (length_text c.height.y) (length_text c.height.z) (codes " r " ++ radius)) (sym (append-nil (length_text c.radius)))))
+
+rcc_good : (name : List ℕ) (c : Cylinder) → IsName name → AreOf coordinate_kind c.base → AreOf coordinate_kind c.height → IsOf coordinate_kind c.radius → Good 0 (rcc_pieces name c)
+rcc_good name c is base height radius =
+    let end : Good 0 (atom (codes "r") ∷ atom (length_text c.radius) ∷ []) = (word_good (codes "r") 0 refl, (word_good (length_text c.radius) 0 (of_kind_word coordinate_kind c.radius radius), refl)) in
+    let rest : Good 0 (atom (codes "H") ∷ vector_pieces coordinate_kind c.height (atom (codes "r") ∷ atom (length_text c.radius) ∷ [])) = (word_good (codes "H") 0 refl, vector_good coordinate_kind c.height _ height end) in
+    (word_good (codes "put") 0 refl, (word_good name 0 (name_word name is), (word_good (codes "rcc") 0 refl, (word_good (codes "V") 0 refl, vector_good coordinate_kind c.base _ base rest))))
+
+abbrev rcc_pairs : Option (List ℕ) → Option (List ℕ) → Option (List ℕ) → List Pair
+rcc_pairs first second third = pair first (word 4 8) 5 ∷ pair second (word 10 14) 7 ∷ pair third (word 16 16) 9 ∷ []
+
+abbrev three_numbers : Option (List (Option ℤ)) → Option (List (Option ℤ)) → Option (List (Option ℤ)) → Option (List (Option ℤ))
+three_numbers a b c = solid_keys.appended a (solid_keys.appended b (solid_keys.appended c (Some [])))
+
+abbrev unless_good : List ℕ → Word → ℕ → Option (List (Option ℤ)) → Option Pair → Option Pair
+unless_good key w place numbers rest = cond (not (list_all is_some (solid_keys.or_no_numbers numbers) && true)) (Some (pair (Some key) w place)) rest
+
+abbrev three_bad : Option (List (Option ℤ)) → Option (List (Option ℤ)) → Option (List (Option ℤ)) → Option Pair
+three_bad a b c = unless_good (codes "V") (word 4 8) 5 a (unless_good (codes "H") (word 10 14) 7 b (unless_good (codes "r") (word 16 16) 9 c None))
+
+same_three : {X Y : Type 0} (f : X → X → X → Y) {a b c x y z : X} → a ≡ x → b ≡ y → c ≡ z → f a b c ≡ f x y z
+same_three f ea eb ec = cc
+
+rcc_put : (text : List ℕ) (start end : ℕ → ℕ) (name : List ℕ) (c : Cylinder) → HasBytes text start end (rcc_pieces name c) → IsName name → IsWithin COORD c.base → IsWithin COORD c.height → HasOneComponent c.height
+    → IsAtMost COORD c.radius → pos 1 ≤ℤ c.radius → put_of text (placed start end (rcc_pieces name c)) (top_words (placed start end (rcc_pieces name c))) ≡ put_solid name (solids.Rcc c)
+rcc_put text start end name c bytes is base height axis small some =
+    let tokens : List Token = placed start end (rcc_pieces name c) in
+    let v : solid_keys.value_numbers text tokens (vector_key (codes "V")) (word 4 8) ≡ Some (Some c.base.x ∷ Some c.base.y ∷ Some c.base.z ∷ []) =
+    vector_value text tokens (word 4 8) (codes "V") coordinate_kind c.base (some_three (bytes 5) (bytes 6) (bytes 7)) (coordinates_of c.base base) in
+    let h : solid_keys.value_numbers text tokens (vector_key (codes "H")) (word 10 14) ≡ Some (Some c.height.x ∷ Some c.height.y ∷ Some c.height.z ∷ []) =
+    vector_value text tokens (word 10 14) (codes "H") coordinate_kind c.height (some_three (bytes 11) (bytes 12) (bytes 13)) (coordinates_of c.height height) in
+    let r : solid_keys.value_numbers text tokens (number_key (codes "r")) (word 16 16) ≡ Some (Some c.radius ∷ []) =
+    number_value text tokens (word 16 16) (codes "r") c.radius (ap Some (bytes 16)) (coordinate_of c.radius small) in
+    put_words text tokens (word 0 0) (word 1 1) (word 2 2) (word 3 3 ∷ word 4 8 ∷ word 9 9 ∷ word 10 14 ∷ word 15 15 ∷ word 16 16 ∷ []) name (codes "rcc") (ap Some (bytes 0)) (ap Some (bytes 1)) (ap Some (bytes 2))
+    ∙ same_three (λ k l m. kind_put text tokens (Some name) (kind_of (codes "rcc")) (Some (rcc_pairs k l m))) (ap Some (bytes 3)) (ap Some (bytes 9)) (ap Some (bytes 15))
+    ∙ good_solid text tokens Rcc name (rcc_pairs (Some (codes "V")) (Some (codes "H")) (Some (codes "r")))
+    (Some c.base.x ∷ Some c.base.y ∷ Some c.base.z ∷ Some c.height.x ∷ Some c.height.y ∷ Some c.height.z ∷ Some c.radius ∷ []) is
+    (same_three three_numbers v h r)
+    (same_three three_bad v h r)
+    ∙ ap₂ (λ a b. solid_put (Some name) (cond a (cond b (Err Radius) (Ok (solids.Rcc c))) (Err Axis))) ((Decides-has_one_component c.height).1 axis) (not_less c.radius some)
+
+pub rcc_again : (name : List ℕ) (c : Cylinder) → IsName name → IsWithin COORD c.base → IsWithin COORD c.height → HasOneComponent c.height → IsRadius c.radius → IsPutAgain name (bodies.Solid (solids.Rcc c))
+rcc_again name c is base height axis radius =
+    let small : IsAtMost COORD c.radius = (omega (arith, ints, radius.some), radius.size) in
+    let line : List ℕ = put_line name (bodies.Solid (solids.Rcc c)) in
+    let have : HasPieces line (rcc_pieces name c) = read_line line (rcc_pieces name c) (rcc_written name c) (rcc_good name c is (coordinates_of c.base base) (coordinates_of c.height height) (coordinate_of c.radius small)) in
+    (have.tokens, have.read, by_places (λ ts. put_of line ts (top_words ts) ≡ put_solid name (solids.Rcc c)) line have.tokens (rcc_pieces name c) have.are (λ start end bytes. rcc_put line start end name c bytes is base height axis small radius.some))

@@ -13,6 +13,7 @@ use name_core::Name;
 use object_set::{Body, Object, recall_names};
 use prim_arb8::Arb8;
 use prim_half::Half;
+use prim_rcc::Rcc;
 use prim_sphere::Sphere;
 use region_attr::{Attr, Rgb};
 use solid_set::Solid;
@@ -43,6 +44,16 @@ fn arb8_line_reads_again(name: &Name, arb8: &Arb8)
     let _vertices = arb8.vertices();
 }
 
+/// The written line of a cylinder reads as that cylinder.
+fn rcc_line_reads_again(name: &Name, rcc: &Rcc)
+    ensures { IsPutAgain name.now (bodies.Solid (solids.Rcc rcc.now)) }
+{
+    let _bytes = name.bytes();
+    let _base = rcc.base();
+    let _height = rcc.height();
+    let _radius = rcc.radius();
+}
+
 /// The written line of a solid reads as that solid.
 fn solid_line_reads_again(name: &Name, solid: &Solid)
     ensures { IsPutAgain name.now (bodies.Solid solid.now) }
@@ -51,6 +62,7 @@ fn solid_line_reads_again(name: &Name, solid: &Solid)
         Solid::Sphere(sphere) => sphere_line_reads_again(name, sphere),
         Solid::Half(half) => half_line_reads_again(name, half),
         Solid::Arb8(arb8) => arb8_line_reads_again(name, arb8),
+        Solid::Rcc(rcc) => rcc_line_reads_again(name, rcc),
     }
 }
 

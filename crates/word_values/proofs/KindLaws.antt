@@ -1,5 +1,5 @@
 -- Atoms as the numbers of a list.
-use Rattle.std.proofs.Common.{◌≡◌, ◌∙◌, ◌+◌, ◌++◌, ◌<◌, ◌≤◌, ℕ, ℤ, pos, zero, suc, Bool, true, false, cond, List, [], ◌∷◌, length, map, get_or, lit≤, Option, Some, None, refl, ap, subst, arith, zero-add, All}
+use Rattle.std.proofs.Common.{◌≡◌, ◌∙◌, ◌+◌, ◌++◌, ◌<◌, ◌≤◌, ◌==◌, ◌||◌, ◌^◌, ℕ, ℤ, pos, zero, suc, Bool, true, false, cond, List, [], ◌∷◌, length, map, get_or, lit≤, lit<, Option, Some, None, refl, ap, subst, arith, zero-add, All}
 use Rattle.std.specs.Prelude.{nat_le, nat_lt}
 use Rattle.std.specs.Int.RustNames.{unsigned_abs}
 use Rattle.std.proofs.lemmas.Bool.{leb-true, le-leb}
@@ -9,7 +9,7 @@ use Rattle.lattice_core.specs.Limits.{IsAtMost, IsWithin}
 use Rattle.lattice_core.specs.declared.limit.TheConstants.{COORD, HALF_NORMAL}
 use Rattle.tcl_words.specs.Numbers.{number_of, tenths_of}
 use Rattle.word_values.specs.Atoms.{kept_to}
-use Rattle.word_values.specs.Kinds.{number_as, most_of, solid_kind_at, kind_at, normal_kind, coordinate_kind, numbers_from, numbers_as, AllWithinKinds}
+use Rattle.word_values.specs.Kinds.{number_as, most_of, solid_kind_at, kind_at, normal_kind, coordinate_kind, point_kind, plain_kind, numbers_from, numbers_as, AllWithinKinds}
 use Rattle.word_values.specs.Solids.{vector_at}
 use Rattle.word_values.specs.declared.atoms.NumberKind.{NumberKind}
 use Rattle.word_values.specs.declared.atoms.NumberKind.TheVariants.{Whole, Length}
@@ -87,6 +87,20 @@ within_from list place (atom ∷ atoms) (n ∷ ns) e (suc k) lt =
 pub read_within : (list : NumberList) (atoms : List (List ℕ)) (numbers : List ℤ) → numbers_as list atoms ≡ map (λ (n : ℤ). Some n) numbers → AllWithinKinds list numbers
 read_within list atoms numbers e k lt = subst (λ (i : ℕ). unsigned_abs (get_or numbers k (pos 0)) ≤ most_of (kind_at list i)) (zero-add k) (within_from list 0 atoms numbers e k lt)
 
+either_small : (b : Bool) (one other : NumberKind) → most_of one < 2 ^ 62 → most_of other < 2 ^ 62 → most_of (cond b one other) < 2 ^ 62
+either_small true one other h k = h
+either_small false one other h k = k
+
+-- each number of a list fits 64 bits
+pub kinds_small : (list : NumberList) (place : ℕ) → most_of (kind_at list place) < 2 ^ 62
+kinds_small (lists.Solid solids.Half) place = either_small (nat_lt place 3) normal_kind coordinate_kind (lit< tt) (lit< tt)
+kinds_small (lists.Solid solids.Rpp) place = lit< tt
+kinds_small (lists.Solid solids.Arb8) place = lit< tt
+kinds_small (lists.Solid solids.Sphere) place = lit< tt
+kinds_small (lists.Solid solids.Rcc) place = lit< tt
+kinds_small lists.Point place = lit< tt
+kinds_small lists.Matrix place = either_small (place == 3 || place == 7 || place == 11) point_kind plain_kind (lit< tt) (lit< tt)
+
 -- ---- the numbers of a solid
 
 half_small : (b : Bool) → most_of (cond b normal_kind coordinate_kind) ≤ unsigned_abs COORD
@@ -98,6 +112,7 @@ solid_small solids.Half place = half_small (nat_lt place 3)
 solid_small solids.Rpp place = lit≤ tt
 solid_small solids.Arb8 place = lit≤ tt
 solid_small solids.Sphere place = lit≤ tt
+solid_small solids.Rcc place = lit≤ tt
 
 at_most : (limit : ℕ) (n : ℤ) → unsigned_abs n ≤ limit → IsAtMost (pos limit) n
 at_most limit n small = (omega (arith, ints, small), omega (arith, ints, small))

@@ -1,6 +1,7 @@
 pub mod AtomLaws
 pub mod KindLaws
 pub mod SolidLaws
+pub mod FormLaws
 pub mod MatrixLaws
 pub mod TokenLaws
 pub mod GivenLaws

@@ -1,6 +1,9 @@
 -- Numbers of each kind and small texts of trees, and what the definitions make of them, each proved by computing.
-use Rattle.std.specs.Prelude.{◌≡◌, refl, ℕ, pos, List, [], ◌∷◌, None, Some, Result, Ok, Err, codes}
+use Rattle.std.specs.Prelude.{◌≡◌, refl, ℕ, pos, negsuc, List, [], ◌∷◌, None, Some, Result, Ok, Err, false, codes}
 use Rattle.lattice_core.specs.declared.limit.TheConstants.{COORD, HALF_NORMAL}
+use Rattle.lattice_core.specs.Vectors.{vector}
+use Rattle.plane_geom.specs.declared.fault.ShapeFault.TheVariants.{Axis, Radius}
+use Rattle.solid_set.specs.declared.solid.Solid.TheVariants as made
 use Rattle.tree_forms.specs.declared.Op.TheVariants.{U, N, Minus, X}
 use Rattle.tree_forms.specs.Trees.{Tree, Leaf, Join}
 use Rattle.comb_tree.specs.Nodes.{Comb, Member}
@@ -8,9 +11,12 @@ use Rattle.tcl_words.specs.Tokens.{tokens_of}
 use Rattle.word_values.specs.Groups.{Words, End, Atom, Group, words_of_tokens}
 use Rattle.word_values.specs.Kinds.{number_as, numbers_as, coordinate_kind, normal_kind}
 use Rattle.word_values.specs.Matrices.{identity}
+use Rattle.word_values.specs.Solids.{has_one_component, kind_of, rcc_made}
+use Rattle.word_values.specs.SolidForms.{form_of, key_at, vector_key}
 use Rattle.word_values.specs.Trees.{tree_of}
 use Rattle.word_values.specs.declared.atoms.NumberList.TheVariants as lists
 use Rattle.word_values.specs.declared.solid.SolidKind.TheVariants as solids
+use Rattle.word_values.specs.declared.solid_form.SolidForm.TheVariants as forms
 use Rattle.word_values.specs.declared.tree.TreeFault.{TreeFault}
 use Rattle.word_values.specs.declared.tree.TreeFault.TheVariants.{Form, Name, Number}
 
@@ -38,6 +44,38 @@ normal_over_by_one = refl
 -- the normal of a half-space is whole numbers, its distance a length
 half_numbers : numbers_as (lists.Solid solids.Half) (codes "1" ∷ codes "0" ∷ codes "0.5" ∷ codes "0.5" ∷ []) ≡ Some (pos 1) ∷ Some (pos 0) ∷ None ∷ Some (pos 5) ∷ []
 half_numbers = refl
+
+a_cylinder_s_word : kind_of (codes "rcc") ≡ Some solids.Rcc
+a_cylinder_s_word = refl
+
+-- an ellipsoid is no kind that is made, but a form
+no_ellipsoid_is_made : kind_of (codes "ell") ≡ None
+no_ellipsoid_is_made = refl
+
+an_ellipsoid_s_form : form_of (codes "ell") ≡ Some forms.Ellipsoid
+an_ellipsoid_s_form = refl
+
+-- all seven numbers are lengths
+rcc_numbers : numbers_as (lists.Solid solids.Rcc) (codes "0" ∷ codes "0.5" ∷ codes "0" ∷ codes "0" ∷ codes "0" ∷ codes "-20" ∷ codes "0.5" ∷ [])
+    ≡ Some (pos 0) ∷ Some (pos 5) ∷ Some (pos 0) ∷ Some (pos 0) ∷ Some (pos 0) ∷ Some (negsuc 199) ∷ Some (pos 5) ∷ []
+rcc_numbers = refl
+
+second_key_of_a_cylinder : key_at forms.Rcc 1 ≡ vector_key (codes "H")
+second_key_of_a_cylinder = refl
+
+a_cylinder : rcc_made (vector (pos 0) (pos 5) (pos 0)) (vector (pos 0) (pos 0) (negsuc 199)) (pos 1)
+    ≡ Ok (made.Rcc (record { base = vector (pos 0) (pos 5) (pos 0); height = vector (pos 0) (pos 0) (negsuc 199); radius = pos 1 }))
+a_cylinder = refl
+
+two_components : has_one_component (vector (pos 1) (pos 0) (negsuc 0)) ≡ false
+two_components = refl
+
+-- the axis is looked at before the radius
+no_component : rcc_made (vector (pos 0) (pos 0) (pos 0)) (vector (pos 0) (pos 0) (pos 0)) (pos 0) ≡ Err Axis
+no_component = refl
+
+no_radius : rcc_made (vector (pos 0) (pos 0) (pos 0)) (vector (pos 0) (negsuc 9) (pos 0)) (pos 0) ≡ Err Radius
+no_radius = refl
 
 groups_in_groups : words (codes "a {b {c} } d") ≡ Atom (codes "a") (Group (Atom (codes "b") (Group (Atom (codes "c") End) End)) (Atom (codes "d") End))
 groups_in_groups = refl

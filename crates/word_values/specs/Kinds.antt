@@ -44,6 +44,7 @@ solid_kind_at solids.Half place = if nat_lt place 3 then normal_kind else coordi
 solid_kind_at solids.Rpp place = coordinate_kind
 solid_kind_at solids.Arb8 place = coordinate_kind
 solid_kind_at solids.Sphere place = coordinate_kind
+solid_kind_at solids.Rcc place = coordinate_kind
 
 -- the kind of the number at a place, counted from 0; the shift of a matrix is its fourth column
 abbrev pub kind_at : NumberList → ℕ → NumberKind

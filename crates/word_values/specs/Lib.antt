@@ -2,6 +2,8 @@ pub mod Atoms
 pub mod Kinds
 pub mod Matrices
 pub mod Solids
+pub mod SolidForms
+pub mod KeySteps
 pub mod Groups
 pub mod Trees
 pub mod Reading

@@ -6,6 +6,7 @@ mod given;
 mod matrix;
 mod reading;
 mod solid;
+mod solid_form;
 mod tree;
 mod value;
 
@@ -15,5 +16,6 @@ pub use atoms::{
 };
 pub use matrix::placement_of;
 pub use solid::{SolidKind, vector_at};
+pub use solid_form::{Key, SolidForm, vector_key};
 pub use tree::{TreeFault, read_tree};
 pub use value::value_text;

@@ -10,6 +10,7 @@ use lattice_core::V3;
 use plane_geom::ShapeFault;
 use prim_arb8::Arb8;
 use prim_half::Half;
+use prim_rcc::Rcc;
 use prim_sphere::Sphere;
 use solid_set::Solid;
 use tcl_words::is_word;
@@ -25,6 +26,8 @@ pub enum SolidKind {
     Arb8,
     /// A sphere by a centre and a radius.
     Sphere,
+    /// A cylinder by the centre of its base, the vector from there to that of its top, and a radius.
+    Rcc,
 }
 
 impl SolidKind {
@@ -40,6 +43,8 @@ impl SolidKind {
             Some(SolidKind::Arb8)
         } else if is_word(word, b"sph") {
             Some(SolidKind::Sphere)
+        } else if is_word(word, b"rcc") {
+            Some(SolidKind::Rcc)
         } else {
             None
         }
@@ -55,6 +60,7 @@ impl SolidKind {
             SolidKind::Rpp => 6,
             SolidKind::Arb8 => 24,
             SolidKind::Sphere => 4,
+            SolidKind::Rcc => 7,
         }
     }
 
@@ -69,6 +75,11 @@ impl SolidKind {
             SolidKind::Rpp => box_of(numbers),
             SolidKind::Arb8 => arb8(vertices(numbers)),
             SolidKind::Sphere => sphere(vector_at(numbers, 0), number_at(numbers, 3)),
+            SolidKind::Rcc => rcc(
+                vector_at(numbers, 0),
+                vector_at(numbers, 3),
+                number_at(numbers, 6),
+            ),
         }
     }
 }
@@ -108,6 +119,15 @@ fn sphere(centre: V3, radius: i64) -> Result<Solid, ShapeFault>
     ensures { result ≡ solids.sphere_made centre radius }
 {
     Ok(Solid::Sphere(Sphere::new(centre, radius)?))
+}
+
+fn rcc(base: V3, height: V3, radius: i64) -> Result<Solid, ShapeFault>
+    requires base { IsWithin COORD base }
+    requires height { IsWithin COORD height }
+    requires radius { IsAtMost COORD radius }
+    ensures { result ≡ solids.rcc_made base height radius }
+{
+    Ok(Solid::Rcc(Rcc::new(base, height, radius)?))
 }
 
 fn arb8(vertices: [V3; 8]) -> Result<Solid, ShapeFault>

@@ -5,8 +5,8 @@ use Rattle.std.specs.Int.RustNames.{unsigned_abs}
 use mir.Val.{to_z, of_z}
 use mir.Syntax.{w64}
 use Rattle.word_values.specs.Kinds.{kind_at, most_of, AllWithinKinds}
-use Rattle.word_values.proofs.KindLaws.{read_within}
-use Rattle.mged_words.proofs.LineLaws.{placed, next_fault, next_read, kinds_small}
+use Rattle.word_values.proofs.KindLaws.{kinds_small, read_within}
+use Rattle.mged_words.proofs.LineLaws.{placed, next_fault, next_read}
 use Rattle.mged_words.proofs.atoms.read_numbers.Goals as goal
 
 pub returns-clause-within : goal.returns-clause-within

@@ -1,5 +1,5 @@
 use Rattle.std.proofs.Common.{◌≡◌, ◌∙◌, ◌<◌, ◌+◌, ◌++◌, List, ℤ, Option, Some, length, drop, ap, arith}
-use Rattle.put_form.specs.Kinds.{keys_of}
+use Rattle.word_values.specs.SolidForms.{keys_of}
 use Rattle.put_form.specs.Solids.{appended, all_numbers, key_numbers}
 use Rattle.put_form.proofs.SolidLaws.{numbers_more, numbers_missing}
 use Rattle.put_form.proofs.solid.all_numbers.Goals as goal

@@ -1,5 +1,5 @@
 use Rattle.std.proofs.Common.{◌≡◌, drop, Some}
-use Rattle.put_form.specs.Kinds.{keys_of}
+use Rattle.word_values.specs.SolidForms.{keys_of}
 use Rattle.put_form.specs.Solids.{appended, all_numbers}
 use Rattle.put_form.proofs.solid.all_numbers.Given as goal
 

@@ -1,7 +1,7 @@
 use Rattle.std.proofs.Common.{◌≡◌, ◌∙◌, ℤ, Some, map, take, ap, sym, subst, arith}
 use Rattle.word_values.specs.Solids.{number_count, solid_made}
 use Rattle.word_values.specs.declared.solid.SolidKind.{SolidKind}
-use Rattle.put_form.specs.Kinds.{made_as}
+use Rattle.word_values.specs.SolidForms.{made_as}
 use Rattle.word_values.specs.Kinds.{AllWithinKinds}
 use Rattle.word_values.specs.declared.atoms.NumberList.TheVariants as lists
 use Rattle.put_form.proofs.SolidLaws.{filled, filled_within}

@@ -196,7 +196,7 @@ at_touch a p q some near =
     none : (s m : ℤ) → m ≡ pos 0 → (pos 0 *ℤ s) ≤ℤ (m *ℤ m)
     none s m e = omega (arith, ints, square_at_least m)
 
-not_near : (a : ℤ) (k : ℕ) (p q : ℤ) → pos 0 <ℤ q → ¬ (IsNear a (negsuc k) p q)
+pub not_near : (a : ℤ) (k : ℕ) (p q : ℤ) → pos 0 <ℤ q → ¬ (IsNear a (negsuc k) p q)
 not_near a k p q some = λ near.
     let square : (pos 0 *ℤ q) <ℤ (q *ℤ q) = mul_below (pos 0) q q some some in
     let low : (negsuc k *ℤ (q *ℤ q)) <ℤ (pos 0 *ℤ (q *ℤ q)) = mul_below (negsuc k) (pos 0) (q *ℤ q) (omega (arith, ints, square)) (omega (arith, ints)) in

@@ -14,6 +14,7 @@ pub mod SurfaceLaws
 pub mod Landing
 pub mod Enclosed
 pub mod Places
+pub mod FacesAlong
 pub mod HitPlaceLaws
 pub mod Between
 pub mod Separated

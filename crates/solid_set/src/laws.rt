@@ -7,6 +7,7 @@ ghost use Rattle.plane_geom.specs.declared.limit.TheConstants.{GAP, NORMAL, REMO
 ghost use Rattle.surd_order.specs.declared.range.TheConstants.{OVER_LIMIT, SQUARE_LIMIT, UNDER_LIMIT, WHOLE_LIMIT};
 ghost use Rattle.surd_order.specs.declared.position.Pos.{Pos};
 ghost use Rattle.solid_set.specs.Laws.{IsWithinRay};
+ghost use Rattle.solid_set.specs.PlacedFaces.{SurfacesAreOfFaces};
 ghost use Rattle.solid_set.specs.PlacingLaws.{SolidsStandUnderOne, SolidsStandAlike};
 ghost use Rattle.solid_set.specs.ScaleLaws.{SegmentsScale, LevelsStay, SolidsScale, PlacementsScale};
 ghost use Rattle.solid_set.specs.Separation.{PlacesAreSeparated};
@@ -31,6 +32,12 @@ pub fn limit_laws()
     ensures under { NORMAL <ℤ UNDER_LIMIT }
     ensures whole { REMOTE <ℤ pos WHOLE_LIMIT }
     ensures square { (COORD *ℤ COORD) <ℤ pos SQUARE_LIMIT }
+{}
+
+/// Along a ray the planes and the round face of a placed solid tell its crossings and its inside. The function does nothing: its
+/// contract is the law.
+pub fn face_law()
+    ensures { SurfacesAreOfFaces }
 {}
 
 /// Where a solid stands below several placements: where the one placement takes it that does what they do, and where others

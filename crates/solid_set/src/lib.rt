@@ -9,7 +9,7 @@ mod span;
 mod surface;
 
 pub use crossed::Crossed;
-pub use laws::{limit_laws, placing_law, ray_laws, scale_law, separation_law, times_law};
+pub use laws::{face_law, limit_laws, placing_law, ray_laws, scale_law, separation_law, times_law};
 pub use placed::Placed;
 pub use solid::Solid;
 pub use surface::{Round, Surface};

@@ -1,4 +1,1 @@
 pub mod BlockLaws
-pub mod RowLaws
-pub mod TileLaws
-pub mod WholeLaws

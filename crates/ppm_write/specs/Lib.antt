@@ -1,3 +1,2 @@
 pub mod Pictures
-pub mod Steps
 pub mod Examples

@@ -1,14 +1,14 @@
--- The rows of a tile, put into a picture one after the other.
+-- The rows of a tile, put into a list one after the other.
 use Rattle.std.proofs.Common.{◌≡◌, ◌≤◌, ◌+◌, ◌∙◌, ℕ, List, inl, inr, refl, ap, sym, arith}
 use Rattle.std.proofs.lemmas.Bool.{cases_lt}
 use Rattle.lattice_core.specs.declared.tile.TileSpan.{TileSpan}
 use Rattle.lattice_core.specs.declared.view.View.{View}
 use Rattle.lattice_core.specs.Tiles.{span_of, IsIn}
-use Rattle.ppm_write.specs.Pictures.{part_of, IsCopied}
-use Rattle.ppm_write.specs.Steps.{IsBeside, IsRowCopied, AreRowsCopied}
+use Rattle.tile_blocks.specs.Blocks.{sample_at, IsCopied}
+use Rattle.tile_blocks.specs.Steps.{IsBeside, IsRowCopied, AreRowsCopied}
 
-pub no_rows : (w : ℕ) (span : TileSpan) (bytes picture : List ℕ) → AreRowsCopied w span 0 bytes picture picture
-no_rows w span bytes picture = record { size = refl; inside = λ across down part a d p. absurd (omega (arith, d)); outside = λ column row part c p beside. refl }
+pub no_rows : {A : Type 0} (z : A) (depth w : ℕ) (span : TileSpan) (part all : List A) → AreRowsCopied z depth w span 0 part all all
+no_rows z depth w span part all = record { size = refl; inside = λ across down sample a d p. absurd (omega (arith, d)); outside = λ column row sample c p beside. refl }
 
 beside_row : (span : TileSpan) (count column row : ℕ) → IsBeside span span.row (span.row + (count + 1)) column row → IsBeside span (span.row + count) (span.row + count + 1) column row
 beside_row span count column row (inl (inl less)) = inl (inl (omega (arith, less)))
@@ -20,21 +20,21 @@ beside_rows span count column row (inl (inl less)) = inl (inl less)
 beside_rows span count column row (inl (inr more)) = inl (inr (omega (arith, more)))
 beside_rows span count column row (inr side) = inr side
 
-pub row_more : (w : ℕ) (span : TileSpan) (count : ℕ) (bytes old middle new : List ℕ) → span.column + span.w ≤ w
-    → AreRowsCopied w span count bytes old middle → IsRowCopied w span count bytes middle new → AreRowsCopied w span (count + 1) bytes old new
-row_more w span count bytes old middle new columns rows row = record {
+pub rows_more : {A : Type 0} (z : A) (depth w : ℕ) (span : TileSpan) (count : ℕ) (part old middle new : List A) → span.column + span.w ≤ w
+    → AreRowsCopied z depth w span count part old middle → IsRowCopied z depth w span count part middle new → AreRowsCopied z depth w span (count + 1) part old new
+rows_more z depth w span count part old middle new columns rows row = record {
   size = row.size ∙ rows.size;
-  inside = λ across down part a d p.
+  inside = λ across down sample a d p.
       elim (cases_lt down count) [
-        | inl less ↦ row.outside (span.column + across) (span.row + down) part (omega (arith, a, columns)) p (inl (inl (omega (arith, less)))) ∙ rows.inside across down part a less p
+        | inl less ↦ row.outside (span.column + across) (span.row + down) sample (omega (arith, a, columns)) p (inl (inl (omega (arith, less)))) ∙ rows.inside across down sample a less p
         | inr ge ↦
             let last : down ≡ count = omega (arith, d, ge) in
-            ap (λ (n : ℕ). part_of w new (span.column + across) (span.row + n) part) last
-            ∙ row.inside across part a p
-            ∙ ap (λ (n : ℕ). part_of span.w bytes across n part) (sym last)
+            ap (λ (n : ℕ). sample_at z depth w new (span.column + across) (span.row + n) sample) last
+            ∙ row.inside across sample a p
+            ∙ ap (λ (n : ℕ). sample_at z depth span.w part across n sample) (sym last)
       ];
-  outside = λ column r part c p beside.
-      row.outside column r part c p (beside_row span count column r beside) ∙ rows.outside column r part c p (beside_rows span count column r beside);
+  outside = λ column r sample c p beside.
+      row.outside column r sample c p (beside_row span count column r beside) ∙ rows.outside column r sample c p (beside_rows span count column r beside);
 }
 
 not_in : (span : TileSpan) (column row : ℕ) → (¬ IsIn span column row) → IsBeside span span.row (span.row + span.h) column row
@@ -56,9 +56,9 @@ not_in span column row out =
           ]
     ]
 
-pub copied : (view : View) (tile : ℕ) (bytes old new : List ℕ) → AreRowsCopied view.w (span_of view tile) (span_of view tile).h bytes old new → IsCopied view tile bytes old new
-copied view tile bytes old new rows = record {
+pub copied : {A : Type 0} (z : A) (depth : ℕ) (view : View) (tile : ℕ) (part old new : List A) → AreRowsCopied z depth view.w (span_of view tile) (span_of view tile).h part old new → IsCopied z depth view tile part old new
+copied z depth view tile part old new rows = record {
   size = rows.size;
   inside = rows.inside;
-  outside = λ column row part c r p out. rows.outside column row part c p (not_in (span_of view tile) column row out);
+  outside = λ column row sample c r p out. rows.outside column row sample c p (not_in (span_of view tile) column row out);
 }

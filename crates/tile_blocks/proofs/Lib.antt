@@ -1,0 +1,5 @@
+pub mod Chunks
+pub mod BlockLaws
+pub mod RowLaws
+pub mod TileLaws
+pub mod WholeLaws

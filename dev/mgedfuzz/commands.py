@@ -86,7 +86,7 @@ class Maker:
         return [self.solid() for _ in range(count)]
 
     def solid(self):
-        kind, numbers = self.pick((4, self.box), (3, self.eight), (4, self.sphere), (2, self.half))
+        kind, numbers = self.pick((4, self.box), (3, self.eight), (4, self.sphere), (4, self.cylinder), (2, self.half))
         return f"in {self.new_name(SOLIDS)} {kind} " + " ".join(self.lengths(numbers, 3 if kind == "half" else 0))
 
     def box(self):
@@ -100,6 +100,22 @@ class Maker:
         radius = self.rng.choice((1, radius, 16_383, 16_384)) if self.is_far else radius
         self.points += [centre, [entry + radius // 2 for entry in centre], [centre[0], centre[1], centre[2] + radius]]
         return "sph", centre + [radius]
+
+    def cylinder(self):
+        """A cylinder along an axis, mostly. Its radius reaches what a height does, so that edges meet faces and places of others."""
+        base, radius, along = self.point(), self.rng.choice((1, 2, 3, 3, 4, 5, 7)) * self.scale, self.rng.randrange(3)
+        height = [0, 0, 0]
+        height[along] = self.rng.choice((-5, -3, -1, 1, 2, 4, 6)) * self.scale
+        if self.is_far:
+            radius = self.rng.choice((1, radius, 16_383, 16_384))
+            height[along] = self.rng.choice((-16_384, -1, 1, 16_384))
+        if self.errs(0.06):
+            height[self.rng.randrange(3)] = self.rng.choice((0, 0, 1, -2)) * self.scale
+        radius = self.rng.choice((0, -1)) if self.errs(0.03) else radius
+        top = [sum(entries) for entries in zip(base, height)]
+        side = [(entry or radius) for entry in height]
+        self.points += [base, top, [sum(entries) for entries in zip(base, side)], [entry + part // 2 for entry, part in zip(base, height)]]
+        return "rcc", base + height + [radius]
 
     def half(self):
         if self.is_far:

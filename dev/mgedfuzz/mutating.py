@@ -7,7 +7,7 @@ NUMBERS = (
     "16385", "-16385", "16384.1", "-16384.1", "16383.9", "0.5", "-0.5", "0.1", "0.10", "-0.0", "0.0", "0.25", "1.55", "1.5.", "000000000.5", "1234567890.5", "999999999.9", "524288.1", "524288", "-524288", "524289", "-524289", "999999999", "1000000000", "-999999999", "0" * 70,
 )  # fmt: skip
 NAMES = ("n" * 64, "n" * 65, ".s", "-s", "s/1", "S", "s.", "s-", "s\u00e9", "zz", "{s}", "{ s }", "{s t}", "{{s}}", "{}")
-WORDS = ("{}", "{ }", "u", "-", "+", "^", "n", "l", "in", "sph", "comb", "arb8", "V", "r", "{V}", "region", "tree", "rgb", "set", "yes", "#", "@1", "-x", "s", "{l s}", "{0 0 0}")
+WORDS = ("{}", "{ }", "u", "-", "+", "^", "n", "l", "in", "sph", "rcc", "comb", "arb8", "V", "H", "r", "{V}", "region", "tree", "rgb", "set", "yes", "#", "@1", "-x", "s", "{l s}", "{0 0 0}")
 COMMANDS = (
     "frob", "l s", "l", "l s {t}", "l {s t}", "tree c", "tree", "tree s/", "put a comb region yes", "put a comb", "put a", "put {a b} comb id 0",
     "attr set c a b", "attr set c", "attr get c a", "attr set {c d} a b", "title {Cup}", "title", "units mm", "save a.asc", "save", "save a b", "save {a b}", "SAVE a", "rt p.ppm +x 0 0 0 1 1 1 s",

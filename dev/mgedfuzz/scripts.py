@@ -31,7 +31,7 @@ def in_sessions(rng, lines):
 
 
 RACES = (
-    "in {} sph 0 0 0 5", "in {} sph 0 0 0.5 2.5", "in {} rpp 0 4 0 4 0 4", "in {} half 1 0 0 2", "put {} comb region yes tree {{- {{l {}}} {{l {}}}}}", "kill {}", "kill {}", "kill {} {}", "mvall {} {}", "mvall {} {}",
+    "in {} sph 0 0 0 5", "in {} sph 0 0 0.5 2.5", "in {} rcc 0 0 0 0 0 4 3", "in {} rpp 0 4 0 4 0 4", "in {} half 1 0 0 2", "put {} comb region yes tree {{- {{l {}}} {{l {}}}}}", "kill {}", "kill {}", "kill {} {}", "mvall {} {}", "mvall {} {}",
     "g {} {}", "r {} u {} - {}", "rm {} {}", "cattr {} air 1", "cattr {} region no", "place {} {} 1 0 0 2 0 1 0 0 0 0 1 0 0 0 0 1", "attr set {} k v", "title {}",
     "ls", "l {} {}", "tree {}", "save a", "nirt -9 1 1 +x {}", "nirt -9 1 1 +x {} {}", "rt p.ppm -z -4 12 50 1 17 17 {}", "rtcheck -z -4 12 50 1 3 17 {} {}",
 )  # fmt: skip
@@ -62,8 +62,8 @@ def rays_at_regions(maker):
 def turned(maker):
     """Combinations with placements at each level, some with air, about solids round the origin; and rays near it."""
     rng = maker.rng
-    lines = ["in s rpp -3 5 -4 6 -2 7", "in t sph 1 2 -1 6", "in h half 1 2 -1 4"]
-    maker.there, below = ["s", "t", "h"], "s"
+    lines = ["in s rpp -3 5 -4 6 -2 7", "in t sph 1 2 -1 6", "in k rcc 1 -2 1 0 7 0 5", "in h half 1 2 -1 4"]
+    maker.there, below = ["s", "t", "k", "h"], rng.choice("sk")
     for name in rng.sample(COMBS, rng.randint(2, 4)):
         maker.there.append(name)
         maker.members[name] = members = [below, maker.name(), maker.name()]

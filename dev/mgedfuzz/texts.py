@@ -38,7 +38,7 @@ def spoil(maker, pairs):
     elif way == 1:
         pairs.append((key, value))
     elif way == 2:
-        pairs[at] = maker.rng.choice(("V", "r", "d", "N", "A", "V8", "V9", "id", "ID", "tree", "{%s}" % key, "{%s x}" % key)), value
+        pairs[at] = maker.rng.choice(("V", "H", "r", "d", "N", "A", "V8", "V9", "id", "ID", "tree", "{%s}" % key, "{%s x}" % key)), value
     else:
         pairs[at] = key, maker.rng.choice(ODD_VALUES + ODD_TREES)
 
@@ -48,12 +48,14 @@ def point(numbers):
 
 
 def solid(maker):
-    kind, numbers = maker.pick((3, maker.eight), (4, maker.sphere), (2, maker.half))
+    kind, numbers = maker.pick((3, maker.eight), (4, maker.sphere), (4, maker.cylinder), (2, maker.half))
     numbers = maker.lengths(numbers, 3 if kind == "half" else 0)
     if kind == "arb8":
         return kind, [(f"V{i + 1}", point(numbers[3 * i : 3 * i + 3])) for i in range(8)]
     if kind == "half":
         return kind, [("N", point(numbers[:3])), ("d", numbers[3])]
+    if kind == "rcc":
+        return kind, [("V", point(numbers[:3])), ("H", point(numbers[3:6])), ("r", numbers[6])]
     if maker.often(0.6):
         return kind, [("V", point(numbers[:3])), ("r", numbers[3])]
     axes = [[numbers[3] if axis == at else 0 for axis in range(3)] for at in range(3)]

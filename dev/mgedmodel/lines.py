@@ -7,7 +7,7 @@ from .listings import listings_of
 from .pictures import WORLD, View, overlap_report, picture
 from .refused import Refused, syntax_unless
 from .shots import shot
-from .solids import DIRECTIONS, FARTHEST, MOST_OF_A_NORMAL, Arb8, Half, Ray, Sphere, box_of, placement_of
+from .solids import DIRECTIONS, FARTHEST, MOST_OF_A_NORMAL, Arb8, Cylinder, Half, Ray, Sphere, box_of, placement_of
 from .texts import ANY_LENGTH, ANY_NUMBER, numbers_of_matrix, read_attr_set, read_put, read_title
 from .words import atom, counts_as_atom, length, name_at, number_at, read_words, text_from
 from .written import text_of, written_lines_of
@@ -26,6 +26,7 @@ SOLIDS = {
     b"rpp": (6, box_of),
     b"arb8": (24, lambda given: Arb8([tuple(given[first : first + 3]) for first in range(0, 24, 3)])),
     b"sph": (4, lambda given: Sphere(tuple(given[:3]), given[3])),
+    b"rcc": (7, lambda given: Cylinder(tuple(given[:3]), tuple(given[3:6]), given[6])),
 }
 NORMAL = (4, 5, 6)  # the places of the plain numbers of a half-space; all other numbers of solids are lengths
 

@@ -5,7 +5,7 @@ from collections import namedtuple
 from fractions import Fraction
 from math import inf
 
-from .positions import Position
+from .positions import Position, sign_of
 from .refused import Refused
 from .words import MILLIMETRE, length_text
 
@@ -30,6 +30,10 @@ def less(a, b):
     return tuple(x - y for x, y in zip(a, b))
 
 
+def plus(a, b):
+    return tuple(x + y for x, y in zip(a, b))
+
+
 def cross(a, b):
     return (a[1] * b[2] - a[2] * b[1], a[2] * b[0] - a[0] * b[2], a[0] * b[1] - a[1] * b[0])
 
@@ -41,7 +45,7 @@ class Placement(namedtuple("Placement", "rows shift")):
         return tuple(dot(row, vector) for row in self.rows)
 
     def placed(self, point):
-        return tuple(x + y for x, y in zip(self.turned(point), self.shift))
+        return plus(self.turned(point), self.shift)
 
     def after(self, lower):
         """The placement that does what the lower one does and then what this one does."""
@@ -102,8 +106,8 @@ def part_between(entered, left):
     return Part(start, end, face_at(start, entered), face_at(end, left)) if start < end else None
 
 
-def part_in_planes(planes, ray):
-    """The part of a ray that all planes hold, which stand by the numbers of their faces, or None."""
+def crossings_of_planes(planes, ray):
+    """Where a ray enters and where it leaves the planes, which stand by the numbers of their faces; None where one misses it."""
     entered, left = [], []
     for face, plane in planes.items():
         slope, room = dot(plane.normal, ray.along), plane.d - dot(plane.normal, ray.start)
@@ -111,7 +115,13 @@ def part_in_planes(planes, ray):
             (left if slope > 0 else entered).append((Position(Fraction(room, slope)), face))
         elif room < 0 or room == 0 and not held_inside(plane):
             return None
-    return part_between(entered, left)
+    return entered, left
+
+
+def part_in_planes(planes, ray):
+    """The part of a ray that all planes hold, which stand by the numbers of their faces, or None."""
+    crossed = crossings_of_planes(planes, ray)
+    return part_between(*crossed) if crossed else None
 
 
 def brightness(square):
@@ -177,6 +187,69 @@ class Sphere:
 
     def level(self, placement, face, ray):
         return brightness(Fraction(self.crossed(placement, ray)[1], self.radius**2)) if face else BRIGHTEST
+
+
+class Cylinder:
+    """A cylinder along an axis. Its faces are the base, the top and the round side."""
+
+    BASE, TOP, SIDE = 1, 2, 3
+
+    def __init__(self, base, height, radius):
+        if sum(part != 0 for part in height) != 1:
+            raise Refused("shape axis")
+        if radius < 1:
+            raise Refused("shape radius")
+        self.base, self.height, self.radius = base, height, radius
+
+    def written(self):
+        return f"rcc V {lengths(self.base)} H {lengths(self.height)} r {length_text(self.radius)}"
+
+    def ends(self, placement):
+        """The centres of the base and of the top."""
+        return [placement.placed(centre) for centre in (self.base, plus(self.base, self.height))]
+
+    def caps(self, placement):
+        """The planes of the base and of the top, with normals of length 1 away from each other."""
+        base, top = self.ends(placement)
+        up = tuple(map(sign_of, less(top, base)))
+        down = tuple(-part for part in up)
+        return {self.BASE: Plane(down, dot(down, base)), self.TOP: Plane(up, dot(up, top))}
+
+    def box(self, placement):
+        """A disc of the radius about each end has no extent along the axis."""
+        ends = self.ends(placement)
+        reach = tuple(0 if part else self.radius for part in less(*ends))
+        return box_about([side(end, reach) for end in ends for side in (less, plus)])
+
+    def surface(self, placement):
+        caps = self.caps(placement)
+        return "rcc", caps[self.BASE], caps[self.TOP], placement.placed(self.base), self.radius
+
+    def crossed(self, placement, ray):
+        """Where a ray across the axis is nearest to it, None for one along it; and the square of the radius less that of the
+        distance of the axis from the ray's line, which is whole as all lines run along axes."""
+        base, top = self.ends(placement)
+        to_base, between = less(base, ray.start), cross(less(top, base), ray.along)
+        if any(between):
+            return dot(to_base, ray.along), self.radius**2 - dot(to_base, between) ** 2 // dot(between, between)
+        away = cross(to_base, ray.along)
+        return None, self.radius**2 - dot(away, away)
+
+    def part(self, placement, ray):
+        crossed = crossings_of_planes(self.caps(placement), ray)
+        nearest, k = self.crossed(placement, ray)
+        if crossed is None or k <= 0:
+            return None
+        entered, left = crossed
+        if nearest is not None:
+            entered.append((Position(nearest, -1, k), self.SIDE))
+            left.append((Position(nearest, 1, k), self.SIDE))
+        return part_between(entered, left)
+
+    def level(self, placement, face, ray):
+        if face == self.SIDE:
+            return brightness(Fraction(self.crossed(placement, ray)[1], self.radius**2))
+        return level_of_plane(self.caps(placement)[face], ray) if face else BRIGHTEST
 
 
 class Arb8:

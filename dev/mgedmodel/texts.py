@@ -7,7 +7,7 @@ What is refused begins with the kind of its fault, and the kinds are looked for 
 from . import attributes
 from .directory import MOST_LEAVES, Comb
 from .refused import Refused, refuse_unless
-from .solids import FARTHEST, IDENTITY, MOST_OF_A_NORMAL, Arb8, Half, Sphere, placement_of
+from .solids import FARTHEST, IDENTITY, MOST_OF_A_NORMAL, Arb8, Cylinder, Half, Sphere, placement_of
 from .trees import Leaf, Node, leaves_of, with_leaves
 from .words import MILLIMETRE, atom, counts_as_atom, is_text, length, name, number, text_from
 
@@ -21,6 +21,7 @@ OPERATORS = {b"u": "u", b"n": "+", b"+": "+", b"-": "-", b"^": "^"}
 SOLIDS = {
     "sph": ({"V": 3, "r": 1}, lambda given: Sphere(tuple(given["V"]), given["r"][0])),
     "ell": ({"V": 3, "A": 3, "B": 3, "C": 3}, lambda given: Sphere(tuple(given["V"]), given["A"][0])),
+    "rcc": ({"V": 3, "H": 3, "r": 1}, lambda given: Cylinder(tuple(given["V"]), tuple(given["H"]), given["r"][0])),
     "half": ({"N": 3, "d": 1}, lambda given: Half(tuple(given["N"]), given["d"][0])),
     "arb8": ({f"V{i}": 3 for i in range(1, 9)}, lambda given: Arb8([tuple(given[f"V{i}"]) for i in range(1, 9)])),
 }

@@ -2,7 +2,7 @@ use Rattle.scene_prep.proofs.Numbers.{numbers_follow, sizes_count_leaves}
 use Rattle.scene_prep.proofs.Within.{regions_within_size}
 use Rattle.scene_prep.proofs.Whole.{trees_whole, regions_whole, sizes_whole}
 use Rattle.scene_prep.proofs.Together.{regions_together}
-use Rattle.solid_set.proofs.UnderPlacements.{placements_one}
+use Rattle.scene_prep.proofs.Worlds.{placements_one}
 use Rattle.scene_prep.proofs.laws.region_laws.Goals as goal
 
 pub returns-clause-leaves : goal.returns-clause-leaves

@@ -9,10 +9,9 @@ use Rattle.plane_geom.specs.declared.fault.ShapeFault.TheVariants.{Flat, NotPlan
 use Rattle.plane_geom.specs.Planes.{plane_through}
 use Rattle.prim_arb8.specs.Points.{lies_in, lies_beyond, lies_before, are_all_in, are_coplanar_with, are_coplanar_from, is_flat}
 use Rattle.prim_arb8.specs.Faces.{corners_of, face_plane, parts, Case, case_of, first_fault, face_cases, cases_of}
-use Rattle.order_laws.proofs.Listed.{any_moved}
 use Rattle.solid_set.specs.Larger.{IsLargerSide}
 use Rattle.scale_laws.specs.ModelLaws.{FaultsStay}
-use Rattle.solid_set.proofs.ScaledSolids.{height_same, beyond_same, corners_scaled, through_larger, face_larger}
+use Rattle.solid_set.proofs.ScaledSolids.{height_same, any_moved, beyond_same, corners_scaled, through_larger, face_larger}
 use Rattle.scale_laws.proofs.Models.{flat_same}
 
 all_moved : {X Y : Type 0} (f : Y → Bool) (g : X → Bool) (carry : X → Y) (xs : List X) → ((x : X) → f (carry x) ≡ g x) → list_all f (map carry xs) ≡ list_all g xs
@@ -47,8 +46,8 @@ parts_same m None None vs some h = refl
 parts_same m None (Some y) vs some h = absurd h
 parts_same m (Some x) None vs some h = absurd h
 parts_same m (Some x) (Some y) vs some h =
-    ap (λ b. b && list_any (lies_before y) (map (scaled (pos m)) vs)) (any_moved (lies_beyond y) (lies_beyond x) (scaled (pos m)) vs (λ p there. beyond_same m x y p some h))
-    ∙ ap (λ b. list_any (lies_beyond x) vs && b) (any_moved (lies_before y) (lies_before x) (scaled (pos m)) vs (λ p there. ap is_lt (height_same m x y p some h)))
+    ap (λ b. b && list_any (lies_before y) (map (scaled (pos m)) vs)) (any_moved (lies_beyond y) (lies_beyond x) (scaled (pos m)) vs (λ p. beyond_same m x y p some h))
+    ∙ ap (λ b. list_any (lies_beyond x) vs && b) (any_moved (lies_before y) (lies_before x) (scaled (pos m)) vs (λ p. ap is_lt (height_same m x y p some h)))
 
 face_same : (m : ℕ) (vs : List V3) (face : ℕ) → 0 < m → face_cases (map (scaled (pos m)) vs) face ≡ face_cases vs face
 face_same m vs face some =

@@ -1,6 +1,7 @@
 -- Lengths in tenths of a millimetre, proved by computation.
-use Rattle.std.specs.Prelude.{◌≡◌, refl, pos, negsuc, ◌*ℤ◌, [], ◌∷◌, Some, codes, false}
+use Rattle.std.specs.Prelude.{◌≡◌, refl, pos, negsuc, ◌*ℤ◌, [], ◌∷◌, map, Some, codes, false}
 use Rattle.surd_order.specs.declared.position.Pos.TheVariants.{Frac, Surd}
+use Rattle.surd_order.specs.PlaceOrder.{place_cmp}
 use Rattle.lattice_core.specs.declared.limit.TheConstants.{FAR, MILLIMETRE}
 use Rattle.lattice_core.specs.declared.turn.Turn.{Turn}
 use Rattle.lattice_core.specs.Vectors.{vector}
@@ -8,6 +9,9 @@ use Rattle.tree_forms.specs.Trees.{Leaf}
 use Rattle.region_attr.specs.declared.attr.Attr.{Attr}
 use Rattle.solid_set.specs.declared.solid.Solid.TheVariants as solids
 use Rattle.object_set.specs.declared.object.Body.TheVariants as bodies
+use Rattle.overlap_list.specs.Partitions.{partitions_up_to}
+use Rattle.order_laws.specs.Examples.{one_piece, one_region, part}
+use Rattle.order_laws.specs.RaysMoved.{moved_woven}
 use Rattle.solid_set.specs.Times.{enlarged}
 use Rattle.solid_set.specs.Larger.{larger_solid}
 use Rattle.scale_laws.specs.Models.{larger_directory}
@@ -26,6 +30,11 @@ half_place = refl
 
 root_place : enlarged millimetre (Surd (pos 10) false 23) ≡ Surd (pos 100) false 2300
 root_place = refl
+
+-- a ray that is ten times as long has the part from 5/2 to 10 - √23 from 25 to 100 - √2300
+ten_times_as_long : partitions_up_to (pos 1000) (map (moved_woven (enlarged millimetre)) one_piece) one_region ≡ part 0 (Frac (pos 25) (pos 1)) (Surd (pos 100) false 2300) 0 1 ∷ []
+unfolding place_cmp
+ten_times_as_long = refl
 
 -- a half-space keeps its normal
 larger_half : larger_solid millimetre (solids.Half (record { normal = vector (pos 1) (negsuc 1) (pos 0); distance = pos 5 }))

@@ -1,16 +1,23 @@
 -- Solids that are made of numbers.
-use Rattle.std.proofs.Common.{◌≡◌, ◌∙◌, ◌+◌, ◌&&◌, ℕ, ℤ, pos, Bool, true, false, not, cond, List, [], ◌∷◌, Option, Some, None, Result, Ok, Err, refl, inl, inr, sym, ap, arith, All}
-use Rattle.std.specs.Ordering.{int_eq}
-use Rattle.std.proofs.lemmas.Bool.Decides.{Decides, Decides-int_eq}
+use Rattle.std.proofs.Common.{◌≡◌, ◌⊎◌, ◌↔◌, ◌∙◌, ◌+◌, ◌<ℤ◌, ◌&&◌, ℕ, ℤ, pos, Bool, true, false, not, cond, List, [], ◌∷◌, Decides, Option, Some, None, Result, Ok, Err, IsErr, MatchResult, refl, inl, inr, sym, ap, arith, All}
+use Rattle.std.specs.Cmp.{int_ranks}
+use Rattle.std.specs.Ordering.{int_cmp, int_eq, is_lt, MatchOrdering}
+use Rattle.std.specs.Result.{IsErrAnd}
+use Rattle.std.specs.declared.cmp.Ordering.{Ordering}
+use Rattle.std.specs.declared.cmp.Ordering.TheVariants.{Less, Equal, Greater}
+use Rattle.std.proofs.lemmas.Bool.Decides.{Decides-int_eq}
+use Rattle.std.proofs.lemmas.Int.{ints}
 use Rattle.std.proofs.lemmas.List.Elements.{All-cons}
 use Rattle.lattice_core.specs.declared.vector.V3.{V3}
 use Rattle.plane_geom.specs.declared.fault.ShapeFault.{ShapeFault}
+use Rattle.plane_geom.specs.declared.fault.ShapeFault.TheVariants.{Axis, Radius}
 use Rattle.solid_set.specs.declared.solid.Solid.{Solid}
 use Rattle.solid_set.specs.declared.solid.Solid.TheVariants as solids
 use Rattle.solid_set.specs.Rpps.{IsArb8Of, vector, rpp_vertices}
 use Rattle.tcl_words.specs.declared.token.Kind.TheVariants.{Atom}
 use Rattle.tcl_words.proofs.Written.{GoodPiece}
 use Rattle.prim_rcc.specs.Axes.{HasOneComponent}
+use Rattle.prim_rcc.specs.Cylinders.{Cylinder}
 use Rattle.word_values.specs.Solids.{kind_of, kind_word, nth_number, has_one_component, half_made, sphere_made, rcc_made, arb8_made, unless_faulty, solid_made}
 use Rattle.word_values.specs.declared.solid.SolidKind.{SolidKind}
 use Rattle.word_values.specs.declared.solid.SolidKind.TheVariants as kinds
@@ -30,6 +37,7 @@ pub of_vertices : (made : Result Solid ShapeFault) (vertices : List V3) → IsAr
 of_vertices (Ok (solids.Arb8 solid)) vertices h = ap (λ (vs : List V3). Ok (solids.Arb8 (record { vertices = vs }))) h.1 ∙ sym (ap (λ fault. unless_faulty fault vertices) h.0)
 of_vertices (Ok (solids.Sphere sphere)) vertices h = absurd h.1
 of_vertices (Ok (solids.Half half)) vertices h = absurd h.1
+of_vertices (Ok (solids.Rcc rcc)) vertices h = absurd h.1
 of_vertices (Err fault) vertices h = sym (ap (λ found. unless_faulty found vertices) h)
 
 -- equal ranges make equal boxes
@@ -109,3 +117,50 @@ Decides-has_one_component v =
     let y : Decides (int_eq v.y (pos 0)) (v.y ≡ pos 0) = Decides-int_eq v.y (pos 0) in
     let z : Decides (int_eq v.z (pos 0)) (v.z ≡ pos 0) = Decides-int_eq v.z (pos 0) in
     (one_told v _ _ _ x y z, one_tells v _ _ _ x y z)
+
+below_by : (r : ℤ) (o : Ordering) → MatchOrdering o (r <ℤ pos 1) (r ≡ pos 1) (pos 1 <ℤ r) → Decides (is_lt o) (r <ℤ pos 1)
+below_by r Less h = (λ is. h, λ less. refl)
+below_by r Equal h = (λ is. absurd cc, λ less. absurd (omega (arith, ints, h, less)))
+below_by r Greater h = (λ is. absurd cc, λ less. absurd (omega (arith, ints, h, less)))
+
+pub Decides-below_one : (r : ℤ) → Decides (is_lt (int_cmp r (pos 1))) (r <ℤ pos 1)
+Decides-below_one r = below_by r (int_cmp r (pos 1)) (int_ranks r (pos 1))
+
+abbrev rcc_by : Bool → Bool → Cylinder → Result Solid ShapeFault
+rcc_by one below c = cond one (cond below (Err Radius) (Ok (solids.Rcc c))) (Err Axis)
+
+same_cylinder : {a b u v : V3} {m n : ℤ} → a ≡ b → u ≡ v → m ≡ n → rcc_by true false (record { base = a; height = u; radius = m }) ≡ rcc_by true false (record { base = b; height = v; radius = n })
+same_cylinder ea eu em = cc
+
+abbrev pub as_solid : Result Cylinder ShapeFault → Result Solid ShapeFault
+as_solid (Ok c) = Ok (solids.Rcc c)
+as_solid (Err fault) = Err fault
+
+rcc_decided : (made : Result Cylinder ShapeFault) (base height : V3) (radius : ℤ) (one below : Bool) → Decides one (HasOneComponent height) → Decides below (radius <ℤ pos 1)
+    → (made ≡ Err Axis) ↔ (¬ HasOneComponent height) → (made ≡ Err Radius) ↔ (HasOneComponent height × (radius <ℤ pos 1))
+    → MatchResult made (λ c. (c.base ≡ base) × (c.height ≡ height) × (c.radius ≡ radius)) (λ e. (e ≡ Axis) ⊎ (e ≡ Radius))
+    → as_solid made ≡ rcc_by one below (record { base = base; height = height; radius = radius })
+rcc_decided (Err e) base height radius one below is small axis less (inl fault) =
+    let c : Cylinder = record { base = base; height = height; radius = radius } in
+    let none : one ≡ false = not_decided one is (axis.0 (ap Err fault)) in
+    ap Err fault ∙ sym (ap (λ t. rcc_by t below c) none)
+rcc_decided (Err e) base height radius one below is small axis less (inr fault) =
+    let c : Cylinder = record { base = base; height = height; radius = radius } in
+    let both = less.0 (ap Err fault) in
+    ap Err fault ∙ sym (ap (λ t. rcc_by t below c) (is.1 both.0) ∙ ap (λ t. rcc_by true t c) (small.1 both.1))
+rcc_decided (Ok c) base height radius false below is small axis less parts =
+    let clash : Ok c ≡ Err Axis = axis.1 (λ h. let e : false ≡ true = is.1 h in absurd cc) in absurd cc
+rcc_decided (Ok c) base height radius true true is small axis less parts =
+    let clash : Ok c ≡ Err Radius = less.1 (is.0 refl, small.0 refl) in absurd cc
+rcc_decided (Ok c) base height radius true false is small axis less parts = same_cylinder parts.0 parts.1 parts.2
+
+-- a cylinder, or its first fault
+pub rcc_of : (made : Result Cylinder ShapeFault) (base height : V3) (radius : ℤ) → (made ≡ Err Axis) ↔ (¬ HasOneComponent height) → (made ≡ Err Radius) ↔ (HasOneComponent height × (radius <ℤ pos 1))
+    → MatchResult made (λ c. (c.base ≡ base) × (c.height ≡ height) × (c.radius ≡ radius)) (λ e. (e ≡ Axis) ⊎ (e ≡ Radius))
+    → as_solid made ≡ rcc_made base height radius
+rcc_of made base height radius axis less parts = rcc_decided made base height radius _ _ (Decides-has_one_component height) (Decides-below_one radius) axis less parts
+
+-- a fault that is passed on
+pub fault_of : {G : ShapeFault → Type 0} (r : Result Solid ShapeFault) (fault : ShapeFault) → IsErr r × IsErrAnd r G → ((e : ShapeFault) → G e → e ≡ fault) → r ≡ Err fault
+fault_of (Ok solid) fault h is = absurd h.1
+fault_of (Err e) fault h is = ap (λ (f : ShapeFault). Err f) (is e h.1)

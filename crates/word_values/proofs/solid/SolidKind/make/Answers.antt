@@ -33,6 +33,17 @@ sphere-requires-clause-radius c =
     let is : FitsSigned w64 c.number_at-in-Sphere.result = search rules in
     subst (IsAtMost COORD) (sym (to_z-of_z w64 _ is)) (c.number_at-in-Sphere.ensures.size (solid_within c.args.self c.args.numbers.now c.requires.sizes))
 
+pub rcc-requires-clause-base : goal.rcc-requires-clause-base
+rcc-requires-clause-base c = c.vector_at-in-Rcc.ensures.size (solid_within c.args.self c.args.numbers.now c.requires.sizes)
+
+pub rcc-requires-clause-height : goal.rcc-requires-clause-height
+rcc-requires-clause-height c = c.vector_at-in-Rcc-2.ensures.size (solid_within c.args.self c.args.numbers.now c.requires.sizes)
+
+pub rcc-requires-clause-radius : goal.rcc-requires-clause-radius
+rcc-requires-clause-radius c =
+    let is : FitsSigned w64 c.number_at-in-Rcc.result = search rules in
+    subst (IsAtMost COORD) (sym (to_z-of_z w64 _ is)) (c.number_at-in-Rcc.ensures.size (solid_within c.args.self c.args.numbers.now c.requires.sizes))
+
 pub returns-in-Arb8 : goal.returns-in-Arb8
 returns-in-Arb8 c =
     c.arb8.ensures ∙ ap arb8_made c.vertices.ensures.value ∙ sym (ap (λ kind. solid_made kind (map (λ (n : ℤ). Some n) c.args.numbers.now)) c.in-Arb8.is)

@@ -21,7 +21,8 @@ module _ {A : Type 0} (depth : ℕ) (samples : ℕ → ℕ → ℕ → A) where
   pub row_length : (column w row : ℕ) → length (row_samples depth samples column w row) ≡ depth * w
   row_length column w row = all_length (λ c. pixel_samples depth samples c row) depth (λ c. pixel_length c row) column w
 
-  row_at : (z : A) (column w row across sample : ℕ) → across < w → sample < depth → get_or (row_samples depth samples column w row) (across * depth + sample) z ≡ samples (column + across) row sample
+  row_at : (z : A) (column w row across sample : ℕ) → across < w → sample < depth
+      → get_or (row_samples depth samples column w row) (across * depth + sample) z ≡ samples (column + across) row sample
   row_at z column w row across sample lt small =
       all_at (λ c. pixel_samples depth samples c row) depth (λ c. pixel_length c row) z column w across sample lt small
       ∙ get_or-map-range_with_len (samples (column + across) row) 0 depth sample sample z small (omega arith)
@@ -34,7 +35,8 @@ module _ {A : Type 0} (depth : ℕ) (samples : ℕ → ℕ → ℕ → A) where
       → get_or (block_samples depth samples span) (depth * (down * span.w + across) + sample) z ≡ samples (span.column + across) (span.row + down) sample
   block_at z span across down sample a d small =
       ap (λ (n : ℕ). get_or (block_samples depth samples span) n z) (among_rows depth span.w down across sample)
-      ∙ all_at (row_samples depth samples span.column span.w) (depth * span.w) (row_length span.column span.w) z span.row span.h down (across * depth + sample) d (mul-add-lt across depth sample span.w a small)
+      ∙ all_at (row_samples depth samples span.column span.w) (depth * span.w) (row_length span.column span.w) z span.row span.h down (across * depth + sample) d
+      (mul-add-lt across depth sample span.w a small)
       ∙ row_at z span.column span.w (span.row + down) across sample a small
 
   -- a row with one pixel more, and a block with one row more

@@ -17,7 +17,14 @@ module _ {A : Type 0} (z : A) (part old : List A) (from to count : ℕ) (within 
 
   pub put_size : length (with_samples part from old to count) ≡ length old
   put_size =
-      omega (arith, front, middle, length-append (take to old) (take count (drop from part) ++ drop (to + count) old), length-append (take count (drop from part)) (drop (to + count) old), length-drop (to + count) old)
+      omega (
+        arith,
+        front,
+        middle,
+        length-append (take to old) (take count (drop from part) ++ drop (to + count) old),
+        length-append (take count (drop from part)) (drop (to + count) old),
+        length-drop (to + count) old,
+      )
 
   pub put_there : (k : ℕ) → k < count → get_or (with_samples part from old to count) (to + k) z ≡ get_or part (from + k) z
   put_there k lt =

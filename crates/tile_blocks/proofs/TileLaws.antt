@@ -56,7 +56,8 @@ not_in span column row out =
           ]
     ]
 
-pub copied : {A : Type 0} (z : A) (depth : ℕ) (view : View) (tile : ℕ) (part old new : List A) → AreRowsCopied z depth view.w (span_of view tile) (span_of view tile).h part old new → IsCopied z depth view tile part old new
+pub copied : {A : Type 0} (z : A) (depth : ℕ) (view : View) (tile : ℕ) (part old new : List A)
+    → AreRowsCopied z depth view.w (span_of view tile) (span_of view tile).h part old new → IsCopied z depth view tile part old new
 copied z depth view tile part old new rows = record {
   size = rows.size;
   inside = rows.inside;

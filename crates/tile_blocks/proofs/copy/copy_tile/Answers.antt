@@ -6,8 +6,8 @@ use Rattle.tile_blocks.proofs.copy.copy_tile.Goals as goal
 
 pub loop-row-preserved : goal.loop-row-preserved
 loop-row-preserved g c = λ z.
-    rows_more z c.args.depth c.args.view.now.w c.span-span.result c.loop-row.row c.args.part.now c.args.all.now c.loop-row.all c.copy_row.new.all c.span-span.ensures.part.in_columns (c.loop-row.invariant z)
-    (c.copy_row.ensures z)
+    rows_more z c.args.depth c.args.view.now.w c.span-span.result c.loop-row.row c.args.part.now c.args.all.now c.loop-row.all c.copy_row.new.all c.span-span.ensures.part.in_columns
+    (c.loop-row.invariant z) (c.copy_row.ensures z)
 
 pub returns : goal.returns
 returns g c = λ z.

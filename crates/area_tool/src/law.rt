@@ -1,11 +1,10 @@
 //! Laws of areas and of what pixels present, for those who prove with the calls.
 
-ghost use Rattle.lattice_core.specs.Views.{IsChecked};
+ghost use Rattle.lattice_core.specs.declared.view.View.{View};
 ghost use Rattle.area_tool.specs.Areas.{AreasSumUp};
-ghost use Rattle.area_tool.specs.Numbers.{IsMadeOfTiles, AreTilesOfBlocks, AreBlocks, IsMadeOfBlocks};
+ghost use Rattle.area_tool.specs.Numbers.{AreBlocks, IsMadeOfBlocks};
 ghost use Rattle.area_tool.specs.Presented.{KeptPresentTheSame, IsMadeOfKeptTiles, PresentsPlacesOfRegions};
 
-use lattice_core::View;
 use shot_core::kept_laws;
 
 /// The areas of all regions and the pixels that present none sum up to all pixels of a view. The function does nothing: its
@@ -16,15 +15,10 @@ pub fn area_laws()
 
 /// Where all tiles of a view are put into a list, one after the other, it has the numbers of the view, row by row, and no other
 /// list has them. The function does nothing: its contract is the laws.
-pub fn tile_laws(view: &View)
-    requires { IsChecked view.now }
-    ensures made { IsMadeOfTiles view.now }
-    ensures tiles { AreTilesOfBlocks view.now }
-    ensures whole { AreBlocks view.now }
-    ensures numbers { IsMadeOfBlocks view.now }
-{
-    let _tiles = view.tiles();
-}
+pub fn tile_laws()
+    ensures whole { (view : View) → AreBlocks view }
+    ensures numbers { (view : View) → IsMadeOfBlocks view }
+{}
 
 /// The regions that are kept for a tile present on it what all regions do, and the list of these tiles is that of the view; no
 /// pixel presents a place over all those of the regions, as `areas` wants it. The function does nothing: its contract is the

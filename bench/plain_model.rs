@@ -34,7 +34,7 @@ enum Node { Leaf(u32, Option<Box<Placement>>), Op(u8) }
 #[derive(Default)]
 struct Comb { region: bool, id: i32, air: i32, los: i32, mater: i32, rgb: Option<Point>, inherit: bool, tree: Vec<Node> }
 
-enum Thing { Sphere(Point, i32), Half(Point, i32), Arb8(Box<[Point; 8]>), Comb(Box<Comb>) }
+enum Thing { Sphere(Point, i32), Rcc(Point, Point, i32), Half(Point, i32), Arb8(Box<[Point; 8]>), Comb(Box<Comb>) }
 
 struct Object { name: u32, thing: Thing, kept: Vec<(Text, Text)>, places: HashMap<Text, usize> }
 
@@ -498,9 +498,10 @@ fn is_solid(vertices: &[Point; 8]) -> bool {
 
 // ---- commands
 
-const SOLIDS: [(&[u8], &[&[u8]]); 4] = [
+const SOLIDS: [(&[u8], &[&[u8]]); 5] = [
     (b"sph", &[b"V", b"r"]),
     (b"ell", &[b"V", b"A", b"B", b"C"]),
+    (b"rcc", &[b"V", b"H", b"r"]),
     (b"half", &[b"N", b"d"]),
     (b"arb8", &[b"V1", b"V2", b"V3", b"V4", b"V5", b"V6", b"V7", b"V8"]),
 ];
@@ -540,7 +541,8 @@ fn solid(kind: usize, pairs: &[Word], read: &mut Values) -> Result<Thing, Kind> 
             }
             Thing::Sphere(centre, radius)
         }
-        2 => Thing::Half(read.normal(word(0)), { let text = read.single(word(1)); read.length(text) }),
+        2 => Thing::Rcc(read.point(word(0)), read.point(word(1)), { let text = read.single(word(2)); read.length(text) }),
+        3 => Thing::Half(read.normal(word(0)), { let text = read.single(word(1)); read.length(text) }),
         _ => Thing::Arb8(Box::new(std::array::from_fn(|at| read.point(word(at))))),
     })
 }
@@ -577,6 +579,7 @@ fn put(words: &[Word], directory: &mut Directory) -> Result<(), Kind> {
     };
     let is_made = match &thing {
         Thing::Sphere(_, radius) => *radius >= 1,
+        Thing::Rcc(_, height, radius) => height.iter().filter(|part| **part != 0).count() == 1 && *radius >= 1,
         Thing::Half(normal, _) => *normal != [0; 3],
         Thing::Arb8(vertices) => is_solid(vertices),
         Thing::Comb(_) => true,
@@ -706,6 +709,11 @@ impl Directory {
     fn add_thing(&self, out: &mut Vec<u8>, thing: &Thing) {
         match thing {
             Thing::Sphere(centre, radius) => { add_three(out, " sph V ", centre, add_length); add_labelled_length(out, " r ", *radius); }
+            Thing::Rcc(base, height, radius) => {
+                add_three(out, " rcc V ", base, add_length);
+                add_three(out, " H ", height, add_length);
+                add_labelled_length(out, " r ", *radius);
+            }
             Thing::Half(normal, distance) => { add_three(out, " half N ", normal, add_number); add_labelled_length(out, " d ", *distance); }
             Thing::Arb8(vertices) => {
                 add(out, " arb8");

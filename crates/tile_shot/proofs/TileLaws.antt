@@ -6,9 +6,10 @@ use Rattle.lattice_core.specs.declared.ray.Ray.{Ray}
 use Rattle.lattice_core.specs.Views.{pixel_ray}
 use Rattle.lattice_core.specs.Tiles.{span_of}
 use Rattle.lattice_core.proofs.Tiling.{tiled}
+use Rattle.tile_blocks.proofs.BlockLaws.{made_of_blocks}
+use Rattle.tile_blocks.proofs.WholeLaws.{made_of_tiles}
 use Rattle.ppm_write.specs.Pictures.{IsCopied}
-use Rattle.ppm_write.proofs.BlockLaws.{block_same, made_of_blocks}
-use Rattle.ppm_write.proofs.WholeLaws.{made_of_tiles}
+use Rattle.ppm_write.proofs.BlockLaws.{block_same}
 use Rattle.shot_core.specs.declared.shot.Lit.{Lit}
 use Rattle.shot_core.specs.Regions.{Region}
 use Rattle.shot_core.specs.FirstShots.{first_seen}
@@ -39,5 +40,5 @@ kept_tiles same = λ regions view tile shown in_view.
 
 pub made_of_kept_tiles : AreKeptTilesWhole → IsMadeOfKeptTiles
 made_of_kept_tiles whole = λ regions view pictures shown size copies.
-    made_of_blocks view (made_of_tiles view (tiled view)) (parts_of regions view) pictures size
+    made_of_blocks 0 3 view (made_of_tiles 0 3 view (tiled view)) (parts_of regions view) pictures size
     (λ tile in_view. subst (λ (bytes : List ℕ). IsCopied view tile bytes (pictures tile) (pictures (tile + 1))) (whole regions view tile shown in_view) (copies tile in_view))

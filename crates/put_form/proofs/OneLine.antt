@@ -33,6 +33,7 @@ use Rattle.word_values.specs.declared.atoms.NumberKind.{NumberKind}
 use Rattle.word_values.specs.declared.atoms.NumberKind.TheVariants.{Whole, Length}
 use Rattle.word_values.specs.declared.atoms.NumberList.{NumberList}
 use Rattle.word_values.specs.declared.atoms.NumberList.TheVariants as lists
+use Rattle.put_form.specs.WritingSteps.{keyed_text}
 use Rattle.put_form.specs.Written.{tenths, tenth_text, size_text, length_text, number_text, words_text, number_words, vector_text, vertices_text, solid_text, truth_text, colour_text, attr_text, is_zero, matrix_text, operator_text, node_text, tree_text, body_text, put_line, kept_text, kept_line, kept_lines, object_lines}
 
 -- a name has none
@@ -106,14 +107,19 @@ vertices_lack number (v ∷ rest) =
     begun (codes " V") _ (computed 10 (codes " V") refl)
     (begun (decimal number) _ (number_lacks number) (begun (codes " ") (vector_text coordinate_kind v ++ vertices_text (number + 1) rest) (computed 10 (codes " ") refl) (begun (vector_text coordinate_kind v) (vertices_text (number + 1) rest) (vector_lacks coordinate_kind v) (vertices_lack (number + 1) rest))))
 
+keyed_lacks : (before : List ℕ) (kind : NumberKind) (v : V3) (between : List ℕ) (n : ℤ) → Lacks 10 before → Lacks 10 between → Lacks 10 (keyed_text before kind v between n)
+keyed_lacks before kind v between n h k =
+    begun before (vector_text kind v ++ (between ++ length_text n)) h (begun (vector_text kind v) (between ++ length_text n) (vector_lacks kind v) (begun between (length_text n) k (length_lacks n)))
+
 solid_lacks : (solid : Solid) → Lacks 10 (solid_text solid)
-solid_lacks (solids.Sphere s) =
-    begun (codes "sph V ") (vector_text coordinate_kind s.centre ++ (codes " r " ++ length_text s.radius)) (computed 10 (codes "sph V ") refl)
-    (begun (vector_text coordinate_kind s.centre) _ (vector_lacks coordinate_kind s.centre) (begun (codes " r ") (length_text s.radius) (computed 10 (codes " r ") refl) (length_lacks s.radius)))
-solid_lacks (solids.Half h) =
-    begun (codes "half N ") (vector_text normal_kind h.normal ++ (codes " d " ++ length_text h.distance)) (computed 10 (codes "half N ") refl)
-    (begun (vector_text normal_kind h.normal) _ (vector_lacks normal_kind h.normal) (begun (codes " d ") (length_text h.distance) (computed 10 (codes " d ") refl) (length_lacks h.distance)))
+solid_lacks (solids.Sphere s) = keyed_lacks (codes "sph V ") coordinate_kind s.centre (codes " r ") s.radius (computed 10 (codes "sph V ") refl) (computed 10 (codes " r ") refl)
+solid_lacks (solids.Half h) = keyed_lacks (codes "half N ") normal_kind h.normal (codes " d ") h.distance (computed 10 (codes "half N ") refl) (computed 10 (codes " d ") refl)
 solid_lacks (solids.Arb8 a) = begun (codes "arb8") _ (computed 10 (codes "arb8") refl) (vertices_lack 1 a.vertices)
+solid_lacks (solids.Rcc c) =
+    let height : List ℕ = keyed_text (codes " H ") coordinate_kind c.height (codes " r ") c.radius in
+    begun (codes "rcc V ") (vector_text coordinate_kind c.base ++ height) (computed 10 (codes "rcc V ") refl)
+    (begun (vector_text coordinate_kind c.base) height (vector_lacks coordinate_kind c.base)
+    (keyed_lacks (codes " H ") coordinate_kind c.height (codes " r ") c.radius (computed 10 (codes " H ") refl) (computed 10 (codes " r ") refl)))
 
 truth_lacks : (b : Bool) → Lacks 10 (truth_text b)
 truth_lacks true = computed 10 (codes "yes") refl

@@ -18,7 +18,11 @@ use Rattle.put_form.specs.WritingSteps.{placed_texts, before_text, owed, after, 
 pub two_more : (line first second middle all : List ℕ) → all ≡ middle ++ second → middle ≡ line ++ first → all ≡ line ++ (first ++ second)
 two_more line first second middle all last before = last ∙ ap (λ text. text ++ second) before ∙ append_assoc line first second
 
--- and two more behind these
+-- and one more behind these
+pub three_more : (line first second third a b all : List ℕ) → a ≡ line ++ first → b ≡ a ++ second → all ≡ b ++ third → all ≡ line ++ (first ++ (second ++ third))
+three_more line first second third a b all ea eb last = simp (last, eb, ea, append_assoc)
+
+-- and two more
 pub four_more : (line first second third fourth a b c all : List ℕ) → a ≡ line ++ first → b ≡ a ++ second → c ≡ b ++ third → all ≡ c ++ fourth → all ≡ line ++ (first ++ (second ++ (third ++ fourth)))
 four_more line first second third fourth a b c all ea eb ec last = simp (last, ec, eb, ea, append_assoc)
 

@@ -8,11 +8,10 @@ use Rattle.plane_geom.specs.declared.plane.Plane.{Plane}
 use Rattle.plane_geom.specs.declared.fault.ShapeFault.TheVariants.{Flat, NotPlanar, NotConvex}
 use Rattle.plane_geom.specs.Planes.{plane_through}
 use Rattle.prim_arb8.specs.Points.{lies_in, lies_beyond, lies_before, are_all_in, are_coplanar_with, are_coplanar_from, is_flat}
-use Rattle.prim_arb8.specs.Faces.{corners_of, face_plane, parts, Case, case_of, first_fault, face_cases, cases_of}
+use Rattle.prim_arb8.specs.Faces.{corners_of, face_plane, parts, case_of, first_fault, face_cases, cases_of}
 use Rattle.solid_set.specs.Larger.{IsLargerSide}
 use Rattle.scale_laws.specs.ModelLaws.{FaultsStay}
 use Rattle.solid_set.proofs.ScaledSolids.{height_same, any_moved, beyond_same, corners_scaled, through_larger, face_larger}
-use Rattle.scale_laws.proofs.Models.{flat_same}
 
 all_moved : {X Y : Type 0} (f : Y → Bool) (g : X → Bool) (carry : X → Y) (xs : List X) → ((x : X) → f (carry x) ≡ g x) → list_all f (map carry xs) ≡ list_all g xs
 all_moved f g carry [] h = refl
@@ -65,7 +64,7 @@ faces = 1 ∷ 2 ∷ 3 ∷ 4 ∷ 5 ∷ 6 ∷ []
 cases_same : (m : ℕ) (vs : List V3) → 0 < m → cases_of (map (scaled (pos m)) vs) ≡ cases_of vs
 cases_same m vs some =
     ap (λ b. case_of b Flat ∷ flat_map (face_cases (map (scaled (pos m)) vs)) faces) (flatness_same m vs some)
-    ∙ ap (λ (cs : List Case). case_of (is_flat vs) Flat ∷ cs) (flat_same (face_cases (map (scaled (pos m)) vs)) (face_cases vs) faces (λ face. face_same m vs face some))
+    ∙ (λ i. case_of (is_flat vs) Flat ∷ flat_map (λ face. face_same m vs face some i) faces)
 
 pub faults_stay : FaultsStay
 faults_stay m vertices some = ap first_fault (cases_same m vertices some)

@@ -1,7 +1,7 @@
 -- Larger directories come to larger scenes.
 use Rattle.std.proofs.Common.{◌≡◌, ◌<◌, ◌∙◌, ◌+◌, ℕ, List, [], ◌∷◌, ◌++◌, length, map, refl, ap, sym, subst, arith}
-use Rattle.std.specs.Prelude.{None, Some, Option, cond, flat_map, not, is_some, nat_lt}
-use Rattle.std.specs.List.{enumerate_from, range_with_len}
+use Rattle.std.specs.Prelude.{None, Some, Option, cond, not, is_some, nat_lt}
+use Rattle.std.specs.List.{enumerate_from}
 use Rattle.std.specs.Option.{option_map, option_or}
 use Rattle.std.proofs.lemmas.List.{map-append}
 use Rattle.std.proofs.lemmas.List.Elements.{filter_map-append}
@@ -15,7 +15,7 @@ use Rattle.directory.specs.Walks.{Entries, object_of}
 use Rattle.bool_weave.specs.Masks.{Mask}
 use Rattle.solid_set.specs.declared.surface.Surface.{Surface}
 use Rattle.shot_core.specs.Regions.{Region}
-use Rattle.ppm_write.specs.Pictures.{row_bytes, block_bytes, whole_span}
+use Rattle.ppm_write.specs.Pictures.{block_bytes, whole_span}
 use Rattle.tile_shot.specs.Pixels.{part_of, pixel_of, pixel_up_to}
 use Rattle.scene_prep.specs.declared.fault.PrepFault.TheVariants.{Missing, TooMany}
 use Rattle.solid_set.specs.Placings.{own_surface, surface_under}
@@ -120,17 +120,9 @@ pub rays_of_models : RaysOfModelsScaleToTenths
 rays_of_models far directory names ray end =
     rays_scale_to_tenths far (scene_of directory names) (scene_of (larger_directory millimetre directory) names) ray end (models_larger millimetre directory names (omega arith))
 
-pub flat_same : {A B : Type 0} (f g : A → List B) (xs : List A) → ((x : A) → f x ≡ g x) → flat_map f xs ≡ flat_map g xs
-flat_same f g [] h = refl
-flat_same {A} {B} f g (x ∷ xs) h = ap (λ (ys : List B). ys ++ flat_map f xs) (h x) ∙ ap (λ (ys : List B). g x ++ ys) (flat_same f g xs h)
-
 bytes_same : (f g : ℕ → ℕ → Rgb) (view : View) → ((column row : ℕ) → f column row ≡ g column row)
     → block_bytes (λ column row part. part_of (f column row) part) (whole_span view) ≡ block_bytes (λ column row part. part_of (g column row) part) (whole_span view)
-bytes_same f g view h =
-    flat_same (row_bytes (λ column row part. part_of (f column row) part) 0 view.w) (row_bytes (λ column row part. part_of (g column row) part) 0 view.w) (range_with_len 0 view.h) (λ row.
-    flat_same (λ column. part_of (f column row) 0 ∷ part_of (f column row) 1 ∷ part_of (f column row) 2 ∷ [])
-    (λ column. part_of (g column row) 0 ∷ part_of (g column row) 1 ∷ part_of (g column row) 2 ∷ []) (range_with_len 0 view.w)
-    (λ column. ap (λ (c : Rgb). part_of c 0 ∷ part_of c 1 ∷ part_of c 2 ∷ []) (h column row)))
+bytes_same f g view h = λ i. block_bytes (λ column row part. part_of (h column row i) part) (whole_span view)
 
 pub pictures_of_models : PicturesOfModelsStay
 pictures_of_models far directory names view end =

@@ -44,7 +44,7 @@ use Rattle.word_values.specs.declared.atoms.NumberList.TheVariants as lists
 use Rattle.word_values.proofs.KindLaws.{kept_back, numbers_length}
 use Rattle.word_values.proofs.SolidLaws.{kind_again, kind_good}
 use Rattle.word_values.specs.Matrices.{placement_in, placement_of_all, placement_read, identity}
-use Rattle.word_values.specs.Solids.{kind_of, kind_word, number_count, solid_made}
+use Rattle.word_values.specs.Solids.{kind_word, number_count, solid_made}
 use Rattle.word_values.specs.declared.solid.SolidKind.{SolidKind}
 use Rattle.command_set.specs.declared.command.Command.{Command}
 use Rattle.command_set.specs.declared.command.Command.TheVariants.{Bad, Edit, Query, Shoot}

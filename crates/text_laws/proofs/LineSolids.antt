@@ -35,7 +35,7 @@ use Rattle.plane_geom.specs.Chords.{IsRadius}
 use Rattle.prim_rcc.specs.Axes.{HasOneComponent}
 use Rattle.prim_rcc.specs.Cylinders.{Cylinder}
 use Rattle.plane_geom.specs.declared.fault.ShapeFault.TheVariants.{Axis, Radius, ZeroNormal}
-use Rattle.word_values.specs.Solids.{solid_made, is_zero, has_one_component, number_count}
+use Rattle.word_values.specs.Solids.{solid_made, is_zero, number_count}
 use Rattle.word_values.specs.SolidForms.{Key, made_as, vector_key, normal_key, number_key}
 use Rattle.word_values.specs.declared.solid_form.SolidForm.{SolidForm}
 use Rattle.word_values.specs.declared.solid_form.SolidForm.TheVariants.{Sphere, Half, Rcc}

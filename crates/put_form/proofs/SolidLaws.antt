@@ -22,7 +22,7 @@ use Rattle.word_values.specs.declared.solid_form.SolidForm.{SolidForm}
 use Rattle.word_values.proofs.SolidLaws.{same_made}
 use Rattle.word_values.proofs.FormLaws.{HasPlaces, HavePlaces, total, enough, keys_more, keys_placed}
 use Rattle.put_form.specs.Pairs.{Pair, pair_of}
-use Rattle.put_form.specs.Solids.{of_count, single, value_atoms, value_numbers, numbers_at, key_numbers, appended, all_numbers, numbers_of, radius_in, bad_pair}
+use Rattle.put_form.specs.Solids.{of_count, single, value_atoms, value_numbers, numbers_at, key_numbers, appended, all_numbers, numbers_of, radius_in, is_good, bad_pair}
 use Rattle.put_form.specs.Puts.{Put, unless_fault, name_fault, number_fault, solid_put, solid_of, solid_with}
 use Rattle.put_form.specs.Steps.{IsPutRead, word_of, word_fault}
 use Rattle.put_form.specs.SolidSteps.{IsOfKind, AreOfKinds, or_zero, named_solid}

@@ -1,5 +1,5 @@
 -- Solids that are made of numbers.
-use Rattle.std.proofs.Common.{◌≡◌, ◌⊎◌, ◌↔◌, ◌∙◌, ◌+◌, ◌<ℤ◌, ◌&&◌, ℕ, ℤ, pos, Bool, true, false, not, cond, List, [], ◌∷◌, Decides, Option, Some, Result, Ok, Err, IsErr, MatchResult, refl, inl, inr, sym, ap, arith, All}
+use Rattle.std.proofs.Common.{◌≡◌, ◌⊎◌, ◌↔◌, ◌∙◌, ◌+◌, ◌<ℤ◌, ◌&&◌, ℕ, ℤ, pos, Bool, true, false, not, cond, List, [], ◌∷◌, Decides, Option, Some, None, Result, Ok, Err, IsErr, MatchResult, refl, inl, inr, sym, ap, arith, All}
 use Rattle.std.specs.Cmp.{int_ranks}
 use Rattle.std.specs.Ordering.{int_cmp, int_eq, is_lt, MatchOrdering}
 use Rattle.std.specs.Result.{IsErrAnd}

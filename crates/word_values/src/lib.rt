@@ -1,4 +1,4 @@
-//! What words of a text stand for: atoms, numbers, matrices, solids by their numbers or keys, and boolean trees.
+//! What words of a text stand for: atoms, numbers, matrices, solids by their numbers, and boolean trees.
 #![tactic(auto)]
 
 mod atoms;

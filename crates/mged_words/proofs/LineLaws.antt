@@ -3,7 +3,7 @@ use Rattle.std.proofs.Common.{◌≡◌, ◌<◌, ◌≤◌, ◌+◌, ◌++◌, 
 use Rattle.std.specs.Borrow.{Bor}
 use Rattle.std.proofs.lemmas.Grind.{common_steps}
 use Rattle.std.proofs.lemmas.List.{drop_more, take_more, map-append, length-take}
-use Rattle.std.proofs.Common.{cond, Bool, true, false, ◌==◌, eq-eqb, ne_eqb, Ok, Err, ◌≢◌}
+use Rattle.std.proofs.Common.{cond, Bool, true, false, ◌==◌, eq-eqb, ne_eqb, Ok, Err, nat_lt, ◌≢◌}
 use Rattle.name_core.specs.NameText.{read_name, read_with, first_bad}
 use Rattle.name_core.specs.declared.name.NameFault.TheVariants.{Empty, Long}
 use Rattle.std.proofs.lemmas.Bool.{cond-true, cond-false}

@@ -239,8 +239,9 @@ rcc_written name c =
 rcc_good : (name : List ℕ) (c : Cylinder) → IsName name → AreOf coordinate_kind c.base → AreOf coordinate_kind c.height → IsOf coordinate_kind c.radius → Good 0 (rcc_pieces name c)
 rcc_good name c is base height radius =
     let end : Good 0 (atom (codes "r") ∷ atom (length_text c.radius) ∷ []) = (word_good (codes "r") 0 refl, (word_good (length_text c.radius) 0 (of_kind_word coordinate_kind c.radius radius), refl)) in
-    let rest : Good 0 (atom (codes "H") ∷ vector_pieces coordinate_kind c.height (atom (codes "r") ∷ atom (length_text c.radius) ∷ [])) = (word_good (codes "H") 0 refl, vector_good coordinate_kind c.height _ height end) in
-    (word_good (codes "put") 0 refl, (word_good name 0 (name_word name is), (word_good (codes "rcc") 0 refl, (word_good (codes "V") 0 refl, vector_good coordinate_kind c.base _ base rest))))
+    let rest : Good 0 (atom (codes "H") ∷ vector_pieces coordinate_kind c.height (atom (codes "r") ∷ atom (length_text c.radius) ∷ [])) = (word_good (codes "H") 0 refl, vector_good coordinate_kind c.height (atom (codes "r") ∷ atom (length_text c.radius) ∷ []) height end) in
+    (word_good (codes "put") 0 refl, (word_good name 0 (name_word name is), (word_good (codes "rcc") 0 refl, (word_good (codes "V") 0 refl, vector_good coordinate_kind c.base
+    (atom (codes "H") ∷ vector_pieces coordinate_kind c.height (atom (codes "r") ∷ atom (length_text c.radius) ∷ [])) base rest))))
 
 abbrev rcc_pairs : Option (List ℕ) → Option (List ℕ) → Option (List ℕ) → List Pair
 rcc_pairs first second third = pair first (word 4 8) 5 ∷ pair second (word 10 14) 7 ∷ pair third (word 16 16) 9 ∷ []

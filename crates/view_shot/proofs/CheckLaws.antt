@@ -32,6 +32,10 @@ no_pairs (p ∷ pairs) = no_pairs pairs
 pub no_report : (scene : List Region) (view : View) → [] ≡ first_report scene view 0
 no_report scene view = sym (ap (report_of scene view) (no_spots (spots_of (whole_span view))) ∙ no_pairs (place_pairs (map (λ (r : Region). r.place) scene)))
 
+-- the same report, by a scene and a number of tiles that are the same
+pub report_moved : (report : List Pair) (scene scene' : List Region) (view : View) (n n' : ℕ) → scene ≡ scene' → n ≡ n' → report ≡ first_report scene view n → report ≡ first_report scene' view n'
+report_moved report scene scene' view n n' p q h = h ∙ (λ i. first_report (p i) view (q i))
+
 -- the report of one tile, and of one more
 module _ (scene : List Region) (view : View) (tile : ℕ) (rising : HaveRisingPlaces scene) (lt : tile < tiles_of view) where
   pub report_more : (old new : List Pair) → TilesFollow → TilesAreParts → old ≡ first_report scene view tile → AddUp old (tile_report scene view tile) new → new ≡ first_report scene view (tile + 1)

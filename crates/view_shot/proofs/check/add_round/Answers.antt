@@ -1,17 +1,17 @@
-use Rattle.std.proofs.Common.{◌≡◌, ◌+◌, ◌∙◌, ℕ, List, length, ap, ap₂, subst, arith}
+use Rattle.std.proofs.Common.{◌≡◌, ◌+◌, ℕ, List, length, ap, subst, arith}
 use Rattle.std.proofs.lemmas.Result.{IfOk-weaker, IfErr-weaker}
 use Rattle.overlap_list.specs.Overlaps.{IsTooMany}
 use Rattle.shot_core.specs.Regions.{Region}
 use Rattle.tile_shot.specs.Reports.{view_report}
 use Rattle.view_shot.specs.declared.named.SharedPairs.{SharedPairs}
-use Rattle.view_shot.proofs.CheckLaws.{first_report}
+use Rattle.view_shot.proofs.CheckLaws.{report_moved}
 use Rattle.view_shot.proofs.check.add_round.Goals as goal
 
 pub returns-clause-added : goal.returns-clause-added
 returns-clause-added g c =
     let long : length c.deref-2.result.now ≡ c.args.count = omega (arith, ap (length {A = SharedPairs}) c.deref-2.ensures.value, c.in-Ok-check_tiles.ensures.len, c.in-Ok-check_tiles.shots.ok.0) in
     let next : c.args.first + length c.deref-2.result.now ≡ c.args.first + c.args.count = ap (λ (n : ℕ). c.args.first + n) long in
-    IfOk-weaker c.add_tiles.result _ _ (λ v h. h ∙ ap₂ (λ (s : List Region) (n : ℕ). first_report s c.args.view.now n) c.deref.ensures next) c.add_tiles.ensures.added
+    IfOk-weaker c.add_tiles.result _ _ (λ v h. report_moved _ _ _ c.args.view.now _ _ c.deref.ensures next h) c.add_tiles.ensures.added
 
 pub returns-clause-fault : goal.returns-clause-fault
 returns-clause-fault g c =

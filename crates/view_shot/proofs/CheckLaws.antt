@@ -1,5 +1,6 @@
 -- The report of a view that is added up of those of its tiles.
 use Rattle.std.proofs.Common.{◌≡◌, ◌≤◌, ◌<◌, ◌+◌, ◌∙◌, ℕ, suc, false, List, [], ◌∷◌, filter, map, length, refl, sym, ap, subst, arith}
+use Rattle.std.specs.Prelude.{Result, IfOk}
 use Rattle.std.specs.List.{filter_map}
 use Rattle.lattice_core.specs.declared.view.View.{View}
 use Rattle.lattice_core.specs.Views.{IsChecked}
@@ -33,8 +34,9 @@ pub no_report : (scene : List Region) (view : View) → [] ≡ first_report scen
 no_report scene view = sym (ap (report_of scene view) (no_spots (spots_of (whole_span view))) ∙ no_pairs (place_pairs (map (λ (r : Region). r.place) scene)))
 
 -- the same report, by a scene and a number of tiles that are the same
-pub report_moved : (report : List Pair) (scene scene' : List Region) (view : View) (n n' : ℕ) → scene ≡ scene' → n ≡ n' → report ≡ first_report scene view n → report ≡ first_report scene' view n'
-report_moved report scene scene' view n n' p q h = h ∙ (λ i. first_report (p i) view (q i))
+pub report_moved : {R E : Type 0} (result : Result R E) (report : List Pair) (scene scene' : List Region) (view : View) (n n' : ℕ) → scene ≡ scene' → n ≡ n'
+    → IfOk result (λ _. report ≡ first_report scene view n) → IfOk result (λ _. report ≡ first_report scene' view n')
+report_moved result report scene scene' view n n' p q h = subst (λ (m : ℕ). IfOk result (λ _. report ≡ first_report scene' view m)) q (subst (λ (s : List Region). IfOk result (λ _. report ≡ first_report s view n)) p h)
 
 -- the report of one tile, and of one more
 module _ (scene : List Region) (view : View) (tile : ℕ) (rising : HaveRisingPlaces scene) (lt : tile < tiles_of view) where

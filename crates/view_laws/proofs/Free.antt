@@ -1,5 +1,5 @@
 -- Fractions of a ray between places of it, at no hit place.
-use Rattle.std.proofs.Common.{◌<ℤ◌, ℤ, pos, negsuc, List, [], ◌∷◌, ◌++◌, flat_map, Option, Some, None, subst, inl, inr, arith}
+use Rattle.std.proofs.Common.{◌<ℤ◌, ℤ, pos, List, [], ◌∷◌, ◌++◌, flat_map, subst, inl, inr, arith}
 use Rattle.std.proofs.lemmas.Int.{ints}
 use Rattle.lattice_core.specs.declared.ray.Ray.{Ray}
 use Rattle.lattice_core.specs.Rays.{IsOnRay}

@@ -7,6 +7,7 @@ pub mod Free
 pub mod Turning
 pub mod Pixels
 pub mod Reports
+pub mod FirstRegion
 pub mod OnePixel
 pub mod OneReport
 mod PointExamples

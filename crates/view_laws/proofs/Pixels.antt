@@ -28,7 +28,7 @@ use Rattle.shot_core.specs.FirstShots.{is_solid, first_seen}
 use Rattle.shot_core.specs.Laws.{HasEndWith}
 use Rattle.shot_core.specs.Points.{stretch_of, stretches_of, IsStretch}
 use Rattle.shot_core.specs.Regions.{Instance, Region, HaveInstances}
-use Rattle.shot_core.specs.SeenPoints.{IsSeenFirst}
+use Rattle.shot_core.specs.SeenPoints.{IsSeen, IsSeenFirst}
 use Rattle.shot_core.specs.Shots.{woven_if, woven_from, claims_on, level_on, lit_of}
 use Rattle.shot_core.specs.Steps.{no_region}
 use Rattle.shot_core.proofs.Claiming.{no_claims}
@@ -40,7 +40,7 @@ use Rattle.shot_core.proofs.SeenTruth.{seen_tells_points}
 use Rattle.shot_core.proofs.Weaving.{IsOfInstance, has_woven}
 use Rattle.tile_shot.specs.Pixels.{colour_of, pixel_by, shaded}
 use Rattle.tile_shot.specs.Reports.{HaveRisingPlaces}
-use Rattle.view_laws.specs.PixelPoints.{TurnsAt, TurnsWith, HasLevel, IsTruePixel}
+use Rattle.view_laws.specs.PixelPoints.{TurnsAt, TurnsWith, HasLevel, PresentsFirst, IsTruePixel}
 use Rattle.view_laws.proofs.Hits.{IsFirstHit, first_hit, change_no, start_cut}
 use Rattle.view_laws.proofs.Turning.{turns_at, changes_from}
 use Rattle.view_laws.proofs.LeftOut.{mapped_has}
@@ -164,7 +164,7 @@ only_end seg x face (inl h) = inl h.0
 only_end seg x face (inr h) = inr h.0
 
 module _ (regions : List Region) (ray : Ray) (rising : HaveRisingPlaces regions) (below : HaveInstances regions) where
-  stretch : (l : Lit) → Has (lit_of regions ray) l → IsStretch (stretch_of l)
+  pub stretch : (l : Lit) → Has (lit_of regions ray) l → IsStretch (stretch_of l)
   stretch l has =
       let c = contains_from_has (stretches_of (lit_of regions ray)) (stretch_of l) (mapped_has stretch_of (lit_of regions ray) l has) in
       subst IsStretch c.2 ((ordered_lit regions ray below).each c.0 (stretch_of l) c.1)
@@ -294,17 +294,20 @@ module _ (regions : List Region) (ray : Ray) (rising : HaveRisingPlaces regions)
         let t = first_taken (changes_on ray l.start f.x) (ends_among ray l.start f.x.body.instances) h.first f.own in
         level_by h.first h.face h.level f t.0 (leading f.x h.first t.1)
 
+  pub first_has_it : (l : Lit) → first_seen regions ray ≡ Some l → Has (lit_of regions ray) l
+  first_has_it l e = found_has (λ (k : Lit). is_solid (slice_get regions k.region)) (lit_of regions ray) l e
+
+  -- what is seen first is presented
+  unfoldable pub presents : (l : Lit) → first_seen regions ray ≡ Some l → IsSeen regions ray l → PresentsFirst regions ray
+  presents l e seen = let s = stretch l (first_has_it l e) in record { lit = l; start_spelled = s.start_spelled; end_spelled = s.end_spelled; seen = seen }
+
   shown : (o : Option Lit) → first_seen regions ray ≡ o → IsSeenFirst regions ray o → IsTruePixel regions ray (pixel_by regions o)
+  unfolding presents
   shown None e seen = inr (refl, seen)
   shown (Some l) e seen =
-      let has = found_has (λ (k : Lit). is_solid (slice_get regions k.region)) (lit_of regions ray) l e in
-      let s = stretch l has in
       inl (record {
-        lit = l;
-        start_spelled = s.start_spelled;
-        end_spelled = s.end_spelled;
-        seen = seen;
-        level = has_level l has (first_hit regions ray below l has);
+        first = presents l e seen;
+        level = has_level l (first_has_it l e) (first_hit regions ray below l (first_has_it l e));
         is = ap (λ o. shaded l.level (colour_of o)) seen.there;
       })
 

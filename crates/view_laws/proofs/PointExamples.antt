@@ -29,7 +29,7 @@ red_is_not_black e = let wrong : 255 ≡ 0 = ap (λ (c : Rgb). c.r) e in omega (
 
 not_red_without_regions : (ray : Ray) → ¬ (IsTruePixel [] ray red)
 not_red_without_regions ray = λ told. elim told [
-  | inl shown ↦ no_region shown.lit.region shown.seen.region shown.seen.there
+  | inl shown ↦ no_region shown.first.lit.region shown.first.seen.region shown.first.seen.there
   | inr nothing ↦ red_is_not_black nothing.0
 ]
 

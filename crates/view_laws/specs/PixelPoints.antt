@@ -60,14 +60,18 @@ pub record HasLevel (regions : List Region) (ray : Ray) (lit : Lit) : Type 0 whe
   pub face : HasEndWith at.seg lit.start lit.hit.face
   pub level : lit.level ≡ level_at at.one.surface lit.hit.face ray
 
--- the colour of the region without air that lies first on the ray, at the level there
-pub record ShowsFirst (regions : List Region) (ray : Ray) (colour : Rgb) : Type 0 where
+-- the region without air that lies first on the ray, and between which ends it does
+pub record PresentsFirst (regions : List Region) (ray : Ray) : Type 0 where
   pub lit : Lit
   pub start_spelled : IsSpelled lit.start
   pub end_spelled : IsSpelled lit.end
   pub seen : IsSeen regions ray lit
-  pub level : HasLevel regions ray lit
-  pub is : colour ≡ shaded lit.level seen.region.body.rgb
+
+-- the colour of that region, at the level there
+pub record ShowsFirst (regions : List Region) (ray : Ray) (colour : Rgb) : Type 0 where
+  pub first : PresentsFirst regions ray
+  pub level : HasLevel regions ray first.lit
+  pub is : colour ≡ shaded first.lit.level first.seen.region.body.rgb
 
 -- a pixel shows that, or is black where no region without air holds at any fraction
 abbrev pub IsTruePixel : List Region → Ray → Rgb → Type 0

@@ -223,10 +223,14 @@ half_again name s is within small direction =
 
 -- ---- a cylinder
 
+abbrev radius_pieces : Cylinder → List Piece
+radius_pieces c = atom (codes "r") ∷ atom (length_text c.radius) ∷ []
+
+abbrev height_pieces : Cylinder → List Piece
+height_pieces c = atom (codes "H") ∷ vector_pieces coordinate_kind c.height (radius_pieces c)
+
 abbrev rcc_pieces : List ℕ → Cylinder → List Piece
-rcc_pieces name c =
-    atom (codes "put") ∷ atom name ∷ atom (codes "rcc") ∷ atom (codes "V")
-    ∷ vector_pieces coordinate_kind c.base (atom (codes "H") ∷ vector_pieces coordinate_kind c.height (atom (codes "r") ∷ atom (length_text c.radius) ∷ []))
+rcc_pieces name c = atom (codes "put") ∷ atom name ∷ atom (codes "rcc") ∷ atom (codes "V") ∷ vector_pieces coordinate_kind c.base (height_pieces c)
 
 rcc_written : (name : List ℕ) (c : Cylinder) → put_line name (bodies.Solid (solids.Rcc c)) ≡ written_after Open (rcc_pieces name c)
 rcc_written name c =
@@ -238,10 +242,10 @@ rcc_written name c =
 
 rcc_good : (name : List ℕ) (c : Cylinder) → IsName name → AreOf coordinate_kind c.base → AreOf coordinate_kind c.height → IsOf coordinate_kind c.radius → Good 0 (rcc_pieces name c)
 rcc_good name c is base height radius =
-    let end : Good 0 (atom (codes "r") ∷ atom (length_text c.radius) ∷ []) = (word_good (codes "r") 0 refl, (word_good (length_text c.radius) 0 (of_kind_word coordinate_kind c.radius radius), refl)) in
-    let rest : Good 0 (atom (codes "H") ∷ vector_pieces coordinate_kind c.height (atom (codes "r") ∷ atom (length_text c.radius) ∷ [])) = (word_good (codes "H") 0 refl, vector_good coordinate_kind c.height (atom (codes "r") ∷ atom (length_text c.radius) ∷ []) height end) in
-    (word_good (codes "put") 0 refl, (word_good name 0 (name_word name is), (word_good (codes "rcc") 0 refl, (word_good (codes "V") 0 refl, vector_good coordinate_kind c.base
-    (atom (codes "H") ∷ vector_pieces coordinate_kind c.height (atom (codes "r") ∷ atom (length_text c.radius) ∷ [])) base rest))))
+    let third : Good 0 (radius_pieces c) = (word_good (codes "r") 0 refl, (word_good (length_text c.radius) 0 (of_kind_word coordinate_kind c.radius radius), refl)) in
+    let second : Good 0 (height_pieces c) = (word_good (codes "H") 0 refl, vector_good coordinate_kind c.height (radius_pieces c) height third) in
+    let first : Good 0 (vector_pieces coordinate_kind c.base (height_pieces c)) = vector_good coordinate_kind c.base (height_pieces c) base second in
+    (word_good (codes "put") 0 refl, (word_good name 0 (name_word name is), (word_good (codes "rcc") 0 refl, (word_good (codes "V") 0 refl, first))))
 
 abbrev rcc_pairs : Option (List ℕ) → Option (List ℕ) → Option (List ℕ) → List Pair
 rcc_pairs first second third = pair first (word 4 8) 5 ∷ pair second (word 10 14) 7 ∷ pair third (word 16 16) 9 ∷ []

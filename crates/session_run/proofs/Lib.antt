@@ -1,4 +1,5 @@
 pub mod PictureLaws
+mod CheckLaws
 pub mod ShotLaws
 pub mod ObjectLaws
 pub mod EditLaws

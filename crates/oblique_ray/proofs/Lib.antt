@@ -1,0 +1,9 @@
+pub mod Foremost
+pub mod Tests
+pub mod Sizes
+pub mod Faces
+pub mod SegmentLaws
+pub mod Along
+pub mod InRange
+pub mod OnAxes
+pub mod Running

@@ -54,7 +54,7 @@ has_in_range [] x all has = absurd has
 has_in_range (y ∷ ys) x all has = elim has [ inl e ↦ subst IsQuotientInRange e all.0 | inr more ↦ has_in_range ys x all.1 more ]
 
 -- numbers that are small enough
-fraction_in_range : (m n p q : ℤ) → unsigned_abs m < OVER_LIMIT → n <ℤ UNDER_LIMIT → IsAtMost m p → IsAtMost n q → pos 0 <ℤ q → IsQuotientInRange (Frac p q)
+pub fraction_in_range : (m n p q : ℤ) → unsigned_abs m < OVER_LIMIT → n <ℤ UNDER_LIMIT → IsAtMost m p → IsAtMost n q → pos 0 <ℤ q → IsQuotientInRange (Frac p q)
 fraction_in_range m n p q small small' p_size q_size some = record {
   over = omega (arith, abs_of m p p_size, small);
   positive = some;

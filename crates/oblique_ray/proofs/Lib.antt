@@ -7,3 +7,4 @@ pub mod Along
 pub mod InRange
 pub mod OnAxes
 pub mod Running
+pub mod Runs

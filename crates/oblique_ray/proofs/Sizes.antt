@@ -1,21 +1,23 @@
 -- How large the numbers of crossings are.
-use Rattle.std.proofs.Common.{◌≡◌, ℤ, pos, negsuc, zero, suc, ◌+ℤ◌, ◌-ℤ◌, ◌*ℤ◌, ◌<ℤ◌, ◌≤ℤ◌, refl, arith}
+use Rattle.std.proofs.Common.{◌≡◌, ◌∙◌, ℤ, pos, negsuc, zero, suc, ◌+ℤ◌, ◌-ℤ◌, ◌*ℤ◌, ◌<ℤ◌, ◌≤ℤ◌, refl, ap, sym, subst, arith, lit<, FitsSigned, w64}
 use Rattle.std.proofs.lemmas.Int.{ints}
 use Rattle.lattice_core.specs.declared.limit.TheConstants.{COORD, PLACED, WORLD}
 use Rattle.lattice_core.specs.declared.vector.V3.{V3}
 use Rattle.lattice_core.specs.Limits.{IsAtMost, IsWithin}
 use Rattle.lattice_core.specs.Vectors.{vector_difference}
-use Rattle.lattice_core.proofs.Products.{square_at_least}
+use Rattle.std.proofs.Math.IntN.{*ℤ_comm}
+use Rattle.lattice_core.proofs.Products.{mul_sub, square_at_least}
 use Rattle.plane_geom.specs.declared.limit.TheConstants.{NORMAL, GAP, REMOTE}
 use Rattle.plane_geom.specs.declared.plane.Plane.{Plane}
 use Rattle.plane_geom.specs.Planes.{IsWorldPlane, slope_along, start_at}
 use Rattle.plane_geom.specs.Chords.{IsRadius, squared, length_squared, nearest_along, half_chord_along}
 use Rattle.plane_geom.specs.Vectors.{cross_product}
-use Rattle.plane_geom.proofs.Sizes.{product_size, dot_size, difference_size}
+use Rattle.plane_geom.proofs.Lines.{square_of_cross}
+use Rattle.plane_geom.proofs.Sizes.{product_size, sum_size, dot_size, difference_size, fits64}
 use Rattle.prim_rcc.specs.declared.axis.Axis.{Axis}
 use Rattle.prim_rcc.specs.declared.axis.Axis.TheVariants.{X, Y, Z}
 use Rattle.prim_rcc.specs.Axes.{across}
-use Rattle.oblique_ray.specs.declared.limit.TheConstants.{STEP, SLOPE, PACE, NEAREST, CHORD}
+use Rattle.oblique_ray.specs.declared.limit.TheConstants.{STEP, SLOPE, PACE, NEAREST, CHORD, OVER}
 
 pub slope_size : (plane : Plane) (e : V3) → IsWorldPlane plane → IsWithin STEP e → IsAtMost SLOPE (slope_along plane e)
 slope_size plane e size direction =
@@ -71,3 +73,35 @@ some_across v some = above (length_squared v) (omega (arith, ints, square_at_lea
     above (pos zero) low some = absurd (some refl)
     above (pos (suc n)) low some = omega (arith, ints)
     above (negsuc n) low some = absurd (omega (arith, ints, low))
+
+pub less_nothing : (r l : ℤ) → (r -ℤ (l -ℤ squared (pos 0))) ≡ (r -ℤ l)
+less_nothing r l = omega (arith, ints)
+
+pub over_size : (apart : V3) (r : ℤ) → IsWithin REMOTE apart → IsAtMost COORD r → IsAtMost OVER (squared r -ℤ length_squared apart)
+over_size apart r apart_size r_size =
+    let square : IsAtMost (COORD *ℤ COORD) (squared r) = product_size COORD COORD r r r_size r_size in
+    let length : IsAtMost (pos 3 *ℤ (REMOTE *ℤ REMOTE)) (length_squared apart) = dot_size REMOTE REMOTE apart apart apart_size apart_size in
+    (omega (arith, ints, square.0, length.1), omega (arith, ints, square.1, length.0))
+
+-- E r² - |v × e|² is E (r² - |v|²) + (v · e)²
+half_chord_by : (pace square length near cross : ℤ) → cross ≡ (length *ℤ pace) -ℤ near → (pace *ℤ (square -ℤ length)) +ℤ near ≡ (pace *ℤ square) -ℤ cross
+half_chord_by pace square length near cross e =
+    let one : pace *ℤ (square -ℤ length) ≡ (pace *ℤ square) -ℤ (pace *ℤ length) = mul_sub pace square length in
+    let two : pace *ℤ length ≡ length *ℤ pace = *ℤ_comm pace length in
+    omega (arith, ints, e, one, two)
+
+pub half_chord_is : (apart : V3) (r : ℤ) (e : V3) (k pace over near : ℤ) → k ≡ (pace *ℤ over) +ℤ (near *ℤ near) → pace ≡ length_squared e → over ≡ squared r -ℤ length_squared apart
+    → near ≡ nearest_along apart e → k ≡ half_chord_along apart r e
+half_chord_is apart r e k pace over near is pace_is over_is near_is =
+    is
+    ∙ ap (λ (z : ℤ). (z *ℤ over) +ℤ (near *ℤ near)) pace_is
+    ∙ ap (λ (z : ℤ). (length_squared e *ℤ z) +ℤ (near *ℤ near)) over_is
+    ∙ ap (λ (z : ℤ). (length_squared e *ℤ (squared r -ℤ length_squared apart)) +ℤ squared z) near_is
+    ∙ half_chord_by (length_squared e) (squared r) (length_squared apart) (squared (nearest_along apart e)) (length_squared (cross_product apart e)) (square_of_cross apart e)
+
+pub fits_raised : (k pace over near : ℤ) → k ≡ (pace *ℤ over) +ℤ (near *ℤ near) → IsAtMost PACE pace → IsAtMost OVER over → IsAtMost NEAREST near → FitsSigned w64 k
+fits_raised k pace over near is pace_size over_size near_size =
+    let p = product_size PACE OVER pace over pace_size over_size in
+    let n = product_size NEAREST NEAREST near near near_size near_size in
+    let s = sum_size (PACE *ℤ OVER) (NEAREST *ℤ NEAREST) (pace *ℤ over) (near *ℤ near) p n in
+    subst (FitsSigned w64) (sym is) (fits64 ((PACE *ℤ OVER) +ℤ (NEAREST *ℤ NEAREST)) ((pace *ℤ over) +ℤ (near *ℤ near)) (lit< tt) s)

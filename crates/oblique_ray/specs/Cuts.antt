@@ -107,6 +107,11 @@ planes_cut [] o e = uncut
 planes_cut (None ∷ planes) o e = planes_cut planes o e
 planes_cut (Some plane ∷ planes) o e = both_cut (plane_cut plane o e) (planes_cut planes o e)
 
+-- one face of these
+abbrev pub face_cut : Option Plane → V3 → V3 → LineCut
+face_cut None o e = uncut
+face_cut (Some plane) o e = plane_cut plane o e
+
 -- the faces of a surface: its planes, and then what is round
 abbrev pub surface_cut : Surface → V3 → V3 → LineCut
 surface_cut surface o e = both_cut (planes_cut (planes_of_faces surface) o e) (round_cut (round_of surface) o e)

@@ -1,8 +1,10 @@
+pub mod Rays
 pub mod Cuts
 pub mod Segments
 pub mod Places
 pub mod Sizes
 pub mod Axes
 pub mod Running
+pub mod Runs
 pub mod Laws
 pub mod Examples

@@ -2,6 +2,10 @@
 #![tactic(auto)]
 
 mod limit;
+mod measure;
+mod ray;
+mod run;
+mod slant;
 mod stretch;
 
 ghost use Rattle.oblique_ray.specs.Laws.{SlantSegmentsTellPoints, SlantSegmentsLieAlong};
@@ -10,6 +14,8 @@ ghost use Rattle.oblique_ray.specs.Running.{MayBeSpelledFirst};
 ghost use Rattle.oblique_ray.specs.Sizes.{SlantSegmentsStayInRange};
 
 pub use limit::{CHORD, NEAREST, PACE, SLOPE, STEP, limit_laws};
+pub use ray::SlantRay;
+pub use slant::slant_segment;
 pub use stretch::{Stretch, between, earlier, later};
 
 /// The segment of a ray in any whole direction tells which of its points lie inside, and lies along the ray. The function does

@@ -24,6 +24,9 @@ pub const NEAREST: i64 = 3 * REMOTE * STEP;
 /// The greatest square of half a chord, times the square of the length of the direction.
 pub const CHORD: i64 = PACE * COORD * COORD;
 
+/// The greatest size of the square of a radius less that of the distance of a placed centre from a ray's origin.
+pub(crate) const OVER: i64 = COORD * COORD + 3 * REMOTE * REMOTE;
+
 /// The greatest size of a component is 4, and the numbers of all crossings and of the end of a ray are below the limits under which
 /// positions are compared. This law is what refuses limits that are too large for that.
 pub fn limit_laws()

@@ -8,3 +8,7 @@ pub mod InRange
 pub mod OnAxes
 pub mod Running
 pub mod Runs
+pub mod Segmented
+pub mod Winning
+pub mod PointLaws
+pub mod ShotAxes

@@ -1,5 +1,5 @@
 -- Along an axis the segment is that of the plain ray.
-use Rattle.std.proofs.Common.{◌≡◌, ◌↔◌, ◌∙◌, ℕ, zero, suc, ◌+◌, ℤ, pos, negsuc, ◌-ℤ◌, Bool, true, false, cond, ◌||◌, List, [], ◌∷◌, ◌++◌, Option, Some, None, refl, ap, sym, subst, inl, inr, arith}
+use Rattle.std.proofs.Common.{◌≡◌, ◌∙◌, ℕ, zero, suc, ◌+◌, ℤ, pos, negsuc, ◌-ℤ◌, Bool, true, false, cond, ◌||◌, List, [], ◌∷◌, ◌++◌, Option, Some, None, refl, ap, sym, subst, inl, inr, arith}
 use Rattle.std.proofs.lemmas.Int.{ints}
 use Rattle.std.proofs.lemmas.Bool.Decides.{Decides-int_eq}
 use Rattle.std.specs.Ordering.{int_cmp, is_lt}
@@ -50,7 +50,7 @@ use Rattle.surd_quot.proofs.Quotients.{plain_order, quotient_of_position}
 use Rattle.surd_quot.proofs.PlaceOrderLaws.{quotient_cmp_total, quotient_places_are_compared, position_comparison, position_is_place}
 use Rattle.surd_quot.proofs.PositionLaws.{positions_are_quotient_positions}
 use Rattle.surd_quot.proofs.SpelledQuotients.{is_one_quotient_spelling}
-use Rattle.oblique_ray.specs.Cuts.{LineCut, uncut, both_cut, held_or_missed, plane_cut, plane_cut_by, chord_cut, ball_cut, is_over, side_cut, cut_around, round_cut, planes_cut, surface_cut}
+use Rattle.oblique_ray.specs.Cuts.{LineCut, uncut, both_cut, held_or_missed, plane_cut_by, chord_cut, ball_cut, is_over, side_cut, cut_around, round_cut, planes_cut, surface_cut}
 use Rattle.oblique_ray.specs.Segments.{Stretch, slant_start, slant_end, start_of, end_of, stretch_between, slant_segment}
 use Rattle.oblique_ray.specs.Places.{Before, AtOnePlace}
 use Rattle.oblique_ray.specs.Axes.{stretch_of, AxesAreAsBefore}

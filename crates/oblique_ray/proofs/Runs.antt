@@ -42,12 +42,12 @@ use Rattle.surd_quot.proofs.Ranges.{spelling_stays_in_range}
 use Rattle.surd_quot.proofs.SpelledQuotients.{is_one_quotient_spelling}
 use Rattle.oblique_ray.specs.declared.limit.TheConstants.{SLOPE, PACE, NEAREST, CHORD}
 use Rattle.oblique_ray.specs.declared.run.Run.{Run}
-use Rattle.oblique_ray.specs.Cuts.{LineCut, uncut, both_cut, held_or_missed, is_over, entered_at, left_at, plane_cut, plane_cut_by, face_cut, planes_cut, chord_cut, ball_cut, side_cut, round_cut, surface_cut}
+use Rattle.oblique_ray.specs.Cuts.{LineCut, both_cut, held_or_missed, is_over, plane_cut, plane_cut_by, face_cut, planes_cut, chord_cut, ball_cut, side_cut, round_cut, surface_cut}
 use Rattle.oblique_ray.specs.Running.{ArePlaces, all_spelled}
-use Rattle.oblique_ray.specs.Runs.{IsKnown, IsRunKnown, whole_run, run_past, run_entered, run_left, stretch_of_run}
+use Rattle.oblique_ray.specs.Runs.{IsKnown, whole_run, run_past, run_entered, run_left, stretch_of_run}
 use Rattle.oblique_ray.specs.Sizes.{AreEndsInRange}
 use Rattle.oblique_ray.specs.Segments.{Stretch, slant_start, slant_end, start_of, end_of, foremost, ahead_of, comes_after, comes_before, stretch_between, segment_of_cut, slant_segment}
-use Rattle.oblique_ray.proofs.Faces.{Tells, fraction_place}
+use Rattle.oblique_ray.proofs.Faces.{fraction_place}
 use Rattle.oblique_ray.proofs.InRange.{fraction_in_range}
 use Rattle.oblique_ray.proofs.Running.{cmp_spelled, may_be_spelled_first}
 use Rattle.oblique_ray.proofs.SegmentLaws.{at_zero, surface_ends, segment_by}

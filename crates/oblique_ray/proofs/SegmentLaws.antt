@@ -46,17 +46,17 @@ pub end_met : (far : ℤ) (cut : LineCut) (P : Type 0) (f x : QPos) → Tells cu
 end_met far cut P f x h has = elim has [ inl e ↦ inr (inl e) | inr more ↦ inr (inr (h.left_met x more)) ]
 
 -- of two places at different places one comes before the other
-behind : (x y : QPos) → IsQuotientPlace x → IsQuotientPlace y → ¬ (Before x y) → ¬ (AtOnePlace x y) → Before y x
+pub behind : (x y : QPos) → IsQuotientPlace x → IsQuotientPlace y → ¬ (Before x y) → ¬ (AtOnePlace x y) → Before y x
 behind x y place place' not_early not_same = elim (quotient_order_is_total (quotient_of x) (quotient_of y) place place').some [
   | inl early ↦ absurd (not_early early)
   | inr rest ↦ elim rest [ inl same ↦ absurd (not_same same) | inr late ↦ late ]
 ]
 
 -- the ray has what lies on it
-begun : (far p q : ℤ) → IsOnSlant far p q → ¬ (Before (Frac p q) slant_start)
+pub begun : (far p q : ℤ) → IsOnSlant far p q → ¬ (Before (Frac p q) slant_start)
 begun far p q on = not_before_by p q (pos 0) (pos 1) on.positive (omega (arith, ints)) (omega (arith, ints, on.begun))
 
-not_ended : (far p q : ℤ) → IsOnSlant far p q → ¬ (Before (slant_end far) (Frac p q))
+pub not_ended : (far p q : ℤ) → IsOnSlant far p q → ¬ (Before (slant_end far) (Frac p q))
 not_ended far p q on = not_before_by far (pos 1) p q (omega (arith, ints)) on.positive (omega (arith, ints, on.not_ended))
 
 -- what is inside and no slant hit lies strictly between the ends

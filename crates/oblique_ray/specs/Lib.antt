@@ -7,4 +7,6 @@ pub mod Axes
 pub mod Running
 pub mod Runs
 pub mod Laws
+pub mod Shots
+pub mod Points
 pub mod Examples

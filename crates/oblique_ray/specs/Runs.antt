@@ -1,5 +1,5 @@
 -- The running start and end of what of a ray the faces so far hold, as the code keeps them.
-use Rattle.std.specs.Prelude.{pos, ◌||◌, false, cond, Option, None}
+use Rattle.std.specs.Prelude.{◌||◌, false, cond, Option, None}
 use Rattle.lattice_core.specs.declared.limit.TheConstants.{FAR}
 use Rattle.surd_quot.specs.declared.position.QPos.{QPos}
 use Rattle.surd_quot.specs.Range.{IsQuotientInRange}

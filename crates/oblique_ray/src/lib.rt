@@ -1,10 +1,11 @@
-//! Rays in lattice directions: what a placed solid has of one.
+//! Rays in lattice directions: what a placed solid has of one, and what its partitions are in a scene.
 #![tactic(auto)]
 
 mod limit;
 mod measure;
 mod ray;
 mod run;
+mod slab;
 mod slant;
 mod stretch;
 
@@ -12,9 +13,12 @@ ghost use Rattle.oblique_ray.specs.Laws.{SlantSegmentsTellPoints, SlantSegmentsL
 ghost use Rattle.oblique_ray.specs.Axes.{AxesAreAsBefore};
 ghost use Rattle.oblique_ray.specs.Running.{MayBeSpelledFirst};
 ghost use Rattle.oblique_ray.specs.Sizes.{SlantSegmentsStayInRange};
+ghost use Rattle.oblique_ray.specs.Points.{SlabsTellPoints};
+ghost use Rattle.oblique_ray.specs.Shots.{PartitionsAlongAxes};
 
 pub use limit::{CHORD, NEAREST, PACE, SLOPE, STEP, limit_laws};
 pub use ray::SlantRay;
+pub use slab::Slab;
 pub use slant::slant_segment;
 pub use stretch::{Stretch, between, earlier, later};
 
@@ -39,4 +43,11 @@ pub fn axis_law()
 /// Crossings may be taken one by one, each in its one spelling. The function does nothing: its contract is the law.
 pub fn running_law()
     ensures { MayBeSpelledFirst }
+{}
+
+/// The partitions of a ray in a lattice direction tell what lies at its points, and along an axis they are those of the plain ray. The
+/// function does nothing: its contract is the laws.
+pub fn partition_laws()
+    ensures points { SlabsTellPoints }
+    ensures axes { PartitionsAlongAxes }
 {}

@@ -1,4 +1,4 @@
-use Rattle.std.proofs.Common.{FitsSigned, w64, ℤ, ◌+ℤ◌, ◌*ℤ◌, lit<, refl}
+use Rattle.std.proofs.Common.{FitsSigned, w64, ◌+ℤ◌, ◌*ℤ◌, lit<}
 use Rattle.std.proofs.lemmas.Int.{to_z-of_z}
 use Rattle.plane_geom.proofs.Sizes.{product_size, sum_size, fits64}
 use Rattle.oblique_ray.specs.declared.limit.TheConstants.{PACE, NEAREST, OVER}

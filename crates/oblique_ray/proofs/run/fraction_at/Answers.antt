@@ -1,7 +1,6 @@
 use Rattle.std.proofs.Common.{◌∙◌, ap, sym, subst, FitsSigned}
 use Rattle.std.proofs.lemmas.Int.{to_z-of_z}
 use mir.Syntax.{w128}
-use Rattle.surd_quot.specs.declared.position.QPos.{QPos}
 use Rattle.surd_quot.specs.Range.{IsQuotientInRange}
 use Rattle.surd_quot.specs.Spelled.{spelled_quotient}
 use Rattle.surd_quot.proofs.Ranges.{spelling_stays_in_range}

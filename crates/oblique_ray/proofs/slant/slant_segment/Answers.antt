@@ -1,11 +1,6 @@
-use Rattle.std.proofs.Common.{◌≡◌, ◌∙◌, ◌<ℤ◌, ℤ, pos, All, List, Option, Some, ap, sym, subst}
-use Rattle.std.specs.Option.{ForSome}
+use Rattle.std.proofs.Common.{◌∙◌, ◌<ℤ◌, pos, sym, subst}
 use Rattle.lattice_core.specs.declared.vector.V3.{V3}
-use Rattle.plane_geom.specs.declared.plane.Plane.{Plane}
-use Rattle.plane_geom.specs.Planes.{IsWorldPlane}
 use Rattle.plane_geom.specs.Chords.{length_squared}
-use Rattle.oblique_ray.specs.declared.run.Run.{Run}
-use Rattle.oblique_ray.specs.Runs.{stretch_of_run}
 use Rattle.oblique_ray.proofs.Runs.{has_length, run_of_faces}
 use Rattle.oblique_ray.proofs.slant.slant_segment.Goals as goal
 

@@ -1,7 +1,7 @@
-use Rattle.std.proofs.Common.{rules, arith, lit<, sym, subst, FitsSigned, w64, ◌<ℤ◌, ◌≤ℤ◌, ℤ, pos}
-use Rattle.std.proofs.lemmas.Int.{ints, to_z-of_z}
+use Rattle.std.proofs.Common.{rules, lit<, sym, subst, FitsSigned, w64, ◌<ℤ◌, ℤ, pos}
+use Rattle.std.proofs.lemmas.Int.{to_z-of_z}
 use Rattle.plane_geom.proofs.Sizes.{fits64}
-use Rattle.oblique_ray.specs.declared.limit.TheConstants.{PACE, NEAREST, CHORD}
+use Rattle.oblique_ray.specs.declared.limit.TheConstants.{PACE, NEAREST}
 use Rattle.oblique_ray.proofs.Sizes.{radius_size}
 use Rattle.oblique_ray.proofs.Runs.{ball_through}
 use Rattle.oblique_ray.proofs.run.Run.past_ball.Goals as goal

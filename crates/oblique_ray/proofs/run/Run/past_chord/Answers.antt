@@ -1,4 +1,4 @@
-use Rattle.std.proofs.Common.{◌∙◌, arith, lit<, FitsSigned, w64}
+use Rattle.std.proofs.Common.{arith, FitsSigned, w64}
 use Rattle.std.proofs.lemmas.Int.{ints, to_z-of_z}
 use Rattle.std.specs.Int.RustNames.{unsigned_abs}
 use Rattle.oblique_ray.proofs.Runs.{chord_by, chord_missed, small_root}

@@ -1,4 +1,4 @@
-use Rattle.std.proofs.Common.{pos, arith}
+use Rattle.std.proofs.Common.{arith}
 use Rattle.std.proofs.lemmas.Int.{ints}
 use Rattle.lattice_core.specs.declared.limit.TheConstants.{FAR}
 use Rattle.oblique_ray.proofs.InRange.{start_in_range, end_in_range}

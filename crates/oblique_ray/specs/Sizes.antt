@@ -32,5 +32,6 @@ pub record IsSlant (o e : V3) : Type 0 where
 abbrev pub AreEndsInRange : Stretch → Type 0
 AreEndsInRange stretch = IsQuotientInRange stretch.start × IsQuotientInRange stretch.end
 
+-- of any such ray and placed surface
 abbrev pub SlantSegmentsStayInRange : Type 0
 SlantSegmentsStayInRange = (far : ℤ) (surface : Surface) (o e : V3) → pos 0 ≤ℤ far → far ≤ℤ FAR → IsSlant o e → IsSurfaceSized surface → ForSome (slant_segment far surface o e) AreEndsInRange

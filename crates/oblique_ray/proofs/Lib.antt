@@ -9,6 +9,11 @@ pub mod OnAxes
 pub mod Running
 pub mod Runs
 pub mod Segmented
+pub mod CutLaws
+pub mod PieceLaws
+pub mod WeaveLaws
 pub mod Winning
 pub mod PointLaws
 pub mod ShotAxes
+pub mod ShotLaws
+pub mod TextLaws

@@ -9,4 +9,7 @@ pub mod Runs
 pub mod Laws
 pub mod Shots
 pub mod Points
+pub mod CutSteps
+pub mod ShotSteps
+pub mod Texts
 pub mod Examples

@@ -1,13 +1,17 @@
 //! Rays in lattice directions: what a placed solid has of one, and what its partitions are in a scene.
 #![tactic(auto)]
 
+mod cut;
 mod limit;
 mod measure;
+mod piece;
 mod ray;
 mod run;
+mod shot;
 mod slab;
 mod slant;
 mod stretch;
+mod text;
 
 ghost use Rattle.oblique_ray.specs.Laws.{SlantSegmentsTellPoints, SlantSegmentsLieAlong};
 ghost use Rattle.oblique_ray.specs.Axes.{AxesAreAsBefore};
@@ -18,9 +22,11 @@ ghost use Rattle.oblique_ray.specs.Shots.{PartitionsAlongAxes};
 
 pub use limit::{CHORD, NEAREST, PACE, SLOPE, STEP, limit_laws};
 pub use ray::SlantRay;
+pub use shot::slant_shot;
 pub use slab::Slab;
 pub use slant::slant_segment;
 pub use stretch::{Stretch, between, earlier, later};
+pub use text::slant_text;
 
 /// The segment of a ray in any whole direction tells which of its points lie inside, and lies along the ray. The function does
 /// nothing: its contract is the laws.

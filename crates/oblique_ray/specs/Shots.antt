@@ -40,6 +40,7 @@ slab_of part = record { region = part.region; start = part.start; end = part.end
 abbrev pub slabs_up_to : ℤ → List Region → V3 → V3 → List Slab
 slabs_up_to far regions o e = map slab_of (slant_parts far (segments_up_to far regions o e) (trees_of regions))
 
+-- the partitions of a ray that is as many steps long as a plain ray is tenths of a millimetre
 abbrev pub slabs_on : List Region → V3 → V3 → List Slab
 slabs_on regions o e = slabs_up_to FAR regions o e
 

@@ -43,7 +43,7 @@ use Rattle.oblique_ray.specs.Cuts.{LineCut, both_cut, held_or_missed, entered_at
 use Rattle.oblique_ray.specs.Places.{Before, AtOnePlace, IsAtOneOf}
 use Rattle.oblique_ray.proofs.Foremost.{Has, has_before, has_after, has_parts, ArePlaces, places_both}
 use Rattle.oblique_ray.proofs.Sizes.{some_across}
-use Rattle.oblique_ray.proofs.Tests.{Says, says_along}
+use Rattle.oblique_ray.proofs.Deciding.{Says, says_along}
 
 -- where no face misses, a fraction is held exactly where it is before no entering place and behind no leaving one; where one
 -- does, what is held is at a place where it is touched
@@ -56,6 +56,7 @@ pub record Tells (cut : LineCut) (P : Type 0) (f : QPos) : Type 0 where
   pub left_met : (x : QPos) → Has cut.left x → Has cut.met x
   pub entered_places : ArePlaces cut.entered
   pub left_places : ArePlaces cut.left
+  pub met_places : ArePlaces cut.met
 
 at_before : (xs ys : List QPos) (f : QPos) → IsAtOneOf xs f → IsAtOneOf (xs ++ ys) f
 at_before [] ys f h = absurd h
@@ -83,6 +84,7 @@ both_tells c d P Q f h g = record {
   left_met = λ x has. elim (has_parts c.left d.left x has) [ inl a ↦ has_before c.met d.met x (h.left_met x a) | inr b ↦ has_after c.met d.met x (g.left_met x b) ];
   entered_places = places_both c.entered d.entered h.entered_places g.entered_places;
   left_places = places_both c.left d.left h.left_places g.left_places;
+  met_places = places_both c.met d.met h.met_places g.met_places;
 }
 
 not_true : (b : Bool) (P : Type 0) → b ≡ false → b ≡ true → P
@@ -99,6 +101,7 @@ held_tells true P f h = record {
   left_met = λ x has. absurd has;
   entered_places = tt;
   left_places = tt;
+  met_places = tt;
 }
 held_tells false P f h = record {
   after = λ e held x has. absurd has;
@@ -109,6 +112,7 @@ held_tells false P f h = record {
   left_met = λ x has. absurd has;
   entered_places = tt;
   left_places = tt;
+  met_places = tt;
 }
 
 -- fractions
@@ -118,7 +122,7 @@ fraction_place p q some = record { place = some; positive = omega (arith, ints) 
 pub not_before_by : (p q r s : ℤ) → pos 0 <ℤ q → pos 0 <ℤ s → (r *ℤ q) ≤ℤ (p *ℤ s) → ¬ (Before (Frac p q) (Frac r s))
 not_before_by p q r s some some' le = λ h. not_preceding p q r s some some' le (plain_order (position.Frac p q) (position.Frac r s) h)
 
-by_not_before : (p q r s : ℤ) → pos 0 <ℤ s → ¬ (Before (Frac p q) (Frac r s)) → (r *ℤ q) ≤ℤ (p *ℤ s)
+pub by_not_before : (p q r s : ℤ) → pos 0 <ℤ s → ¬ (Before (Frac p q) (Frac r s)) → (r *ℤ q) ≤ℤ (p *ℤ s)
 by_not_before p q r s some h = preceding p q r s some (λ before. h (quotient_order (position.Frac p q) (position.Frac r s) before))
 
 -- a face that is entered at a fraction
@@ -135,6 +139,7 @@ entered_tells r s p q P some some' h = record {
   left_met = λ x has. absurd has;
   entered_places = (fraction_place r s some, tt);
   left_places = tt;
+  met_places = (fraction_place r s some, tt);
 }
 
 left_tells : (r s p q : ℤ) (P : Type 0) → pos 0 <ℤ s → pos 0 <ℤ q → P ↔ ((p *ℤ s) ≤ℤ (r *ℤ q)) → Tells (left_at (Frac r s)) P (Frac p q)
@@ -150,6 +155,7 @@ left_tells r s p q P some some' h = record {
   left_met = λ x has. has;
   entered_places = tt;
   left_places = (fraction_place r s some, tt);
+  met_places = (fraction_place r s some, tt);
 }
 
 -- planes
@@ -261,6 +267,7 @@ round_by n b (pos zero) p q P some some' h = record {
   left_met = λ x has. absurd has;
   entered_places = tt;
   left_places = tt;
+  met_places = (root_place b false zero n some, (root_place b true zero n some, tt));
 }
 round_by n b (pos (suc k)) p q P some some' h = record {
   after = λ e held x has. elim has [
@@ -280,6 +287,7 @@ round_by n b (pos (suc k)) p q P some some' h = record {
   left_met = λ x has. elim has [ inl is ↦ inr (inl is) | inr none ↦ absurd none ];
   entered_places = (root_place b false (suc k) n some, tt);
   left_places = (root_place b true (suc k) n some, tt);
+  met_places = (root_place b false (suc k) n some, (root_place b true (suc k) n some, tt));
 }
 round_by n b (negsuc k) p q P some some' h = held_tells false P (Frac p q) (λ held. not_near b k (pos n *ℤ p) q some' (h.0 held))
 

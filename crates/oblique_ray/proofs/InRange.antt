@@ -31,7 +31,8 @@ use Rattle.surd_quot.specs.declared.position.QPos.TheVariants.{Frac, Quot}
 use Rattle.surd_quot.specs.declared.range.TheConstants.{OVER_LIMIT, UNDER_LIMIT, WHOLE_LIMIT, SQUARE_LIMIT, GREATEST_DIVISOR}
 use Rattle.surd_quot.specs.Range.{IsQuotientInRange}
 use Rattle.surd_quot.proofs.Ranges.{spelling_stays_in_range}
-use Rattle.oblique_ray.specs.declared.limit.TheConstants.{STEP, SLOPE, PACE, NEAREST, CHORD}
+use Rattle.slant_ray.specs.declared.ray.TheConstants.{STEP}
+use Rattle.oblique_ray.specs.declared.limit.TheConstants.{SLOPE, PACE, NEAREST, CHORD}
 use Rattle.oblique_ray.specs.Cuts.{LineCut, held_or_missed, plane_cut, plane_cut_by, chord_cut, is_over, cut_around, round_cut, planes_cut, surface_cut}
 use Rattle.oblique_ray.specs.Segments.{Stretch, slant_start, slant_end, start_of, end_of}
 use Rattle.oblique_ray.specs.Places.{places_of_cut}

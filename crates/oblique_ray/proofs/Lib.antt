@@ -1,5 +1,5 @@
 pub mod Foremost
-pub mod Tests
+pub mod Deciding
 pub mod Sizes
 pub mod Faces
 pub mod SegmentLaws
@@ -14,6 +14,8 @@ pub mod PieceLaws
 pub mod WeaveLaws
 pub mod Winning
 pub mod PointLaws
+pub mod Separated
+pub mod SlabList
+pub mod SlabTruth
 pub mod ShotAxes
 pub mod ShotLaws
-pub mod TextLaws

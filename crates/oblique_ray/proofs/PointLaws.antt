@@ -12,7 +12,7 @@ use Rattle.lattice_core.specs.declared.vector.V3.{V3}
 use Rattle.plane_geom.specs.Chords.{length_squared}
 use Rattle.tree_forms.specs.declared.Op.TheVariants.{U, N, Minus, X}
 use Rattle.tree_forms.specs.Trees.{Leaf, Join, leaves}
-use Rattle.bool_weave.specs.Lines.{Line, intervals_along, comes_before}
+use Rattle.bool_weave.specs.Lines.{Line, cut_along, intervals_along, comes_before}
 use Rattle.bool_weave.specs.Masks.{Mask, mask_holds}
 use Rattle.bool_weave.proofs.Sorted.{Has, contains_from_has, has_append_left, has_append_right}
 use Rattle.overlap_list.specs.Firsts.{TreeRegion}
@@ -32,29 +32,29 @@ use Rattle.surd_quot.specs.declared.position.QPos.{QPos}
 use Rattle.surd_quot.specs.declared.position.QPos.TheVariants.{Frac}
 use Rattle.surd_quot.specs.Positions.{quotient_of, IsQuotientPlace}
 use Rattle.surd_quot.specs.PlaceOrder.{quotient_cmp}
-use Rattle.surd_quot.proofs.Ordered.{same_quotient_symm, same_quotient_trans}
+use Rattle.surd_quot.proofs.Ordered.{never_itself, same_quotient_symm, same_quotient_trans}
 use Rattle.surd_quot.proofs.PlaceOrderLaws.{quotient_places_are_compared}
 use Rattle.oblique_ray.specs.declared.slab.Slab.{Slab}
 use Rattle.oblique_ray.specs.Cuts.{surface_cut}
 use Rattle.oblique_ray.specs.Laws.{segment_of_instance}
 use Rattle.oblique_ray.specs.Places.{Before, AtOnePlace, IsAtOneOf, IsSlantHit, IsOnSlant, LiesBetween, EndsAreSlantHits}
-use Rattle.oblique_ray.specs.Points.{ray_hits, IsRayHit, IsInSolid, TreeHoldsAt, IsThere, HasSlabAt, SlabsTellPoints}
+use Rattle.oblique_ray.specs.Points.{ray_hits, IsRayHit, IsInSolid, TreeHoldsAt, IsThere, IsOnSlab, HasSlabAt, TellsSlantPoints}
 use Rattle.oblique_ray.specs.Segments.{Stretch, slant_start, slant_end, slant_segment}
 use Rattle.oblique_ray.specs.Shots.{segment_if, segments_from, segments_up_to, slab_of, slabs_up_to}
 use Rattle.oblique_ray.proofs.Faces.{fraction_place}
-use Rattle.oblique_ray.proofs.Foremost.{before_test}
+use Rattle.oblique_ray.proofs.Foremost.{before_test, not_before}
 use Rattle.oblique_ray.proofs.SegmentLaws.{behind, begun, not_ended, slant_segments_tell_points}
-use Rattle.oblique_ray.proofs.Segmented.{all_by, segment_of, segment_places, segments_along, cut_is_place}
+use Rattle.oblique_ray.proofs.Segmented.{all_by, cut_by, segment_of, segment_places, segments_along, cut_is_place}
 use Rattle.oblique_ray.proofs.Winning.{IsFirstOf, winner_first}
 
 comes_is : (x y : QPos) → IsQuotientPlace x → IsQuotientPlace y → (comes_before quotient_cmp x y ≡ true) ↔ Before x y
 comes_is x y place place' = (before_test x y place place', λ h. ap is_lt ((quotient_places_are_compared x y place place').less.1 h))
 
-at_left : (xs ys : List QPos) (x : QPos) → IsAtOneOf xs x → IsAtOneOf (xs ++ ys) x
+pub at_left : (xs ys : List QPos) (x : QPos) → IsAtOneOf xs x → IsAtOneOf (xs ++ ys) x
 at_left [] ys x at = absurd at
 at_left (z ∷ zs) ys x at = elim at [ inl here ↦ inl here | inr more ↦ inr (at_left zs ys x more) ]
 
-at_right : (xs ys : List QPos) (x : QPos) → IsAtOneOf ys x → IsAtOneOf (xs ++ ys) x
+pub at_right : (xs ys : List QPos) (x : QPos) → IsAtOneOf ys x → IsAtOneOf (xs ++ ys) x
 at_right [] ys x at = at
 at_right (z ∷ zs) ys x at = inr (at_right zs ys x at)
 
@@ -96,6 +96,10 @@ tree_iff (Join X l r) values says each =
     (TreeHolds l says × ¬ (TreeHolds r says)) (¬ (TreeHolds l says) × TreeHolds r says)
     (and_iff (mask_holds l values) (not (mask_holds r values)) (TreeHolds l says) (¬ (TreeHolds r says)) left (not_iff (mask_holds r values) (TreeHolds r says) right))
     (and_iff (not (mask_holds l values)) (mask_holds r values) (¬ (TreeHolds l says)) (TreeHolds r says) (not_iff (mask_holds l values) (TreeHolds l says) left) right)
+
+pub trees_length : (first : ℕ) (rs : List Region) → length (trees_from first rs) ≡ length rs
+trees_length first [] = refl
+trees_length first (r ∷ rs) = ap (λ (n : ℕ). suc n) (trees_length (first + length r.body.instances) rs)
 
 mapped_has : {A Y : Type 0} (f : A → Y) (xs : List A) (x : A) → Has xs x → Has (map f xs) (f x)
 mapped_has f [] x has = absurd has
@@ -235,10 +239,6 @@ module _ (far : ℤ) (o e : V3) (far_some : pos 0 <ℤ far) (some : pos 0 <ℤ l
     told : (n : ℕ) → n < length regions → IsToldBy (get_or (trees_of regions) n no_tree) (get_or regions n no_region)
     told n lt = told_from 0 regions below (λ j. ap (slice_get (instances_of regions)) (let f : 0 + j ≡ j = omega arith in f)) n lt
 
-    trees_length : (first : ℕ) (rs : List Region) → length (trees_from first rs) ≡ length rs
-    trees_length first [] = refl
-    trees_length first (r ∷ rs) = ap (λ (n : ℕ). suc n) (trees_length (first + length r.body.instances) rs)
-
     not_so : (b : Bool) (P : Type 0) → (b ≡ true) ↔ P → ¬ P → b ≡ false
     not_so true P h none = absurd (none (h.0 refl))
     not_so false P h none = refl
@@ -314,6 +314,13 @@ module _ (far : ℤ) (o e : V3) (far_some : pos 0 <ℤ far) (some : pos 0 <ℤ l
         apart Equal e = absurd (no_hit (at_x e))
         apart Greater e = refl
 
+    segment_hits : (w : SlantSegment) → Has segments w → IsRayHit far regions o e w.start × IsRayHit far regions o e w.end
+    segment_hits w has =
+        let it = segment_of far o e 0 (instances_of regions) w has in
+        let hits : EndsAreSlantHits far it.one.surface o e it.stretch = (slant_segments_tell_points far it.one.surface o e some).ends it.stretch it.is in
+        subst (λ (v : SlantSegment). IsRayHit far regions o e v.start × IsRayHit far regions o e v.end) it.made
+        (hit_of_ray regions it.one it.stretch.start it.there hits.start, hit_of_ray regions it.one it.stretch.end it.there hits.end)
+
     clear : IsClear line segments x
     clear = record {
       begun = (comes_is slant_start x (fraction_place (pos 0) (pos 1) (omega arith)) x_place).1
@@ -322,13 +329,15 @@ module _ (far : ℤ) (o e : V3) (far_some : pos 0 <ℤ far) (some : pos 0 <ℤ l
           (behind (slant_end far) x (fraction_place far (pos 1) (omega arith)) x_place (not_ended far p q on)
           (λ same. no_hit (inr (inl (same_quotient_symm (quotient_of (slant_end far)) (quotient_of x) same)))));
       apart = all_by (λ (w : SlantSegment). (is_one_place quotient_cmp w.start x ≡ false) × (is_one_place quotient_cmp w.end x ≡ false)) segments (λ w has.
-          let it = segment_of far o e 0 (instances_of regions) w has in
-          let hits : EndsAreSlantHits far it.one.surface o e it.stretch = (slant_segments_tell_points far it.one.surface o e some).ends it.stretch it.is in
           let ends = segment_places far o e some 0 (instances_of regions) w has in
-          let start : IsRayHit far regions o e w.start = subst (λ (v : SlantSegment). IsRayHit far regions o e v.start) it.made (hit_of_ray regions it.one it.stretch.start it.there hits.start) in
-          let end : IsRayHit far regions o e w.end = subst (λ (v : SlantSegment). IsRayHit far regions o e v.end) it.made (hit_of_ray regions it.one it.stretch.end it.there hits.end) in
-          (hits_apart w.start ends.0 start, hits_apart w.end ends.1 end));
+          let hits = segment_hits w has in
+          (hits_apart w.start ends.0 hits.0, hits_apart w.end ends.1 hits.1));
     }
+
+    cut_hit : (k : ℕ) → IsRayHit far regions o e (cut_along line segments k)
+    cut_hit k =
+        let itself : (z : QPos) → AtOnePlace z z = λ z. record { not_before = never_itself (quotient_of z); not_after = never_itself (quotient_of z) } in
+        cut_by far (IsRayHit far regions o e) segments (inl (itself slant_start)) (inr (inl (itself (slant_end far)))) segment_hits k
 
     -- parts as slabs
     abbrev parts : List (Part QPos)
@@ -337,28 +346,41 @@ module _ (far : ℤ) (o e : V3) (far_some : pos 0 <ℤ far) (some : pos 0 <ℤ l
     record IsPlacedPart (part : Part QPos) : Type 0 where
       start : IsQuotientPlace part.start
       end : IsQuotientPlace part.end
+      not_start : ¬ (AtOnePlace x part.start)
+      not_end : ¬ (AtOnePlace x part.end)
+
+    not_cut : (k : ℕ) → ¬ (AtOnePlace x (cut_along line segments k))
+    not_cut k = λ same. no_hit (at_same (ray_hits far regions o e) x (cut_along line segments k) same (cut_hit k))
 
     part_places : (part : Part QPos) → Has parts part → IsPlacedPart part
     part_places part has =
         let rows = map (row_along line segments) (trees_of regions) in
         let made = has_mapped (part_along line segments rows) (won_runs rows (length (intervals_along line segments))) part has in
-        subst IsPlacedPart made.2 (record { start = cut_is_place far o e some 0 (instances_of regions) made.0.from; end = cut_is_place far o e some 0 (instances_of regions) made.0.to })
+        subst IsPlacedPart made.2 (record {
+          start = cut_is_place far o e some 0 (instances_of regions) made.0.from;
+          end = cut_is_place far o e some 0 (instances_of regions) made.0.to;
+          not_start = not_cut made.0.from;
+          not_end = not_cut made.0.to;
+        })
 
     slab_iff : (n : ℕ) → HasSlabAt (map slab_of parts) n x ↔ Any (HasPlace line x n) parts
     slab_iff n = (
       λ any.
-          let a = any_to (λ (s : Slab). (s.region ≡ n) × Before s.start x × Before x s.end) (map slab_of parts) any in
+          let a = any_to (λ (s : Slab). (s.region ≡ n) × IsOnSlab s x) (map slab_of parts) any in
           let made = has_mapped slab_of parts a.0 a.1 in
           let placed = part_places made.0 made.1 in
-          let it = subst (λ (s : Slab). (s.region ≡ n) × Before s.start x × Before x s.end) (sym made.2) a.2 in
-          any_from (HasPlace line x n) parts made.0 made.1
-          (record { of_region = it.0; begun = (comes_is made.0.start x placed.start x_place).1 it.1; not_ended = (comes_is x made.0.end x_place placed.end).1 it.2 }),
+          let it = subst (λ (s : Slab). (s.region ≡ n) × IsOnSlab s x) (sym made.2) a.2 in
+          let after : Before made.0.start x = behind x made.0.start x_place placed.start it.1.begun placed.not_start in
+          let before : Before x made.0.end = behind made.0.end x placed.end x_place it.1.not_ended (λ same. placed.not_end (same_quotient_symm (quotient_of made.0.end) (quotient_of x) same)) in
+          any_from (HasPlace line x n) parts made.0 made.1 (record { of_region = it.0; begun = (comes_is made.0.start x placed.start x_place).1 after; not_ended = (comes_is x made.0.end x_place placed.end).1 before }),
       λ any.
           let a = any_to (HasPlace line x n) parts any in
           let placed = part_places a.0 a.1 in
           let it = a.2 in
-          any_from (λ (s : Slab). (s.region ≡ n) × Before s.start x × Before x s.end) (map slab_of parts) (slab_of a.0) (mapped_has slab_of parts a.0 a.1)
-          (it.of_region, (comes_is a.0.start x placed.start x_place).0 it.begun, (comes_is x a.0.end x_place placed.end).0 it.not_ended),
+          let after : Before a.0.start x = (comes_is a.0.start x placed.start x_place).0 it.begun in
+          let before : Before x a.0.end = (comes_is x a.0.end x_place placed.end).0 it.not_ended in
+          any_from (λ (s : Slab). (s.region ≡ n) × IsOnSlab s x) (map slab_of parts) (slab_of a.0) (mapped_has slab_of parts a.0 a.1)
+          (it.of_region, record { begun = not_before a.0.start x placed.start x_place after; not_ended = not_before x a.0.end x_place placed.end before }),
     )
 
     slabs_iff : (n : ℕ) → HasSlabAt (slabs_up_to far regions o e) n x ↔ IsThere regions o e p q n
@@ -368,5 +390,6 @@ module _ (far : ℤ) (o e : V3) (far_some : pos 0 <ℤ far) (some : pos 0 <ℤ l
         let three = winner_iff n in
         (λ h. three.0 (two.0 (one.0 h)), λ h. one.1 (two.1 (three.1 h)))
 
-pub slabs_tell_points : SlabsTellPoints
+pub slabs_tell_points : (far : ℤ) (regions : List Region) (o e : V3) → pos 0 <ℤ far → pos 0 <ℤ length_squared e → AllPairs (λ r s. r.place < s.place) regions → HaveInstances regions
+    → TellsSlantPoints far regions o e (slabs_up_to far regions o e)
 slabs_tell_points far regions o e far_some some places below p q n on no_hit = slabs_iff far o e far_some some p q on regions places below no_hit n

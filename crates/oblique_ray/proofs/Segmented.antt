@@ -16,7 +16,7 @@ use Rattle.surd_quot.specs.PlaceOrder.{quotient_cmp}
 use Rattle.surd_quot.proofs.SpelledQuotients.{spelled_quotient_place}
 use Rattle.oblique_ray.specs.Laws.{segment_of_instance}
 use Rattle.oblique_ray.specs.Places.{IsSound}
-use Rattle.oblique_ray.specs.Segments.{Stretch, slant_start, slant_segment}
+use Rattle.oblique_ray.specs.Segments.{Stretch, slant_start, slant_end, slant_segment}
 use Rattle.oblique_ray.specs.Shots.{segment_if, segments_from}
 use Rattle.oblique_ray.proofs.Along.{slant_segments_lie_along}
 use Rattle.oblique_ray.proofs.Faces.{fraction_place}
@@ -24,6 +24,26 @@ use Rattle.oblique_ray.proofs.SegmentLaws.{slant_segments_tell_points}
 
 pub all_by : {X : Type 0} (P : X → Type 0) (xs : List X) → ((x : X) → Has xs x → P x) → All P xs
 all_by P xs each = λ k d lt. each (get_or xs k d) (has_at xs (get_or xs k d) d k lt refl)
+
+-- what is so of both ends of each segment is so of all of them
+ends_by : (P : QPos → Type 0) (ws : List SlantSegment) → ((w : SlantSegment) → Has ws w → P w.start × P w.end) → (z : QPos) → Has (flat_map (λ (w : SlantSegment). w.start ∷ w.end ∷ []) ws) z → P z
+ends_by P [] each z has = absurd has
+ends_by P (w ∷ ws) each z has = elim has [
+  | inl is ↦ subst P is (each w (inl refl)).0
+  | inr more ↦ elim more [ inl is ↦ subst P is (each w (inl refl)).1 | inr rest ↦ ends_by P ws (λ v there. each v (inr there)) z rest ]
+]
+
+-- and where it is so of both ends of the ray too, of all cuts
+pub cut_by : (far : ℤ) (P : QPos → Type 0) (ws : List SlantSegment) → P slant_start → P (slant_end far) → ((w : SlantSegment) → Has ws w → P w.start × P w.end) → (k : ℕ) → P (cut_along (slant_up_to far) ws k)
+cut_by far P ws start end each k =
+    let z : QPos = cut_along (slant_up_to far) ws k in
+    elim (get_cases (cuts_along (slant_up_to far) ws) k slant_start) [
+      | inl is ↦ subst P is start
+      | inr has ↦ elim (from_arranged quotient_cmp z (places_along (slant_up_to far) ws) has) [
+        | inl is ↦ subst P is start
+        | inr more ↦ elim more [ inl is ↦ subst P is end | inr ends ↦ ends_by P ws each z ends ]
+      ]
+    ]
 
 -- a segment is that of one of the instances
 pub record IsSegmentOf (far : ℤ) (o e : V3) (first : ℕ) (xs : List Instance) (w : SlantSegment) : Type 0 where
@@ -98,22 +118,7 @@ module _ (far : ℤ) (o e : V3) where
     pub segments_along : (first : ℕ) (xs : List Instance) → All (LiesAlong (slant_up_to far)) (segments_from far o e first xs)
     segments_along first xs = all_by (LiesAlong (slant_up_to far)) (segments_from far o e first xs) (along first xs)
 
-    ends_places : (ws : List SlantSegment) → ((w : SlantSegment) → Has ws w → IsQuotientPlace w.start × IsQuotientPlace w.end) → (z : QPos) → Has (flat_map (λ (w : SlantSegment). w.start ∷ w.end ∷ []) ws) z → IsQuotientPlace z
-    ends_places [] each z has = absurd has
-    ends_places (w ∷ ws) each z has = elim has [
-      | inl is ↦ subst IsQuotientPlace is (each w (inl refl)).0
-      | inr more ↦ elim more [ inl is ↦ subst IsQuotientPlace is (each w (inl refl)).1 | inr rest ↦ ends_places ws (λ v there. each v (inr there)) z rest ]
-    ]
-
     -- and so are all cuts
     pub cut_is_place : (first : ℕ) (xs : List Instance) (k : ℕ) → IsQuotientPlace (cut_along (slant_up_to far) (segments_from far o e first xs) k)
     cut_is_place first xs k =
-        let ws : List SlantSegment = segments_from far o e first xs in
-        let z : QPos = cut_along (slant_up_to far) (segments_from far o e first xs) k in
-        elim (get_cases (cuts_along (slant_up_to far) ws) k slant_start) [
-          | inl is ↦ subst IsQuotientPlace is (fraction_place (pos 0) (pos 1) (omega arith))
-          | inr has ↦ elim (from_arranged quotient_cmp z (places_along (slant_up_to far) ws) has) [
-            | inl is ↦ subst IsQuotientPlace is (fraction_place (pos 0) (pos 1) (omega arith))
-            | inr more ↦ elim more [ inl is ↦ subst IsQuotientPlace is (fraction_place far (pos 1) (omega arith)) | inr ends ↦ ends_places ws (segment_places first xs) z ends ]
-          ]
-        ]
+        cut_by far IsQuotientPlace (segments_from far o e first xs) (fraction_place (pos 0) (pos 1) (omega arith)) (fraction_place far (pos 1) (omega arith)) (segment_places first xs) k

@@ -33,11 +33,11 @@ use Rattle.surd_quot.specs.PlaceOrder.{quotient_cmp}
 use Rattle.oblique_ray.specs.declared.piece.Piece.{Piece}
 use Rattle.oblique_ray.specs.declared.slab.Slab.{Slab}
 use Rattle.oblique_ray.specs.CutSteps.{segment_of_piece}
-use Rattle.oblique_ray.specs.Points.{TellsSlantPoints}
+use Rattle.oblique_ray.specs.Points.{IsTrueOfSlant}
 use Rattle.oblique_ray.specs.ShotSteps.{slab_by_ranks}
 use Rattle.oblique_ray.specs.Shots.{segments_on, slab_of, slab_of_lit, slabs_on}
 use Rattle.oblique_ray.proofs.PieceLaws.{ends_of, put_some, scene_can_be_woven, scene_segments_few}
-use Rattle.oblique_ray.proofs.PointLaws.{slabs_tell_points}
+use Rattle.oblique_ray.proofs.SlabTruth.{true_of_slant}
 use Rattle.oblique_ray.proofs.ShotAxes.{partitions_along_axes}
 
 far_some : pos 0 <ℤ FAR
@@ -73,10 +73,10 @@ module _ (regions : List Region) (o e : V3) (pieces : List Piece) (some : pos 0 
         ∙ slabs_same segments (partitions_by (woven_by_ranks FAR segments) (trees_of regions))
         ∙ sym (ap (λ (l : List (Part QPos)). map slab_of l) (told.parts (trees_of regions)))
 
--- they tell what lies at the points of the ray, and along an axis they are those of the plain ray
-pub slabs_tell : (regions : List Region) (o e : V3) (slabs : List Slab) → pos 0 <ℤ length_squared e → IsScene regions → HaveInstances regions → slabs ≡ slabs_on regions o e → TellsSlantPoints FAR regions o e slabs
+-- they are the one list that tells what lies at the points of the ray, and along an axis they are those of the plain ray
+pub slabs_tell : (regions : List Region) (o e : V3) (slabs : List Slab) → pos 0 <ℤ length_squared e → IsScene regions → HaveInstances regions → slabs ≡ slabs_on regions o e → IsTrueOfSlant FAR regions o e slabs
 slabs_tell regions o e slabs some sound leaves is =
-    subst (λ (l : List Slab). TellsSlantPoints FAR regions o e l) (sym is) (slabs_tell_points FAR regions o e far_some some sound.rising leaves)
+    subst (λ (l : List Slab). IsTrueOfSlant FAR regions o e l) (sym is) (true_of_slant FAR regions o e far_some some sound.rising leaves)
 
 pub slabs_plain : (regions : List Region) (o e : V3) (slabs : List Slab) → slabs ≡ slabs_on regions o e → (plain : Ray) → plain.origin ≡ o → unit_of plain.dir ≡ e → slabs ≡ map slab_of_lit (lit_of regions plain)
 slabs_plain regions o e slabs is plain at along =

@@ -17,7 +17,8 @@ use Rattle.plane_geom.proofs.Sizes.{product_size, sum_size, dot_size, difference
 use Rattle.prim_rcc.specs.declared.axis.Axis.{Axis}
 use Rattle.prim_rcc.specs.declared.axis.Axis.TheVariants.{X, Y, Z}
 use Rattle.prim_rcc.specs.Axes.{across}
-use Rattle.oblique_ray.specs.declared.limit.TheConstants.{STEP, SLOPE, PACE, NEAREST, CHORD, OVER}
+use Rattle.slant_ray.specs.declared.ray.TheConstants.{STEP}
+use Rattle.oblique_ray.specs.declared.limit.TheConstants.{SLOPE, PACE, NEAREST, CHORD, OVER}
 
 pub slope_size : (plane : Plane) (e : V3) → IsWorldPlane plane → IsWithin STEP e → IsAtMost SLOPE (slope_along plane e)
 slope_size plane e size direction =

@@ -1,4 +1,3 @@
-pub mod Rays
 pub mod Cuts
 pub mod Segments
 pub mod Places
@@ -11,5 +10,4 @@ pub mod Shots
 pub mod Points
 pub mod CutSteps
 pub mod ShotSteps
-pub mod Texts
 pub mod Examples

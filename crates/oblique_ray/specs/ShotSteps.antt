@@ -6,6 +6,7 @@ use Rattle.surd_quot.specs.declared.position.QPos.{QPos}
 use Rattle.oblique_ray.specs.declared.slab.Slab.{Slab}
 use Rattle.oblique_ray.specs.Segments.{slant_start}
 
+-- the part between the cuts that have the numbers of a partition's ends
 abbrev pub slab_by_ranks : List QPos → Partition → Slab
 slab_by_ranks cuts p = record {
   region = p.region;

@@ -16,6 +16,7 @@ use Rattle.oblique_ray.specs.declared.slab.Slab.{Slab}
 use Rattle.oblique_ray.specs.Laws.{segment_of_instance}
 use Rattle.oblique_ray.specs.Segments.{Stretch, slant_segment}
 
+-- the segment of the instance of that number, where it has one
 abbrev pub segment_if : ℕ → Option Stretch → List SlantSegment
 segment_if number None = []
 segment_if number (Some stretch) = segment_of_instance number stretch ∷ []

@@ -10,7 +10,7 @@ use Rattle.plane_geom.specs.Chords.{length_squared}
 use Rattle.solid_set.specs.declared.surface.Surface.{Surface}
 use Rattle.solid_set.specs.PlacedFaces.{planes_of_faces, round_of, IsRoundSized}
 use Rattle.surd_quot.specs.Range.{IsQuotientInRange}
-use Rattle.oblique_ray.specs.declared.limit.TheConstants.{STEP}
+use Rattle.slant_ray.specs.declared.ray.TheConstants.{STEP}
 use Rattle.oblique_ray.specs.Segments.{Stretch, slant_segment}
 
 -- the sizes of the planes of a placed solid

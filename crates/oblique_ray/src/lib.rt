@@ -5,13 +5,13 @@ mod cut;
 mod limit;
 mod measure;
 mod piece;
-mod ray;
 mod run;
 mod shot;
 mod slab;
 mod slant;
 mod stretch;
-mod text;
+#[cfg(test)]
+mod tests;
 
 ghost use Rattle.oblique_ray.specs.Laws.{SlantSegmentsTellPoints, SlantSegmentsLieAlong};
 ghost use Rattle.oblique_ray.specs.Axes.{AxesAreAsBefore};
@@ -20,13 +20,12 @@ ghost use Rattle.oblique_ray.specs.Sizes.{SlantSegmentsStayInRange};
 ghost use Rattle.oblique_ray.specs.Points.{SlabsTellPoints};
 ghost use Rattle.oblique_ray.specs.Shots.{PartitionsAlongAxes};
 
-pub use limit::{CHORD, NEAREST, PACE, SLOPE, STEP, limit_laws};
-pub use ray::SlantRay;
+pub use limit::{CHORD, NEAREST, PACE, SLOPE, limit_laws};
 pub use shot::slant_shot;
 pub use slab::Slab;
 pub use slant::slant_segment;
+pub use slant_ray::SlantRay;
 pub use stretch::{Stretch, between, earlier, later};
-pub use text::slant_text;
 
 /// The segment of a ray in any whole direction tells which of its points lie inside, and lies along the ray. The function does
 /// nothing: its contract is the laws.
@@ -51,8 +50,8 @@ pub fn running_law()
     ensures { MayBeSpelledFirst }
 {}
 
-/// The partitions of a ray in a lattice direction tell what lies at its points, and along an axis they are those of the plain ray. The
-/// function does nothing: its contract is the laws.
+/// The partitions of a ray in a lattice direction are the one list that tells what lies at its points, and along an axis they are those
+/// of the plain ray. The function does nothing: its contract is the laws.
 pub fn partition_laws()
     ensures points { SlabsTellPoints }
     ensures axes { PartitionsAlongAxes }

@@ -4,13 +4,12 @@ ghost use Rattle.std.specs.Prelude.{◌≡◌, ◌<ℤ◌, ◌≤ℤ◌, pos};
 ghost use Rattle.lattice_core.specs.declared.limit.TheConstants.{FAR};
 ghost use Rattle.plane_geom.specs.declared.limit.TheConstants.{GAP};
 ghost use Rattle.surd_quot.specs.declared.range.TheConstants.{OVER_LIMIT, UNDER_LIMIT, WHOLE_LIMIT, SQUARE_LIMIT, GREATEST_DIVISOR};
-ghost use Rattle.oblique_ray.specs.declared.limit.TheConstants.{STEP, SLOPE, PACE, NEAREST, CHORD};
+ghost use Rattle.slant_ray.specs.declared.ray.TheConstants.{STEP};
+ghost use Rattle.oblique_ray.specs.declared.limit.TheConstants.{SLOPE, PACE, NEAREST, CHORD};
 
 use lattice_core::COORD;
 use plane_geom::{NORMAL, REMOTE};
-
-/// The greatest size of a component of a direction.
-pub const STEP: i64 = 4;
+use slant_ray::STEP;
 
 /// The greatest size of how fast the height over a plane grows along a direction.
 pub const SLOPE: i64 = 3 * NORMAL * STEP;

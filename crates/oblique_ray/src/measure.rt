@@ -8,7 +8,8 @@ ghost use Rattle.plane_geom.specs.declared.limit.TheConstants.{NORMAL, GAP, REMO
 ghost use Rattle.plane_geom.specs.Chords.{squared, length_squared, nearest_along, half_chord_along};
 ghost use Rattle.plane_geom.specs.Crossings.{first_is_negative, holds_along};
 ghost use Rattle.plane_geom.specs.Planes.{IsWorldPlane, slope_along, start_at};
-ghost use Rattle.oblique_ray.specs.declared.limit.TheConstants.{STEP, SLOPE, PACE, NEAREST, CHORD, OVER};
+ghost use Rattle.slant_ray.specs.declared.ray.TheConstants.{STEP};
+ghost use Rattle.oblique_ray.specs.declared.limit.TheConstants.{SLOPE, PACE, NEAREST, CHORD, OVER};
 
 use lattice_core::V3;
 use plane_geom::{Plane, half_chord, length_squared};

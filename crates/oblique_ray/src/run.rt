@@ -52,7 +52,8 @@ impl Run {
     ghost use Rattle.plane_geom.specs.Chords.{IsRadius, length_squared};
     ghost use Rattle.plane_geom.specs.Planes.{IsWorldPlane};
     ghost use Rattle.solid_set.specs.PlacedFaces.{side_around, IsRoundSized};
-    ghost use Rattle.oblique_ray.specs.declared.limit.TheConstants.{STEP, PACE, NEAREST, CHORD};
+    ghost use Rattle.slant_ray.specs.declared.ray.TheConstants.{STEP};
+    ghost use Rattle.oblique_ray.specs.declared.limit.TheConstants.{PACE, NEAREST, CHORD};
     ghost use Rattle.oblique_ray.specs.Cuts.{held_or_missed, plane_cut, face_cut, chord_cut, ball_cut, side_cut, cut_around, round_cut, planes_cut};
     ghost use Rattle.oblique_ray.specs.Runs.{IsKnown, IsRunKnown, whole_run, run_past, run_entered, run_left, stretch_of_run};
     ghost use Rattle.oblique_ray.specs.Sizes.{AreEndsInRange};

@@ -6,19 +6,19 @@ ghost use Rattle.lattice_core.specs.declared.ray.Ray.{Ray};
 ghost use Rattle.lattice_core.specs.Units.{unit_of};
 ghost use Rattle.order_laws.specs.Parts.{number_of};
 ghost use Rattle.shot_core.specs.Shots.{claims_from, lit_of};
-ghost use Rattle.oblique_ray.specs.Points.{TellsSlantPoints};
-ghost use Rattle.oblique_ray.specs.Rays.{direction_of, IsSlantRay};
+ghost use Rattle.oblique_ray.specs.Points.{IsTrueOfSlant};
+ghost use Rattle.slant_ray.specs.Rays.{direction_of, IsSlantRay};
 ghost use Rattle.oblique_ray.specs.ShotSteps.{slab_by_ranks};
 ghost use Rattle.oblique_ray.specs.Shots.{slabs_on, slab_of_lit};
 
 use crate::cut::cut_at;
 use crate::piece::{cuts_of, pieces_of, weave_pieces};
-use crate::ray::SlantRay;
 use crate::slab::Slab;
 use bool_weave::{Weave, claims};
 use memory_core::Memory;
 use overlap_list::{Partition, RegionClaims, settle};
 use shot_core::Scene;
+use slant_ray::SlantRay;
 use std::alloc::Global;
 use surd_quot::QPos;
 
@@ -71,7 +71,7 @@ pub fn slant_shot(alloc: Global, scene: &Scene, ray: &SlantRay) -> Result<Vec<Sl
     requires { IsSlantRay ray.now }
     ensures slabs { IfOk result (λ v. v.items ≡ slabs_on scene.now ray.now.origin (direction_of ray.now)) }
     ensures regions { IfOk result (λ v. All (λ s. s.region < length scene.now) v.items) }
-    ensures points { IfOk result (λ v. TellsSlantPoints FAR scene.now ray.now.origin (direction_of ray.now) v.items) }
+    ensures points { IfOk result (λ v. IsTrueOfSlant FAR scene.now ray.now.origin (direction_of ray.now) v.items) }
     ensures axes { IfOk result (λ v. (plain : Ray) → plain.origin ≡ ray.now.origin → unit_of plain.dir ≡ direction_of ray.now → v.items ≡ map slab_of_lit (lit_of scene.now plain)) }
 {
     let pieces = pieces_of(alloc, scene, ray)?;

@@ -3,13 +3,13 @@
 ghost use Rattle.std.specs.Prelude.{◌≡◌};
 ghost use Rattle.std.specs.Option.{ForSome};
 ghost use Rattle.lattice_core.specs.declared.limit.TheConstants.{FAR};
-ghost use Rattle.oblique_ray.specs.Rays.{direction_of, IsSlantRay};
+ghost use Rattle.slant_ray.specs.Rays.{direction_of, IsSlantRay};
 ghost use Rattle.oblique_ray.specs.Segments.{slant_segment};
 ghost use Rattle.oblique_ray.specs.Sizes.{AreEndsInRange};
 
-use crate::ray::SlantRay;
 use crate::run::Run;
 use crate::stretch::Stretch;
+use slant_ray::SlantRay;
 use solid_set::Placed;
 
 /// The part of a ray that a placed solid encloses, in steps of the ray's direction.

@@ -5,4 +5,5 @@ pub mod Led
 pub mod PictureLaws
 pub mod CheckLaws
 mod PlaceLaws
+mod Presents
 mod FlightLaws

@@ -22,22 +22,22 @@ use Rattle.view_shot.specs.Named.{IsNamedReport, places_of, regions_at}
 use Rattle.view_shot.specs.Steps.{IsTileReport}
 
 -- regions of the same bodies at the same places, without paths
-abbrev without_paths : List Region → List Region
+abbrev pub without_paths : List Region → List Region
 without_paths regions = regions_at (places_of regions) (bodies_of regions)
 
-same_places : (rs : List Region) → places_of (without_paths rs) ≡ places_of rs
+pub same_places : (rs : List Region) → places_of (without_paths rs) ≡ places_of rs
 same_places [] = refl
 same_places (r ∷ rs) = ap (λ (l : List ℕ). r.place ∷ l) (same_places rs)
 
-same_instances : (rs : List Region) → instances_of (without_paths rs) ≡ instances_of rs
+pub same_instances : (rs : List Region) → instances_of (without_paths rs) ≡ instances_of rs
 same_instances [] = refl
 same_instances (r ∷ rs) = ap (λ (l : List Instance). r.body.instances ++ l) (same_instances rs)
 
-same_claims : (woven : List Woven) (first : ℕ) (rs : List Region) → claims_from woven first (without_paths rs) ≡ claims_from woven first rs
+pub same_claims : (woven : List Woven) (first : ℕ) (rs : List Region) → claims_from woven first (without_paths rs) ≡ claims_from woven first rs
 same_claims woven first [] = refl
 same_claims woven first (r ∷ rs) = ap (λ (l : List RegionClaims). body_claims woven first r.body ∷ l) (same_claims woven (first + length r.body.instances) rs)
 
-same_place : (rs : List Region) (i : ℕ) → place_of (slice_get (without_paths rs) i) ≡ place_of (slice_get rs i)
+pub same_place : (rs : List Region) (i : ℕ) → place_of (slice_get (without_paths rs) i) ≡ place_of (slice_get rs i)
 same_place [] i = refl
 same_place (r ∷ rs) zero = refl
 same_place (r ∷ rs) (suc i) = same_place rs i

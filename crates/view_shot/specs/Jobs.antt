@@ -4,6 +4,7 @@ use Rattle.std.specs.Arc.{arc_value}
 use Rattle.shot_core.specs.Pruned.{kept_for}
 use Rattle.shot_core.specs.Regions.{Region}
 use Rattle.lattice_core.specs.declared.view.View.{View}
+use Rattle.area_tool.specs.Presented.{tile_presents}
 use Rattle.tile_shot.specs.Named.{IsShot, NamedTile}
 use Rattle.tile_workers.specs.Results.{AreResults}
 use Rattle.view_shot.specs.Kept.{tile_name}
@@ -14,6 +15,9 @@ use Rattle.view_shot.specs.declared.job.CheckJob.{CheckJob}
 use Rattle.view_shot.specs.declared.named.NamedPairs.{NamedPairs}
 use Rattle.view_shot.specs.declared.named.SharedPairs.{SharedPairs}
 use Rattle.view_shot.specs.declared.named.TilePairs.{TilePairs}
+use Rattle.view_shot.specs.declared.present_job.NamedPresents.{NamedPresents}
+use Rattle.view_shot.specs.declared.present_job.PresentJob.{PresentJob}
+use Rattle.view_shot.specs.declared.present_job.SharedPresents.{SharedPresents}
 
 -- the tile is named as that of the number that stands at this place of the job's list
 abbrev pub IsShotOf : TileJob → ℕ → NamedTile → Type 0
@@ -35,3 +39,15 @@ NamesCheck job i named =
 -- these are the pairs of so many tiles of a view, from a first one on, in the order of the tiles
 abbrev pub AreReports : List Region → View → ℕ → ℕ → List SharedPairs → Type 0
 AreReports scene view first n shots = AreResults (λ (i : ℕ) (shared : SharedPairs). IsTileReport scene view (first + i) (arc_value shared.named).pairs.pairs) n shots
+
+-- what the pixels of the tile of that number present
+abbrev pub IsPresentedBy : PresentJob → ℕ → List ℕ → Type 0
+IsPresentedBy job i presents = presents ≡ tile_presents (arc_value job.scene) job.view i
+
+-- it is named as what that tile presents: by the tile's name, and the places of the regions that are kept for it
+abbrev pub NamesPresents : PresentJob → ℕ → NamedPresents → Type 0
+NamesPresents job i named = (named.key ≡ tile_name (arc_value job.scene) job.view i) × (named.places ≡ places_of (kept_for (arc_value job.scene) job.view i))
+
+-- this is what the first so many tiles of a view present, in the order of the tiles
+abbrev pub ArePresented : List Region → View → ℕ → List SharedPresents → Type 0
+ArePresented scene view n shots = AreResults (λ (i : ℕ) (shared : SharedPresents). (arc_value shared.named).presents ≡ tile_presents scene view i) n shots

@@ -1,12 +1,14 @@
 //! Who shoots the tiles of a view: the calling thread alone, or several threads.
 ghost use Rattle.std.specs.Prelude.{◌≡◌, ◌≤◌, IfOk, vec_len};
 ghost use Rattle.std.specs.Arc.{arc_value};
+ghost use Rattle.lattice_core.specs.Tiles.{tiles_of};
 ghost use Rattle.tile_workers.specs.Results.{AreResults};
-ghost use Rattle.view_shot.specs.Jobs.{AreReports, GivesTile};
+ghost use Rattle.view_shot.specs.Jobs.{ArePresented, AreReports, GivesTile};
 
 use crate::job::{CheckJob, TileJob};
 use crate::kept::SharedTile;
 use crate::named::SharedPairs;
+use crate::present_job::{PresentJob, SharedPresents};
 use memory_core::Memory;
 use outside_core::Gate;
 use std::alloc::Global;
@@ -62,6 +64,23 @@ pub(crate) fn check_tiles<R: Threads + Sync, G: Gate + Sync>(
 ) -> Result<Vec<SharedPairs>, Memory>
     ensures len { IfOk result (λ all. vec_len all ≡ job.now.count) }
     ensures each { IfOk result (λ all. AreReports (arc_value job.now.scene) job.now.view job.now.first job.now.count all.items) }
+{
+    match executor {
+        Executor::Sequential => shoot_alone(alloc, job),
+        Executor::Parallel(p) => {
+            shoot_all(p.rt, alloc, p.workers, job, p.session, p.command, p.gate)
+        }
+    }
+}
+
+/// What the tiles of a job present, in its order; `Memory` where there is none.
+pub(crate) fn present_tiles<R: Threads + Sync, G: Gate + Sync>(
+    executor: &Executor<R, G>,
+    alloc: Global,
+    job: &PresentJob,
+) -> Result<Vec<SharedPresents>, Memory>
+    ensures len { IfOk result (λ all. vec_len all ≡ tiles_of job.now.view) }
+    ensures each { IfOk result (λ all. ArePresented (arc_value job.now.scene) job.now.view (tiles_of job.now.view) all.items) }
 {
     match executor {
         Executor::Sequential => shoot_alone(alloc, job),

@@ -1,4 +1,5 @@
-//! Whole views, shot by their tiles: pictures, of which tiles that are kept are reused, and reports of overlaps.
+//! Whole views, shot by their tiles: pictures, of which tiles that are kept are reused, reports of overlaps, and which regions the
+//! pixels present.
 #![tactic(auto)]
 
 mod check;
@@ -9,6 +10,8 @@ mod kept;
 mod named;
 mod picture;
 mod plan;
+mod present;
+mod present_job;
 mod work;
 
 pub use check::check_view;
@@ -21,4 +24,6 @@ pub use kept::{KeptTiles, SharedTile};
 pub use named::{NamedPairs, SharedPairs, TilePairs};
 pub use picture::{pixel_bytes, shoot_view};
 pub use plan::{Plan, plan_view};
+pub use present::present_view;
+pub use present_job::{NamedPresents, PresentJob, SharedPresents};
 pub use work::Shot;

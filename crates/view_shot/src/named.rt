@@ -71,7 +71,7 @@ pub struct SharedPairs {
 }
 
 /// Whether two lists of numbers are the same.
-fn are_same(a: &[u32], b: &[u32]) -> bool
+pub(crate) fn are_same(a: &[u32], b: &[u32]) -> bool
     ensures { IsTrue result ↔ (a.now ≡ b.now) }
 {
     a == b

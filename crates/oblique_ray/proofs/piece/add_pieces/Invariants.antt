@@ -2,7 +2,7 @@ use Rattle.std.proofs.Common.{◌≡◌, ◌+◌, ◌++◌, All, map, drop}
 use Rattle.lattice_core.specs.declared.limit.TheConstants.{FAR}
 use Rattle.shot_core.specs.Prepared.{instance_of}
 use Rattle.oblique_ray.specs.CutSteps.{IsPieceInRange, segment_of_piece}
-use Rattle.oblique_ray.specs.Rays.{direction_of}
+use Rattle.slant_ray.specs.Rays.{direction_of}
 use Rattle.oblique_ray.specs.Shots.{segments_from}
 use Rattle.oblique_ray.proofs.piece.add_pieces.Given as goal
 

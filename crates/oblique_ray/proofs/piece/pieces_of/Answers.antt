@@ -2,7 +2,7 @@ use Rattle.std.proofs.Common.{◌≡◌, ◌+◌, ◌∙◌, ◌∷◌, length, 
 use Rattle.std.proofs.lemmas.List.{drop_more, length-map}
 use Rattle.shot_core.specs.Prepared.{instance_of}
 use Rattle.shot_core.specs.Regions.{Region, RegionBody}
-use Rattle.oblique_ray.specs.Rays.{direction_of}
+use Rattle.slant_ray.specs.Rays.{direction_of}
 use Rattle.oblique_ray.proofs.PieceLaws.{next_found, next_count}
 use Rattle.oblique_ray.proofs.piece.pieces_of.Goals as goal
 

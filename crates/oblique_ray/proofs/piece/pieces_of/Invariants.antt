@@ -2,7 +2,7 @@ use Rattle.std.proofs.Common.{◌≡◌, ◌+◌, ◌++◌, All, length, map, dr
 use Rattle.lattice_core.specs.declared.limit.TheConstants.{FAR}
 use Rattle.shot_core.specs.Regions.{instances_of}
 use Rattle.oblique_ray.specs.CutSteps.{IsPieceInRange, segment_of_piece}
-use Rattle.oblique_ray.specs.Rays.{direction_of}
+use Rattle.slant_ray.specs.Rays.{direction_of}
 use Rattle.oblique_ray.specs.Shots.{segments_from, segments_on}
 use Rattle.oblique_ray.proofs.piece.pieces_of.Given as goal
 

@@ -10,8 +10,8 @@ use Rattle.slant_ranks.specs.Slants.{slant_up_to}
 use Rattle.oblique_ray.specs.declared.piece.Piece.{Piece}
 use Rattle.oblique_ray.specs.declared.slab.Slab.{Slab}
 use Rattle.oblique_ray.specs.CutSteps.{segment_of_piece}
-use Rattle.oblique_ray.specs.Points.{TellsSlantPoints}
-use Rattle.oblique_ray.specs.Rays.{direction_of}
+use Rattle.oblique_ray.specs.Points.{IsTrueOfSlant}
+use Rattle.slant_ray.specs.Rays.{direction_of}
 use Rattle.oblique_ray.specs.ShotSteps.{slab_by_ranks}
 use Rattle.oblique_ray.specs.Shots.{slabs_on, slab_of_lit, segments_on}
 use Rattle.oblique_ray.proofs.Runs.{has_length}
@@ -60,7 +60,7 @@ returns-clause-regions c =
 pub returns-clause-points : goal.returns-clause-points
 returns-clause-points c =
     IfOk-weaker c.slabs_by.result (λ v. v.items ≡ slabs_on c.args.scene.now c.args.ray.now.origin (direction_of c.args.ray.now))
-    (λ v. TellsSlantPoints FAR c.args.scene.now c.args.ray.now.origin (direction_of c.args.ray.now) v.items)
+    (λ v. IsTrueOfSlant FAR c.args.scene.now c.args.ray.now.origin (direction_of c.args.ray.now) v.items)
     (λ v h. slabs_tell c.args.scene.now c.args.ray.now.origin (direction_of c.args.ray.now) v.items (has_length _ c.requires.some) c.in_ok-pieces.ensures.sound c.in_ok-pieces.ensures.leaves h)
     (returns-clause-slabs c)
 

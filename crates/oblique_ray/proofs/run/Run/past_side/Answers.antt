@@ -2,7 +2,8 @@ use Rattle.std.proofs.Common.{rules, ◌≢◌, arith, lit<, sym, subst, FitsSig
 use Rattle.std.proofs.lemmas.Int.{ints, to_z-of_z}
 use Rattle.lattice_core.specs.Limits.{IsWithin}
 use Rattle.plane_geom.proofs.Sizes.{fits64}
-use Rattle.oblique_ray.specs.declared.limit.TheConstants.{STEP, PACE, NEAREST, OVER}
+use Rattle.slant_ray.specs.declared.ray.TheConstants.{STEP}
+use Rattle.oblique_ray.specs.declared.limit.TheConstants.{PACE, NEAREST, OVER}
 use Rattle.oblique_ray.proofs.Sizes.{radius_size, across_within, none_step}
 use Rattle.oblique_ray.proofs.Runs.{side_along, side_across, some_pace}
 use Rattle.oblique_ray.proofs.run.Run.past_side.Goals as goal

@@ -1,3 +1,4 @@
+use crate::checked_slant::CheckedSlant;
 use crate::checked_view::CheckedView;
 use crate::held_object::HeldObject;
 use crate::kept_pairs::KeptPairs;
@@ -77,6 +78,8 @@ pub enum Query {
     Save { file: Name },
     /// Shoots one ray at objects.
     Shot { ray: WorldRay, names: NameList },
+    /// Shoots one ray in a lattice direction at objects.
+    Slant { ray: CheckedSlant, names: NameList },
 }
 
 /// A command that shoots a ray for each pixel of a view.
@@ -90,6 +93,17 @@ pub enum Shoot {
     },
     /// Reports which of the objects' regions overlap, and where.
     Check {
+        view: CheckedView,
+        names: NameList,
+    },
+    /// Counts the pixels that present each of the objects' regions.
+    Area {
+        view: CheckedView,
+        names: NameList,
+    },
+    /// Puts the picture of the edges between the objects' regions into a file.
+    Edge {
+        file: Name,
         view: CheckedView,
         names: NameList,
     },

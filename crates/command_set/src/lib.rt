@@ -1,6 +1,7 @@
 //! Commands of a script, as plain data, and the refusals with which they are answered.
 #![tactic(auto)]
 
+mod checked_slant;
 mod checked_view;
 mod command;
 mod held_object;
@@ -13,6 +14,7 @@ mod setting;
 mod title_text;
 mod world_ray;
 
+pub use checked_slant::CheckedSlant;
 pub use checked_view::CheckedView;
 pub use command::{Command, Edit, Query, Shoot};
 pub use held_object::HeldObject;

@@ -8,6 +8,7 @@ pub mod ScriptLaws
 pub mod TextLaws
 pub mod PutLaws
 pub mod ViewLines
+pub mod SlantLines
 pub mod PlainLaws
 pub mod OrderLaws
 pub mod OneLineLaws

@@ -4,12 +4,11 @@ use Rattle.std.specs.List.{AllByRecursion, list_all, cons_option, range_with_len
 use Rattle.std.specs.Prelude.{filter_map}
 use Rattle.std.specs.Option.{option_map}
 use Rattle.std.specs.Char.{is_ascii_digit}
-use Rattle.std.specs.Int.RustNames.{unsigned_abs}
-use Rattle.std.proofs.lemmas.Bool.{and_parts, cond-true, cond-false, eq-eqb, ne_eqb, le-leb}
+use Rattle.std.proofs.lemmas.Bool.{and_parts, cond-true, cond-false, eq-eqb, ne_eqb}
 use Rattle.std.proofs.lemmas.Bool.Decides.{nat_tests}
 use Rattle.std.proofs.lemmas.Int.{ints}
 use Rattle.std.proofs.lemmas.List.{length-map}
-use Rattle.lattice_core.specs.Limits.{IsAtMost, IsWithin}
+use Rattle.lattice_core.specs.Limits.{IsWithin}
 use Rattle.lattice_core.specs.declared.limit.TheConstants.{WORLD}
 use Rattle.lattice_core.specs.declared.placement.Placement.{Placement}
 use Rattle.lattice_core.specs.declared.ray.Dir.{Dir}
@@ -17,6 +16,10 @@ use Rattle.lattice_core.specs.declared.ray.Dir.TheVariants.{PlusX, MinusX, PlusY
 use Rattle.lattice_core.specs.declared.vector.V3.{V3}
 use Rattle.lattice_core.specs.declared.view.View as views
 use Rattle.lattice_core.specs.Views.{IsChecked}
+use Rattle.slant_ray.specs.declared.ray.TheConstants.{STEP}
+use Rattle.slant_ray.specs.declared.ray.SlantRay.{SlantRay}
+use Rattle.slant_ray.specs.Rays.{is_from_world, IsChecked as IsCheckedSlant, direction_of as slant_direction}
+use Rattle.mged_words.proofs.SlantLines.{fine_slant, from_world, step_kept}
 use Rattle.mged_words.proofs.ViewLines.{fine_view}
 use Rattle.name_core.specs.NameText.{IsName, read_name}
 use Rattle.name_core.proofs.NameLaws.{accepted}
@@ -48,14 +51,18 @@ use Rattle.word_values.specs.Solids.{kind_word, number_count, solid_made}
 use Rattle.word_values.specs.declared.solid.SolidKind.{SolidKind}
 use Rattle.command_set.specs.declared.command.Command.{Command}
 use Rattle.command_set.specs.declared.command.Command.TheVariants.{Bad, Edit, Query, Shoot}
-use Rattle.command_set.specs.declared.command.Shoot.TheVariants.{Picture, Check}
+use Rattle.command_set.specs.declared.command.Shoot.TheVariants.{Picture, Check, Area, Edge}
 use Rattle.command_set.specs.declared.command.Edit.TheVariants.{Make, Place, Set}
-use Rattle.command_set.specs.declared.command.Query.TheVariants.{Shot}
+use Rattle.command_set.specs.declared.command.Query.TheVariants.{Shot, Slant}
 use Rattle.command_set.specs.declared.refusal.Refusal.{Refusal}
 use Rattle.command_set.specs.declared.refusal.Refusal.TheVariants.{Syntax, Number, View}
 use Rattle.lattice_core.specs.declared.view.ViewFault.TheVariants.{World}
-use Rattle.mged_words.specs.Commands.{unless_refused, name_fault, names_fault, numbers_fault, solid_object, make_command, solid_command, kind_command, direction_of, is_in_world, is_from_world, world_fault, ray_of, shot_command, from_zero, side_number, size_numbers, view_numbers, view_refusal, picture_command, check_command, placement_fault, matrix_command, sixteen_command, matrix_words, matrix_step, place_with, setting_fault, set_command, set_with, worded_command, command_of_words, command_read, command_of}
-use Rattle.mged_words.specs.OneLine.{AreNames, AreNumbers, AreViewNumbers, IsAtom, IsAtomByte, line_of, direction_word}
+use Rattle.mged_words.specs.Commands.{unless_refused, name_fault, names_fault, numbers_fault, solid_object, make_command, solid_command, kind_command, direction_of, world_fault, ray_of, shot_command, within_step, step_number, slant_numbers, slant_refusal, slant_command, from_zero, side_number, size_numbers, view_numbers, view_refusal, file_shoot, file_command, filed_command, line_shoot, view_command, viewed_command, placement_fault, matrix_command, sixteen_command, matrix_words, matrix_step, place_with, setting_fault, set_command, set_with, worded_command, command_of_words, command_read, command_of}
+use Rattle.mged_words.specs.OneLine.{AreNames, AreNumbers, AreSlantNumbers, AreViewNumbers, IsAtom, IsAtomByte, line_of, direction_word}
+use Rattle.mged_words.specs.declared.views.FileShoot.{FileShoot}
+use Rattle.mged_words.specs.declared.views.FileShoot.TheVariants.{OfPixels, OfEdges}
+use Rattle.mged_words.specs.declared.views.LineShoot.{LineShoot}
+use Rattle.mged_words.specs.declared.views.LineShoot.TheVariants.{OfOverlaps, OfAreas}
 use Rattle.mged_words.proofs.SettingLaws.{no_key}
 use Rattle.mged_words.proofs.OneLineLaws.{IsAtomWord, HasAtoms, atoms, atoms_from, line_is, line_read, line_command, name_good, names_good, all_there, fine_names, one_word, word_here, text_here, rest_here, unless_both}
 
@@ -184,15 +191,6 @@ direction_good MinusY = (omega arith, (refl, refl, (refl, refl, tt)))
 direction_good PlusZ = (omega arith, (refl, refl, (refl, refl, tt)))
 direction_good MinusZ = (omega arith, (refl, refl, (refl, refl, tt)))
 
-inside : (c : ℤ) → IsAtMost WORLD c → is_in_world c ≡ true
-inside c h = le-leb (unsigned_abs c) (unsigned_abs WORLD) (omega (arith, ints, h.0, h.1))
-
-from_world : (origin : V3) → IsWithin WORLD origin → is_from_world origin ≡ true
-from_world origin h =
-    ap (λ (t : Bool). t && is_in_world origin.y && is_in_world origin.z) (inside origin.x h.x)
-    ∙ ap (λ (t : Bool). t && is_in_world origin.z) (inside origin.y h.y)
-    ∙ inside origin.z h.z
-
 pub nirt_line : (x y z : List ℕ) (origin : V3) (dir : Dir) (first : List ℕ) (rest : List (List ℕ)) → AreNumbers lists.Point (x ∷ y ∷ z ∷ []) (origin.x ∷ origin.y ∷ origin.z ∷ []) → IsWithin WORLD origin
     → AreNames (first ∷ rest) → command_of (line_of (codes "nirt") (x ∷ y ∷ z ∷ direction_word dir ∷ first ∷ rest)) ≡ Query (Shot (ray_of origin dir) (first ∷ rest))
 nirt_line x y z origin dir first rest are within named =
@@ -205,6 +203,35 @@ nirt_line x y z origin dir first rest are within named =
     ∙ ap (λ (ns : List (Option ℤ)). shot_command ns (Some dir) (first ∷ rest)) are
     ∙ unless_three (names_fault 6 1 (first ∷ rest)) (numbers_fault 2 1 read) (world_fault origin) (Query (Shot (ray_of origin dir) (first ∷ rest)))
     (fine_names 6 1 (first ∷ rest) named) (all_fine 2 1 numbers) (cond-true (is_from_world origin) None (Some (View World)) (from_world origin within))
+
+-- ---- a ray in a lattice direction
+
+abbrev slant_six : SlantRay → List ℤ
+slant_six ray = ray.origin.x ∷ ray.origin.y ∷ ray.origin.z ∷ ray.x ∷ ray.y ∷ ray.z ∷ []
+
+abbrev origin_of : SlantRay → List (Option ℤ)
+origin_of ray = Some ray.origin.x ∷ Some ray.origin.y ∷ Some ray.origin.z ∷ []
+
+slant_words : (x y z dx dy dz : List ℕ) (ray : SlantRay) → AreSlantNumbers x y z dx dy dz ray → IsWithin STEP (slant_direction ray) → slant_numbers (x ∷ y ∷ z ∷ []) (dx ∷ dy ∷ dz ∷ []) ≡ map (λ (n : ℤ). Some n) (slant_six ray)
+slant_words x y z dx dy dz ray are size =
+    ap (λ (xs : List (Option ℤ)). xs ++ map step_number (dx ∷ dy ∷ dz ∷ [])) are.read_origin
+    ∙ ap (λ (o : Option ℤ). origin_of ray ++ within_step o ∷ step_number dy ∷ step_number dz ∷ []) are.read_x
+    ∙ ap (λ (o : Option ℤ). origin_of ray ++ o ∷ step_number dy ∷ step_number dz ∷ []) (step_kept ray.x size.x)
+    ∙ ap (λ (o : Option ℤ). origin_of ray ++ Some ray.x ∷ within_step o ∷ step_number dz ∷ []) are.read_y
+    ∙ ap (λ (o : Option ℤ). origin_of ray ++ Some ray.x ∷ o ∷ step_number dz ∷ []) (step_kept ray.y size.y)
+    ∙ ap (λ (o : Option ℤ). origin_of ray ++ Some ray.x ∷ Some ray.y ∷ within_step o ∷ []) are.read_z
+    ∙ ap (λ (o : Option ℤ). origin_of ray ++ Some ray.x ∷ Some ray.y ∷ o ∷ []) (step_kept ray.z size.z)
+
+pub nirtd_line : (x y z dx dy dz : List ℕ) (ray : SlantRay) (first : List ℕ) (rest : List (List ℕ)) → AreSlantNumbers x y z dx dy dz ray → IsCheckedSlant ray → AreNames (first ∷ rest)
+    → command_of (line_of (codes "nirtd") (x ∷ y ∷ z ∷ dx ∷ dy ∷ dz ∷ first ∷ rest)) ≡ Query (Slant ray (first ∷ rest))
+nirtd_line x y z dx dy dz ray first rest are checked named =
+    let six : List ℤ = slant_six ray in
+    let read : List (Option ℤ) = map (λ (n : ℤ). Some n) six in
+    let good = numbers_words lists.Point 0 (x ∷ y ∷ z ∷ []) (ray.origin.x ∷ ray.origin.y ∷ ray.origin.z ∷ []) are.read_origin in
+    line_command (codes "nirtd") (x ∷ y ∷ z ∷ dx ∷ dy ∷ dz ∷ first ∷ rest) (λ line tokens w others. refl) (omega arith, (refl, refl, (refl, refl, (refl, refl, (refl, refl, (refl, refl, tt))))))
+    (good.0, (good.1.0, (good.1.1.0, (kind_word_good plain_kind dx ray.x are.read_x, (kind_word_good plain_kind dy ray.y are.read_y, (kind_word_good plain_kind dz ray.z are.read_z, names_good (first ∷ rest) named))))))
+    ∙ ap (λ (ns : List (Option ℤ)). slant_command ns (first ∷ rest)) (slant_words x y z dx dy dz ray are checked.size)
+    ∙ unless_three (names_fault 8 1 (first ∷ rest)) (numbers_fault 2 1 read) (slant_refusal ray) (Query (Slant ray (first ∷ rest))) (fine_names 8 1 (first ∷ rest) named) (all_fine 2 1 six) (fine_slant ray checked)
 
 -- ---- a view
 
@@ -234,33 +261,67 @@ view_atoms x y z cell w h view are =
     let corner = numbers_words lists.Point 0 (x ∷ y ∷ z ∷ []) (view.corner.x ∷ view.corner.y ∷ view.corner.z ∷ []) are.read_corner in
     (corner.0, (corner.1.0, (corner.1.1.0, (kind_word_good point_kind cell view.cell are.read_cell, (kind_word_good plain_kind w (pos view.w) are.read_columns, (kind_word_good plain_kind h (pos view.h) are.read_rows, tt))))))
 
+-- the words behind that of the command
+abbrev filed_words : (file x y z cell w h : List ℕ) → views.View → List (List ℕ) → List (List ℕ)
+filed_words file x y z cell w h view names = file ∷ direction_word view.dir ∷ x ∷ y ∷ z ∷ cell ∷ w ∷ h ∷ names
+
+abbrev viewed_words : (x y z cell w h : List ℕ) → views.View → List (List ℕ) → List (List ℕ)
+viewed_words x y z cell w h view names = direction_word view.dir ∷ x ∷ y ∷ z ∷ cell ∷ w ∷ h ∷ names
+
+viewed_atoms : (x y z cell w h : List ℕ) (view : views.View) (names : List (List ℕ)) → AreViewNumbers x y z cell w h view → AreNames names → AllByRecursion IsAtomWord (viewed_words x y z cell w h view names)
+viewed_atoms x y z cell w h view names are named =
+    let good = view_atoms x y z cell w h view are in
+    (direction_good view.dir, (good.0, (good.1.0, (good.1.1.0, (good.1.1.1.0, (good.1.1.1.1.0, (good.1.1.1.1.1.0, names_good names named)))))))
+
+file_line : (what : FileShoot) (file x y z cell w h : List ℕ) (view : views.View) (first : List ℕ) (rest : List (List ℕ)) → IsName file → AreViewNumbers x y z cell w h view → IsChecked view → AreNames (first ∷ rest)
+    → filed_command what (filed_words file x y z cell w h view (first ∷ rest)) ≡ file_shoot what file view (first ∷ rest)
+file_line what file x y z cell w h view first rest is are checked named =
+    let six : List ℤ = six_of view in
+    let read : List (Option ℤ) = map (λ (n : ℤ). Some n) six in
+    let one : AreNames (file ∷ []) = (is, tt) in
+    ap (λ (o : Option Dir). file_command what file o (view_numbers (x ∷ y ∷ z ∷ []) (cell ∷ w ∷ h ∷ [])) (first ∷ rest)) (direction_again view.dir)
+    ∙ ap (λ (ns : List (Option ℤ)). file_command what file (Some view.dir) ns (first ∷ rest)) (view_words x y z cell w h view are checked.cell)
+    ∙ unless_four (name_fault 2 file) (names_fault 10 1 (first ∷ rest)) (numbers_fault 4 1 read) (view_refusal view) (file_shoot what file view (first ∷ rest))
+    (fine_names 2 1 (file ∷ []) one) (fine_names 10 1 (first ∷ rest) named) (all_fine 4 1 six) (fine_view view checked)
+
+view_line : (what : LineShoot) (x y z cell w h : List ℕ) (view : views.View) (first : List ℕ) (rest : List (List ℕ)) → AreViewNumbers x y z cell w h view → IsChecked view → AreNames (first ∷ rest)
+    → viewed_command what (viewed_words x y z cell w h view (first ∷ rest)) ≡ line_shoot what view (first ∷ rest)
+view_line what x y z cell w h view first rest are checked named =
+    let six : List ℤ = six_of view in
+    let read : List (Option ℤ) = map (λ (n : ℤ). Some n) six in
+    ap (λ (o : Option Dir). view_command what o (view_numbers (x ∷ y ∷ z ∷ []) (cell ∷ w ∷ h ∷ [])) (first ∷ rest)) (direction_again view.dir)
+    ∙ ap (λ (ns : List (Option ℤ)). view_command what (Some view.dir) ns (first ∷ rest)) (view_words x y z cell w h view are checked.cell)
+    ∙ unless_three (names_fault 9 1 (first ∷ rest)) (numbers_fault 3 1 read) (view_refusal view) (line_shoot what view (first ∷ rest))
+    (fine_names 9 1 (first ∷ rest) named) (all_fine 3 1 six) (fine_view view checked)
+
 pub rt_line : (file x y z cell w h : List ℕ) (view : views.View) (first : List ℕ) (rest : List (List ℕ)) → IsName file → AreViewNumbers x y z cell w h view → IsChecked view → AreNames (first ∷ rest)
     → command_of (line_of (codes "rt") (file ∷ direction_word view.dir ∷ x ∷ y ∷ z ∷ cell ∷ w ∷ h ∷ first ∷ rest)) ≡ Shoot (Picture file view (first ∷ rest))
 rt_line file x y z cell w h view first rest is are checked named =
-    let six : List ℤ = six_of view in
-    let read : List (Option ℤ) = map (λ (n : ℤ). Some n) six in
-    let good = view_atoms x y z cell w h view are in
-    let one : AreNames (file ∷ []) = (is, tt) in
-    line_command (codes "rt") (file ∷ direction_word view.dir ∷ x ∷ y ∷ z ∷ cell ∷ w ∷ h ∷ first ∷ rest) (λ line tokens w others. refl) (omega arith, (refl, refl, (refl, refl, tt)))
-    (name_good file is, (direction_good view.dir, (good.0, (good.1.0, (good.1.1.0, (good.1.1.1.0, (good.1.1.1.1.0, (good.1.1.1.1.1.0, names_good (first ∷ rest) named))))))))
-    ∙ ap (λ (o : Option Dir). picture_command file o (view_numbers (x ∷ y ∷ z ∷ []) (cell ∷ w ∷ h ∷ [])) (first ∷ rest)) (direction_again view.dir)
-    ∙ ap (λ (ns : List (Option ℤ)). picture_command file (Some view.dir) ns (first ∷ rest)) (view_words x y z cell w h view are checked.cell)
-    ∙ unless_four (name_fault 2 file) (names_fault 10 1 (first ∷ rest)) (numbers_fault 4 1 read) (view_refusal view) (Shoot (Picture file view (first ∷ rest)))
-    (fine_names 2 1 (file ∷ []) one) (fine_names 10 1 (first ∷ rest) named) (all_fine 4 1 six) (fine_view view checked)
+    line_command (codes "rt") (filed_words file x y z cell w h view (first ∷ rest)) (λ line tokens w others. refl) (omega arith, (refl, refl, (refl, refl, tt)))
+    (name_good file is, viewed_atoms x y z cell w h view (first ∷ rest) are named)
+    ∙ file_line OfPixels file x y z cell w h view first rest is are checked named
+
+pub rtedge_line : (file x y z cell w h : List ℕ) (view : views.View) (first : List ℕ) (rest : List (List ℕ)) → IsName file → AreViewNumbers x y z cell w h view → IsChecked view → AreNames (first ∷ rest)
+    → command_of (line_of (codes "rtedge") (file ∷ direction_word view.dir ∷ x ∷ y ∷ z ∷ cell ∷ w ∷ h ∷ first ∷ rest)) ≡ Shoot (Edge file view (first ∷ rest))
+rtedge_line file x y z cell w h view first rest is are checked named =
+    line_command (codes "rtedge") (filed_words file x y z cell w h view (first ∷ rest)) (λ line tokens w others. refl)
+    (omega arith, (refl, refl, (refl, refl, (refl, refl, (refl, refl, (refl, refl, (refl, refl, tt)))))))
+    (name_good file is, viewed_atoms x y z cell w h view (first ∷ rest) are named)
+    ∙ file_line OfEdges file x y z cell w h view first rest is are checked named
 
 pub rtcheck_line : (x y z cell w h : List ℕ) (view : views.View) (first : List ℕ) (rest : List (List ℕ)) → AreViewNumbers x y z cell w h view → IsChecked view → AreNames (first ∷ rest)
     → command_of (line_of (codes "rtcheck") (direction_word view.dir ∷ x ∷ y ∷ z ∷ cell ∷ w ∷ h ∷ first ∷ rest)) ≡ Shoot (Check view (first ∷ rest))
 rtcheck_line x y z cell w h view first rest are checked named =
-    let six : List ℤ = six_of view in
-    let read : List (Option ℤ) = map (λ (n : ℤ). Some n) six in
-    let good = view_atoms x y z cell w h view are in
-    line_command (codes "rtcheck") (direction_word view.dir ∷ x ∷ y ∷ z ∷ cell ∷ w ∷ h ∷ first ∷ rest) (λ line tokens w others. refl)
-    (omega arith, (refl, refl, (refl, refl, (refl, refl, (refl, refl, (refl, refl, (refl, refl, (refl, refl, tt))))))))
-    (direction_good view.dir, (good.0, (good.1.0, (good.1.1.0, (good.1.1.1.0, (good.1.1.1.1.0, (good.1.1.1.1.1.0, names_good (first ∷ rest) named)))))))
-    ∙ ap (λ (o : Option Dir). check_command o (view_numbers (x ∷ y ∷ z ∷ []) (cell ∷ w ∷ h ∷ [])) (first ∷ rest)) (direction_again view.dir)
-    ∙ ap (λ (ns : List (Option ℤ)). check_command (Some view.dir) ns (first ∷ rest)) (view_words x y z cell w h view are checked.cell)
-    ∙ unless_three (names_fault 9 1 (first ∷ rest)) (numbers_fault 3 1 read) (view_refusal view) (Shoot (Check view (first ∷ rest)))
-    (fine_names 9 1 (first ∷ rest) named) (all_fine 3 1 six) (fine_view view checked)
+    line_command (codes "rtcheck") (viewed_words x y z cell w h view (first ∷ rest)) (λ line tokens w others. refl)
+    (omega arith, (refl, refl, (refl, refl, (refl, refl, (refl, refl, (refl, refl, (refl, refl, (refl, refl, tt)))))))) (viewed_atoms x y z cell w h view (first ∷ rest) are named)
+    ∙ view_line OfOverlaps x y z cell w h view first rest are checked named
+
+pub rtarea_line : (x y z cell w h : List ℕ) (view : views.View) (first : List ℕ) (rest : List (List ℕ)) → AreViewNumbers x y z cell w h view → IsChecked view → AreNames (first ∷ rest)
+    → command_of (line_of (codes "rtarea") (direction_word view.dir ∷ x ∷ y ∷ z ∷ cell ∷ w ∷ h ∷ first ∷ rest)) ≡ Shoot (Area view (first ∷ rest))
+rtarea_line x y z cell w h view first rest are checked named =
+    line_command (codes "rtarea") (viewed_words x y z cell w h view (first ∷ rest)) (λ line tokens w others. refl)
+    (omega arith, (refl, refl, (refl, refl, (refl, refl, (refl, refl, (refl, refl, (refl, refl, tt))))))) (viewed_atoms x y z cell w h view (first ∷ rest) are named)
+    ∙ view_line OfAreas x y z cell w h view first rest are checked named
 
 -- ---- lines with words of other kinds
 

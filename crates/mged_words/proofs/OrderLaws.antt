@@ -43,7 +43,7 @@ use Rattle.put_form.specs.Combs as combs
 use Rattle.put_form.specs.Keeps.{is_text, kept_attr, has_form, is_named, unnamed_at, kept_or, kept_of}
 use Rattle.put_form.specs.Pairs.{Pair, pairs_of}
 use Rattle.put_form.specs.Puts as puts
-use Rattle.put_form.specs.Puts.{Put, unless_fault, when, name_of, solid_put, solid_with, comb_with, kind_named, kind_put, is_put, put_of, place_of}
+use Rattle.put_form.specs.Puts.{Put, unless_fault, when, solid_put, solid_with, kind_named, kind_put, is_put, place_of}
 use Rattle.put_form.specs.Solids as solids
 use Rattle.put_form.specs.declared.fault.PutFault.{PutFault}
 use Rattle.put_form.specs.declared.fault.PutFault.TheVariants as put
@@ -51,14 +51,19 @@ use Rattle.put_form.specs.declared.kind.Kind.{Kind}
 use Rattle.put_form.specs.declared.kind.Kind.TheVariants as kinds
 use Rattle.command_set.specs.declared.command.Command.{Command}
 use Rattle.command_set.specs.declared.command.Command.TheVariants.{Bad, Edit, Query, Shoot}
-use Rattle.command_set.specs.declared.command.Shoot.TheVariants.{Picture, Check}
 use Rattle.command_set.specs.declared.command.Edit.TheVariants.{Region, Group, Remove, Kill, RenameAll, Place, Title, Keep, Set}
-use Rattle.command_set.specs.declared.command.Query.TheVariants.{List as Lines, Tree as Listing, Save, Shot}
+use Rattle.command_set.specs.declared.command.Query.TheVariants.{List as Lines, Tree as Listing, Save, Shot, Slant}
 use Rattle.command_set.specs.declared.refusal.Refusal.{Refusal}
 use Rattle.command_set.specs.declared.refusal.Refusal.TheVariants.{Syntax, Name, Number, View, Shape}
 use Rattle.lattice_core.specs.declared.view.ViewFault.TheVariants.{World}
-use Rattle.mged_words.specs.Commands.{unless_refused, name_fault, names_fault, numbers_fault, placement_fault, setting_fault, make_command, solid_command, kind_command, in_command, direction_of, world_fault, is_from_world, ray_of, shot_command, nirt_command, view_numbers, view_of, view_refusal, picture_command, rt_command, check_command, rtcheck_command, operator_of, entry_of, entry_before, entries_of, region_command, r_command, g_command, rm_command, kill_command, mvall_command, save_command, ls_command, sixteen_command, matrix_command, matrix_step, matrix_words, place_with, place_command, set_with, cattr_command, with_atoms, atom_command, named_command, worded_command, refusal_of_put, put_made, put_command, title_command, kept_command, keep_command, is_set, attr_command, l_command, tree_command, command_of_words, command_read, command_of}
-use Rattle.mged_words.specs.Order.{numbered, ranged, Wanted, names_alone, nothing, every_second, name_at, shape_fault, made_wanted, solid_wanted, in_wanted, shot_wanted, nirt_wanted, view_wanted, rt_wanted, rtcheck_wanted, wanted_behind, wanted_of_atoms, matrix_numbers, with_numbers, place_wanted, setting_at, cattr_wanted, key_name, key_names, attr_wanted, spelled_leaves, leaf_names, tree_names, value_numbers, given_shape, object_wanted, put_wanted, wanted_after, wanted_worded, wanted_of_words, wanted_read, wanted_of_line, names_of_line, first_unnamed, first_out, or_else, first_of, first_refusal, told, TellsFirst, told_name, TellsNames}
+use Rattle.slant_ray.specs.declared.ray.SlantRay.{SlantRay}
+use Rattle.slant_ray.specs.Rays.{is_from_world, slant_fault}
+use Rattle.mged_words.specs.declared.views.FileShoot.{FileShoot}
+use Rattle.mged_words.specs.declared.views.FileShoot.TheVariants.{OfPixels, OfEdges}
+use Rattle.mged_words.specs.declared.views.LineShoot.{LineShoot}
+use Rattle.mged_words.specs.declared.views.LineShoot.TheVariants.{OfOverlaps, OfAreas}
+use Rattle.mged_words.specs.Commands.{unless_refused, name_fault, names_fault, numbers_fault, placement_fault, setting_fault, make_command, solid_command, kind_command, in_command, direction_of, world_fault, ray_of, shot_command, nirt_command, slant_numbers, slant_by, slant_refusal, slant_command, nirtd_command, view_numbers, view_of, view_refusal, file_shoot, file_command, filed_command, line_shoot, view_command, viewed_command, operator_of, entry_of, entry_before, entries_of, region_command, r_command, g_command, rm_command, kill_command, mvall_command, save_command, ls_command, sixteen_command, matrix_command, matrix_step, matrix_words, place_with, place_command, set_with, cattr_command, with_atoms, atom_command, named_command, worded_command, refusal_of_put, put_made, put_command, title_command, kept_command, keep_command, is_set, attr_command, l_command, tree_command, command_of_words, command_read, command_of}
+use Rattle.mged_words.specs.Order.{numbered, ranged, Wanted, names_alone, nothing, every_second, name_at, shape_fault, made_wanted, solid_wanted, in_wanted, shot_wanted, nirt_wanted, slant_wanted, nirtd_wanted, view_wanted, rt_wanted, rtcheck_wanted, wanted_behind, wanted_of_atoms, matrix_numbers, with_numbers, place_wanted, setting_at, cattr_wanted, key_name, key_names, attr_wanted, spelled_leaves, leaf_names, tree_names, value_numbers, given_shape, object_wanted, put_wanted, wanted_after, wanted_worded, wanted_of_words, wanted_read, wanted_of_line, names_of_line, first_unnamed, first_out, or_else, first_of, first_refusal, told, TellsFirst, told_name, TellsNames}
 
 -- ---- lists of refusals
 
@@ -235,6 +240,25 @@ nirt_told (a ∷ b ∷ c ∷ []) = inl refl
 nirt_told (a ∷ b ∷ c ∷ d ∷ []) = inl refl
 nirt_told (x ∷ y ∷ z ∷ dir ∷ name ∷ rest) = shot_told (numbers_as lists.Point (x ∷ y ∷ z ∷ [])) (direction_of dir) (name ∷ rest)
 
+ray_told : (ray : SlantRay) → slant_refusal ray ≡ option_map View (slant_fault ray)
+unfolding slant_refusal
+ray_told ray = refl
+
+slant_told : (numbers : List (Option ℤ)) (names : List (List ℕ)) → TellsFirst (slant_command numbers names) (slant_wanted numbers names)
+slant_told numbers names =
+    inr (told_list (names_fault 8 1 names ∷ numbers_fault 2 1 numbers ∷ slant_refusal (slant_by numbers) ∷ []) (Query (Slant (slant_by numbers) names))
+    ∙ or_both (names_are 8 1 names) (or_both (numbers_are 2 1 numbers) (ap (λ (o : Option Refusal). or_else o None) (ray_told (slant_by numbers)))))
+
+nirtd_told : (atoms : List (List ℕ)) → TellsFirst (nirtd_command atoms) (nirtd_wanted atoms)
+nirtd_told [] = inl refl
+nirtd_told (a ∷ []) = inl refl
+nirtd_told (a ∷ b ∷ []) = inl refl
+nirtd_told (a ∷ b ∷ c ∷ []) = inl refl
+nirtd_told (a ∷ b ∷ c ∷ d ∷ []) = inl refl
+nirtd_told (a ∷ b ∷ c ∷ d ∷ e ∷ []) = inl refl
+nirtd_told (a ∷ b ∷ c ∷ d ∷ e ∷ f ∷ []) = inl refl
+nirtd_told (x ∷ y ∷ z ∷ dx ∷ dy ∷ dz ∷ name ∷ rest) = slant_told (slant_numbers (x ∷ y ∷ z ∷ []) (dx ∷ dy ∷ dz ∷ [])) (name ∷ rest)
+
 -- a file's name, and the other names
 file_then : (t : Bool) (word : ℕ) (bad : Option ℕ) (rest : Option Refusal) → or_else (cond t None (Some (Name word))) (or_else (option_map Name bad) rest) ≡ or_else (option_map Name (cond t bad (Some word))) rest
 file_then true word bad rest = refl
@@ -244,52 +268,63 @@ view_told : (view : views.View) → view_refusal view ≡ option_map View (view_
 unfolding view_refusal
 view_told view = refl
 
-picture_told : (file : List ℕ) (dir : Option Dir) (numbers : List (Option ℤ)) (names : List (List ℕ)) → TellsFirst (picture_command file dir numbers names) (view_wanted 4 ((2, file) ∷ numbered 10 1 names) dir numbers)
-picture_told file None numbers names = inl refl
-picture_told file (Some dir) numbers names =
+file_quiet : (what : FileShoot) (file : List ℕ) (view : views.View) (names : List (List ℕ)) → told (file_shoot what file view names) ≡ None
+file_quiet OfPixels file view names = refl
+file_quiet OfEdges file view names = refl
+
+line_quiet : (what : LineShoot) (view : views.View) (names : List (List ℕ)) → told (line_shoot what view names) ≡ None
+line_quiet OfOverlaps view names = refl
+line_quiet OfAreas view names = refl
+
+file_told : (what : FileShoot) (file : List ℕ) (dir : Option Dir) (numbers : List (Option ℤ)) (names : List (List ℕ)) → TellsFirst (file_command what file dir numbers names) (view_wanted 4 ((2, file) ∷ numbered 10 1 names) dir numbers)
+file_told what file None numbers names = inl refl
+file_told what file (Some dir) numbers names =
     let view : views.View = view_of dir numbers in
     let last : Option Refusal = or_else (option_map Number (first_out (ranged 4 1 numbers))) (or_else (option_map View (view_fault view)) None) in
-    inr (told_list (name_fault 2 file ∷ names_fault 10 1 names ∷ numbers_fault 4 1 numbers ∷ view_refusal view ∷ []) (Shoot (Picture file view names))
-    ∙ ap (or_else (name_fault 2 file)) (or_both (names_are 10 1 names) (or_both (numbers_are 4 1 numbers) (ap (λ (o : Option Refusal). or_else o None) (view_told view))))
+    inr (told_list (name_fault 2 file ∷ names_fault 10 1 names ∷ numbers_fault 4 1 numbers ∷ view_refusal view ∷ []) (file_shoot what file view names)
+    ∙ ap (or_else (name_fault 2 file)) (or_both (names_are 10 1 names) (or_both (numbers_are 4 1 numbers) (or_both (view_told view) (ap (λ (o : Option Refusal). or_else o None) (file_quiet what file view names)))))
     ∙ file_then (is_ok (read_name file)) 2 (first_unnamed (numbered 10 1 names)) last)
 
-rt_told : (atoms : List (List ℕ)) → TellsFirst (rt_command atoms) (rt_wanted atoms)
-rt_told [] = inl refl
-rt_told (a ∷ []) = inl refl
-rt_told (a ∷ b ∷ []) = inl refl
-rt_told (a ∷ b ∷ c ∷ []) = inl refl
-rt_told (a ∷ b ∷ c ∷ d ∷ []) = inl refl
-rt_told (a ∷ b ∷ c ∷ d ∷ e ∷ []) = inl refl
-rt_told (a ∷ b ∷ c ∷ d ∷ e ∷ f ∷ []) = inl refl
-rt_told (a ∷ b ∷ c ∷ d ∷ e ∷ f ∷ g ∷ []) = inl refl
-rt_told (a ∷ b ∷ c ∷ d ∷ e ∷ f ∷ g ∷ h ∷ []) = inl refl
-rt_told (file ∷ dir ∷ x ∷ y ∷ z ∷ cell ∷ w ∷ h ∷ name ∷ rest) = picture_told file (direction_of dir) (view_numbers (x ∷ y ∷ z ∷ []) (cell ∷ w ∷ h ∷ [])) (name ∷ rest)
+filed_told : (what : FileShoot) (atoms : List (List ℕ)) → TellsFirst (filed_command what atoms) (rt_wanted atoms)
+filed_told what [] = inl refl
+filed_told what (a ∷ []) = inl refl
+filed_told what (a ∷ b ∷ []) = inl refl
+filed_told what (a ∷ b ∷ c ∷ []) = inl refl
+filed_told what (a ∷ b ∷ c ∷ d ∷ []) = inl refl
+filed_told what (a ∷ b ∷ c ∷ d ∷ e ∷ []) = inl refl
+filed_told what (a ∷ b ∷ c ∷ d ∷ e ∷ f ∷ []) = inl refl
+filed_told what (a ∷ b ∷ c ∷ d ∷ e ∷ f ∷ g ∷ []) = inl refl
+filed_told what (a ∷ b ∷ c ∷ d ∷ e ∷ f ∷ g ∷ h ∷ []) = inl refl
+filed_told what (file ∷ dir ∷ x ∷ y ∷ z ∷ cell ∷ w ∷ h ∷ name ∷ rest) = file_told what file (direction_of dir) (view_numbers (x ∷ y ∷ z ∷ []) (cell ∷ w ∷ h ∷ [])) (name ∷ rest)
 
-check_told : (dir : Option Dir) (numbers : List (Option ℤ)) (names : List (List ℕ)) → TellsFirst (check_command dir numbers names) (view_wanted 3 (numbered 9 1 names) dir numbers)
-check_told None numbers names = inl refl
-check_told (Some dir) numbers names =
+view_line_told : (what : LineShoot) (dir : Option Dir) (numbers : List (Option ℤ)) (names : List (List ℕ)) → TellsFirst (view_command what dir numbers names) (view_wanted 3 (numbered 9 1 names) dir numbers)
+view_line_told what None numbers names = inl refl
+view_line_told what (Some dir) numbers names =
     let view : views.View = view_of dir numbers in
-    inr (told_list (names_fault 9 1 names ∷ numbers_fault 3 1 numbers ∷ view_refusal view ∷ []) (Shoot (Check view names))
-    ∙ or_both (names_are 9 1 names) (or_both (numbers_are 3 1 numbers) (ap (λ (o : Option Refusal). or_else o None) (view_told view))))
+    inr (told_list (names_fault 9 1 names ∷ numbers_fault 3 1 numbers ∷ view_refusal view ∷ []) (line_shoot what view names)
+    ∙ or_both (names_are 9 1 names) (or_both (numbers_are 3 1 numbers) (or_both (view_told view) (ap (λ (o : Option Refusal). or_else o None) (line_quiet what view names)))))
 
-rtcheck_told : (atoms : List (List ℕ)) → TellsFirst (rtcheck_command atoms) (rtcheck_wanted atoms)
-rtcheck_told [] = inl refl
-rtcheck_told (a ∷ []) = inl refl
-rtcheck_told (a ∷ b ∷ []) = inl refl
-rtcheck_told (a ∷ b ∷ c ∷ []) = inl refl
-rtcheck_told (a ∷ b ∷ c ∷ d ∷ []) = inl refl
-rtcheck_told (a ∷ b ∷ c ∷ d ∷ e ∷ []) = inl refl
-rtcheck_told (a ∷ b ∷ c ∷ d ∷ e ∷ f ∷ []) = inl refl
-rtcheck_told (a ∷ b ∷ c ∷ d ∷ e ∷ f ∷ g ∷ []) = inl refl
-rtcheck_told (dir ∷ x ∷ y ∷ z ∷ cell ∷ w ∷ h ∷ name ∷ rest) = check_told (direction_of dir) (view_numbers (x ∷ y ∷ z ∷ []) (cell ∷ w ∷ h ∷ [])) (name ∷ rest)
+viewed_told : (what : LineShoot) (atoms : List (List ℕ)) → TellsFirst (viewed_command what atoms) (rtcheck_wanted atoms)
+viewed_told what [] = inl refl
+viewed_told what (a ∷ []) = inl refl
+viewed_told what (a ∷ b ∷ []) = inl refl
+viewed_told what (a ∷ b ∷ c ∷ []) = inl refl
+viewed_told what (a ∷ b ∷ c ∷ d ∷ []) = inl refl
+viewed_told what (a ∷ b ∷ c ∷ d ∷ e ∷ []) = inl refl
+viewed_told what (a ∷ b ∷ c ∷ d ∷ e ∷ f ∷ []) = inl refl
+viewed_told what (a ∷ b ∷ c ∷ d ∷ e ∷ f ∷ g ∷ []) = inl refl
+viewed_told what (dir ∷ x ∷ y ∷ z ∷ cell ∷ w ∷ h ∷ name ∷ rest) = view_line_told what (direction_of dir) (view_numbers (x ∷ y ∷ z ∷ []) (cell ∷ w ∷ h ∷ [])) (name ∷ rest)
 
 atom_told : (word : List ℕ) (atoms : List (List ℕ)) → TellsFirst (atom_command word atoms) (wanted_behind word atoms)
 atom_told word atoms =
     let names : Wanted = names_alone (numbered 2 1 atoms) in
     both_told (bytes_eq word (codes "in")) (in_command atoms) _ (in_wanted atoms) _ (in_told atoms)
     (both_told (bytes_eq word (codes "nirt")) (nirt_command atoms) _ (nirt_wanted atoms) _ (nirt_told atoms)
-    (both_told (bytes_eq word (codes "rt")) (rt_command atoms) _ (rt_wanted atoms) _ (rt_told atoms)
-    (both_told (bytes_eq word (codes "rtcheck")) (rtcheck_command atoms) _ (rtcheck_wanted atoms) _ (rtcheck_told atoms)
+    (both_told (bytes_eq word (codes "nirtd")) (nirtd_command atoms) _ (nirtd_wanted atoms) _ (nirtd_told atoms)
+    (both_told (bytes_eq word (codes "rt")) (filed_command OfPixels atoms) _ (rt_wanted atoms) _ (filed_told OfPixels atoms)
+    (both_told (bytes_eq word (codes "rtcheck")) (viewed_command OfOverlaps atoms) _ (rtcheck_wanted atoms) _ (viewed_told OfOverlaps atoms)
+    (both_told (bytes_eq word (codes "rtarea")) (viewed_command OfAreas atoms) _ (rtcheck_wanted atoms) _ (viewed_told OfAreas atoms)
+    (both_told (bytes_eq word (codes "rtedge")) (filed_command OfEdges atoms) _ (rt_wanted atoms) _ (filed_told OfEdges atoms)
     (both_told (bytes_eq word (codes "r")) (r_command atoms) _ (names_alone (numbered 2 2 (every_second atoms))) names (r_told atoms)
     (either_told (bytes_eq word (codes "g")) (g_command atoms) _ names (g_told atoms)
     (either_told (bytes_eq word (codes "rm")) (rm_command atoms) _ names (rm_told atoms)
@@ -298,7 +333,7 @@ atom_told word atoms =
     (either_told (bytes_eq word (codes "ls")) (ls_command atoms) _ names (ls_told atoms)
     (either_told (bytes_eq word (codes "l")) (l_command atoms) _ names (l_told atoms)
     (either_told (bytes_eq word (codes "tree")) (tree_command atoms) _ names (tree_told atoms)
-    (if_told (bytes_eq word (codes "save")) (save_command atoms) names (save_told atoms)))))))))))))
+    (if_told (bytes_eq word (codes "save")) (save_command atoms) names (save_told atoms))))))))))))))))
 
 atoms_told : (word : List ℕ) (atoms : Option (List (List ℕ))) → TellsFirst (with_atoms (atom_command word) atoms) (wanted_of_atoms word atoms)
 atoms_told word None = inl refl

@@ -1,14 +1,11 @@
 -- The command of a line has names and refusals that stand on one line.
-use Rattle.std.proofs.Common.{zero, suc, get_or, is_none, unwrap_or, ◌≡◌, ◌<◌, ◌≤◌, ◌+◌, ◌++◌, ◌==◌, ◌&&◌, ℕ, ℤ, Bool, true, false, cond, List, [], ◌∷◌, All, Option, Some, None, Result, Ok, Err, is_ok, length, map, codes, decimal, bytes_eq, refl, arith}
-use Rattle.std.proofs.lemmas.Bool.{and_parts, leb-true}
-use Rattle.std.proofs.lemmas.Int.{ints}
-use Rattle.std.specs.Int.RustNames.{unsigned_abs}
+use Rattle.std.proofs.Common.{zero, suc, get_or, is_none, unwrap_or, ◌≡◌, ◌<◌, ◌+◌, ◌++◌, ◌==◌, ℕ, ℤ, Bool, true, false, cond, List, [], ◌∷◌, All, Option, Some, None, Result, Ok, Err, is_ok, length, map, codes, decimal, bytes_eq, refl, arith}
 use Rattle.std.specs.List.{AllByRecursion}
 use Rattle.std.proofs.lemmas.List.Elements.{All-append}
 use Rattle.lattice_core.specs.declared.ray.Dir.{Dir}
 use Rattle.lattice_core.specs.declared.vector.V3.{V3}
 use Rattle.lattice_core.specs.declared.limit.TheConstants.{WORLD}
-use Rattle.lattice_core.specs.Limits.{IsAtMost, IsWithin}
+use Rattle.lattice_core.specs.Limits.{IsWithin}
 use Rattle.name_core.specs.NameText.{read_name}
 use Rattle.name_core.proofs.NameLaws.{accepted}
 use Rattle.transcript.specs.Merge.{Entry, entry}
@@ -16,11 +13,11 @@ use Rattle.transcript.specs.Lines.{Lacks}
 use Rattle.transcript.proofs.LineLaws.{lacks_append}
 use Rattle.transcript.proofs.TranscriptLaws.{computed}
 use Rattle.word_values.specs.Atoms.{atoms_in, value_of}
-use Rattle.word_values.specs.Kinds.{numbers_as}
+use Rattle.word_values.specs.Kinds.{number_as, numbers_as, plain_kind}
 use Rattle.word_values.specs.declared.atoms.NumberList.TheVariants as lists
-use Rattle.mged_words.specs.Commands.{unless_refused, name_fault, names_fault, members_fault, numbers_fault, placement_fault, setting_fault, make_command, solid_command, kind_command, in_command, direction_of, world_fault, is_from_world, is_in_world, ray_of, shot_command, nirt_command, view_numbers, view_of, view_refusal, picture_command, rt_command, check_command, rtcheck_command, entry_of, entries_of, region_command, r_command, g_command, rm_command, kill_command, mvall_command, save_command, ls_command, sixteen_command, matrix_command, matrix_step, matrix_words, place_with, place_command, set_command, set_with, cattr_command, with_atoms, atom_command, named_command, worded_command, refusal_of_put, put_made, put_command, title_command, keep_fault, pairs_or_none, kept_command, keep_command, is_set, attr_command, l_command, tree_command, command_of_words, command_read, command_of}
+use Rattle.mged_words.specs.Commands.{unless_refused, name_fault, names_fault, members_fault, numbers_fault, placement_fault, setting_fault, make_command, solid_command, kind_command, in_command, direction_of, world_fault, ray_of, shot_command, nirt_command, slant_numbers, slant_by, slant_refusal, slant_command, nirtd_command, view_numbers, view_of, view_refusal, file_shoot, file_command, filed_command, line_shoot, view_command, viewed_command, entry_of, entries_of, region_command, r_command, g_command, rm_command, kill_command, mvall_command, save_command, ls_command, sixteen_command, matrix_command, matrix_step, matrix_words, place_with, place_command, set_command, set_with, cattr_command, with_atoms, atom_command, named_command, worded_command, refusal_of_put, put_made, put_command, title_command, keep_fault, pairs_or_none, kept_command, keep_command, is_set, attr_command, l_command, tree_command, command_of_words, command_read, command_of}
 use Rattle.word_values.specs.Matrices.{placement_read, identity}
-use Rattle.mged_words.specs.Readable.{ArePlain, ArePlainPairs, IsPlain, IsPlainRefusal, IsReadable}
+use Rattle.mged_words.specs.Readable.{ArePlain, ArePlainPairs, IsPlain, IsPlainRefusal, IsPlainView, IsReadable}
 use Rattle.plane_geom.specs.declared.fault.ShapeFault.{ShapeFault}
 use Rattle.plane_geom.specs.declared.fault.ShapeFault.TheVariants.{Flat, NotPlanar, NotConvex, Radius, ZeroNormal, Axis}
 use Rattle.solid_set.specs.declared.solid.Solid.{Solid}
@@ -32,10 +29,17 @@ use Rattle.lattice_core.specs.declared.view.ViewFault.{ViewFault}
 use Rattle.lattice_core.specs.declared.view.ViewFault.TheVariants.{Pixels, Side, Cell, Direction, World}
 use Rattle.lattice_core.specs.Views.{view_fault}
 use Rattle.std.specs.Option.{option_map}
+use Rattle.slant_ray.specs.declared.ray.SlantRay.{SlantRay}
+use Rattle.slant_ray.specs.declared.ray.TheConstants.{STEP}
+use Rattle.slant_ray.specs.Rays.{is_from_world, slant_fault, direction_of as slant_direction}
+use Rattle.mged_words.specs.declared.views.FileShoot.{FileShoot}
+use Rattle.mged_words.specs.declared.views.FileShoot.TheVariants.{OfPixels, OfEdges}
+use Rattle.mged_words.specs.declared.views.LineShoot.{LineShoot}
+use Rattle.mged_words.specs.declared.views.LineShoot.TheVariants.{OfOverlaps, OfAreas}
+use Rattle.mged_words.proofs.SlantLines.{slant_whole, step_small, world_seen}
 use Rattle.mged_words.proofs.ViewLines.{seen_whole}
 use Rattle.command_set.specs.declared.command.Command.{Command}
-use Rattle.command_set.specs.declared.command.Command.TheVariants.{Bad, Edit, Query, Shoot}
-use Rattle.command_set.specs.declared.command.Shoot.TheVariants.{Picture, Check}
+use Rattle.command_set.specs.declared.command.Command.TheVariants.{Bad, Edit, Query}
 use Rattle.command_set.specs.declared.command.Edit.TheVariants.{Region, Group, Remove, Kill, RenameAll, Place, Title, Keep, Set}
 use Rattle.tcl_words.specs.declared.token.Token.{Token}
 use Rattle.tcl_words.specs.declared.token.Word.{Word}
@@ -48,7 +52,7 @@ use Rattle.comb_tree.specs.Changes.{names_of}
 use Rattle.region_attr.specs.Keys.{key_of}
 use Rattle.region_attr.specs.Attrs.{is_setting}
 use Rattle.lattice_core.specs.declared.placement.Placement.{Placement}
-use Rattle.command_set.specs.declared.command.Query.TheVariants.{List as Lines, Tree, Save, Shot}
+use Rattle.command_set.specs.declared.command.Query.TheVariants.{List as Lines, Tree, Save, Shot, Slant}
 use Rattle.object_set.specs.declared.kept.KeptAttr.{KeptAttr}
 use Rattle.put_form.specs.Keeps.{is_text, kept_of}
 use Rattle.put_form.specs.Pairs.{pairs_of}
@@ -136,15 +140,8 @@ solid_plain name kind numbers =
     (may_if (is_ok (read_name name)) (Name 2) (plain_name 2), (may_number 4 1 numbers, tt))
     (λ all. make_plain name (solid_made kind numbers) (name_read 2 name all.0))
 
-in_range : (c : ℤ) → is_in_world c ≡ true → IsAtMost WORLD c
-in_range c h = let small : unsigned_abs c ≤ unsigned_abs WORLD = leb-true (unsigned_abs c) (unsigned_abs WORLD) h in (omega (arith, ints, small), omega (arith, ints, small))
-
 world_read : (origin : V3) → world_fault origin ≡ None → IsWithin WORLD origin
-world_read origin h =
-    let all : (is_in_world origin.x && is_in_world origin.y && is_in_world origin.z) ≡ true = named (is_from_world origin) (View World) h in
-    let z = and_parts (is_in_world origin.x && is_in_world origin.y) (is_in_world origin.z) all in
-    let xy = and_parts (is_in_world origin.x) (is_in_world origin.y) z.0 in
-    record { x = in_range origin.x xy.0; y = in_range origin.y xy.1; z = in_range origin.z z.1 }
+world_read origin h = world_seen origin (named (is_from_world origin) (View World) h)
 
 either_plain : (t : Bool) (x y : Command) → IsPlain x → IsPlain y → IsPlain (cond t x y)
 either_plain true x y h k = h
@@ -194,44 +191,74 @@ may_view : (view : views.View) → MayBePlain (view_refusal view)
 unfolding view_refusal
 may_view view = may_fault (view_fault view)
 
-picture_plain : (file : List ℕ) (dir : Option Dir) (numbers : List (Option ℤ)) (names : List (List ℕ)) → IsPlain (picture_command file dir numbers names)
-picture_plain file None numbers names = plain_syntax
-picture_plain file (Some dir) numbers names =
+may_slant : (ray : SlantRay) → MayBePlain (slant_refusal ray)
+unfolding slant_refusal
+may_slant ray = may_fault (slant_fault ray)
+
+slant_plain : (x y z dx dy dz : List ℕ) (names : List (List ℕ)) → IsPlain (slant_command (slant_numbers (x ∷ y ∷ z ∷ []) (dx ∷ dy ∷ dz ∷ [])) names)
+slant_plain x y z dx dy dz names =
+    let numbers : List (Option ℤ) = slant_numbers (x ∷ y ∷ z ∷ []) (dx ∷ dy ∷ dz ∷ []) in
+    let small : IsWithin STEP (slant_direction (slant_by numbers)) = record { x = step_small (number_as plain_kind dx); y = step_small (number_as plain_kind dy); z = step_small (number_as plain_kind dz) } in
+    unless_plain (names_fault 8 1 names ∷ numbers_fault 2 1 numbers ∷ slant_refusal (slant_by numbers) ∷ []) (Query (Slant (slant_by numbers) names))
+    (may_names 8 1 names, (may_number 2 1 numbers, (may_slant (slant_by numbers), tt)))
+    (λ all. record { one_line = names_plain 8 1 names all.0; checked = slant_whole (slant_by numbers) small all.1.1.0 })
+
+nirtd_plain : (atoms : List (List ℕ)) → IsPlain (nirtd_command atoms)
+nirtd_plain [] = plain_syntax
+nirtd_plain (a ∷ []) = plain_syntax
+nirtd_plain (a ∷ b ∷ []) = plain_syntax
+nirtd_plain (a ∷ b ∷ c ∷ []) = plain_syntax
+nirtd_plain (a ∷ b ∷ c ∷ d ∷ []) = plain_syntax
+nirtd_plain (a ∷ b ∷ c ∷ d ∷ e ∷ []) = plain_syntax
+nirtd_plain (a ∷ b ∷ c ∷ d ∷ e ∷ f ∷ []) = plain_syntax
+nirtd_plain (x ∷ y ∷ z ∷ dx ∷ dy ∷ dz ∷ name ∷ rest) = slant_plain x y z dx dy dz (name ∷ rest)
+
+file_shoot_plain : (what : FileShoot) (file : List ℕ) (view : views.View) (names : List (List ℕ)) → Lacks 10 file → IsPlainView view names → IsPlain (file_shoot what file view names)
+file_shoot_plain OfPixels file view names h k = (h, k)
+file_shoot_plain OfEdges file view names h k = (h, k)
+
+file_plain : (what : FileShoot) (file : List ℕ) (dir : Option Dir) (numbers : List (Option ℤ)) (names : List (List ℕ)) → IsPlain (file_command what file dir numbers names)
+file_plain what file None numbers names = plain_syntax
+file_plain what file (Some dir) numbers names =
     let view : views.View = view_of dir numbers in
-    unless_plain (name_fault 2 file ∷ names_fault 10 1 names ∷ numbers_fault 4 1 numbers ∷ view_refusal view ∷ []) (Shoot (Picture file view names))
+    unless_plain (name_fault 2 file ∷ names_fault 10 1 names ∷ numbers_fault 4 1 numbers ∷ view_refusal view ∷ []) (file_shoot what file view names)
     (may_if (is_ok (read_name file)) (Name 2) (plain_name 2), (may_names 10 1 names, (may_number 4 1 numbers, (may_view view, tt))))
-    (λ all. (name_read 2 file all.0, record { one_line = names_plain 10 1 names all.1.0; checked = seen_whole view all.1.1.1.0 }))
+    (λ all. file_shoot_plain what file view names (name_read 2 file all.0) (record { one_line = names_plain 10 1 names all.1.0; checked = seen_whole view all.1.1.1.0 }))
 
-rt_plain : (atoms : List (List ℕ)) → IsPlain (rt_command atoms)
-rt_plain [] = plain_syntax
-rt_plain (a ∷ []) = plain_syntax
-rt_plain (a ∷ b ∷ []) = plain_syntax
-rt_plain (a ∷ b ∷ c ∷ []) = plain_syntax
-rt_plain (a ∷ b ∷ c ∷ d ∷ []) = plain_syntax
-rt_plain (a ∷ b ∷ c ∷ d ∷ e ∷ []) = plain_syntax
-rt_plain (a ∷ b ∷ c ∷ d ∷ e ∷ f ∷ []) = plain_syntax
-rt_plain (a ∷ b ∷ c ∷ d ∷ e ∷ f ∷ g ∷ []) = plain_syntax
-rt_plain (a ∷ b ∷ c ∷ d ∷ e ∷ f ∷ g ∷ h ∷ []) = plain_syntax
-rt_plain (file ∷ dir ∷ x ∷ y ∷ z ∷ cell ∷ w ∷ h ∷ name ∷ rest) = picture_plain file (direction_of dir) (view_numbers (x ∷ y ∷ z ∷ []) (cell ∷ w ∷ h ∷ [])) (name ∷ rest)
+filed_plain : (what : FileShoot) (atoms : List (List ℕ)) → IsPlain (filed_command what atoms)
+filed_plain what [] = plain_syntax
+filed_plain what (a ∷ []) = plain_syntax
+filed_plain what (a ∷ b ∷ []) = plain_syntax
+filed_plain what (a ∷ b ∷ c ∷ []) = plain_syntax
+filed_plain what (a ∷ b ∷ c ∷ d ∷ []) = plain_syntax
+filed_plain what (a ∷ b ∷ c ∷ d ∷ e ∷ []) = plain_syntax
+filed_plain what (a ∷ b ∷ c ∷ d ∷ e ∷ f ∷ []) = plain_syntax
+filed_plain what (a ∷ b ∷ c ∷ d ∷ e ∷ f ∷ g ∷ []) = plain_syntax
+filed_plain what (a ∷ b ∷ c ∷ d ∷ e ∷ f ∷ g ∷ h ∷ []) = plain_syntax
+filed_plain what (file ∷ dir ∷ x ∷ y ∷ z ∷ cell ∷ w ∷ h ∷ name ∷ rest) = file_plain what file (direction_of dir) (view_numbers (x ∷ y ∷ z ∷ []) (cell ∷ w ∷ h ∷ [])) (name ∷ rest)
 
-check_plain : (dir : Option Dir) (numbers : List (Option ℤ)) (names : List (List ℕ)) → IsPlain (check_command dir numbers names)
-check_plain None numbers names = plain_syntax
-check_plain (Some dir) numbers names =
+line_shoot_plain : (what : LineShoot) (view : views.View) (names : List (List ℕ)) → IsPlainView view names → IsPlain (line_shoot what view names)
+line_shoot_plain OfOverlaps view names h = h
+line_shoot_plain OfAreas view names h = h
+
+view_plain : (what : LineShoot) (dir : Option Dir) (numbers : List (Option ℤ)) (names : List (List ℕ)) → IsPlain (view_command what dir numbers names)
+view_plain what None numbers names = plain_syntax
+view_plain what (Some dir) numbers names =
     let view : views.View = view_of dir numbers in
-    unless_plain (names_fault 9 1 names ∷ numbers_fault 3 1 numbers ∷ view_refusal view ∷ []) (Shoot (Check view names))
+    unless_plain (names_fault 9 1 names ∷ numbers_fault 3 1 numbers ∷ view_refusal view ∷ []) (line_shoot what view names)
     (may_names 9 1 names, (may_number 3 1 numbers, (may_view view, tt)))
-    (λ all. record { one_line = names_plain 9 1 names all.0; checked = seen_whole view all.1.1.0 })
+    (λ all. line_shoot_plain what view names (record { one_line = names_plain 9 1 names all.0; checked = seen_whole view all.1.1.0 }))
 
-rtcheck_plain : (atoms : List (List ℕ)) → IsPlain (rtcheck_command atoms)
-rtcheck_plain [] = plain_syntax
-rtcheck_plain (a ∷ []) = plain_syntax
-rtcheck_plain (a ∷ b ∷ []) = plain_syntax
-rtcheck_plain (a ∷ b ∷ c ∷ []) = plain_syntax
-rtcheck_plain (a ∷ b ∷ c ∷ d ∷ []) = plain_syntax
-rtcheck_plain (a ∷ b ∷ c ∷ d ∷ e ∷ []) = plain_syntax
-rtcheck_plain (a ∷ b ∷ c ∷ d ∷ e ∷ f ∷ []) = plain_syntax
-rtcheck_plain (a ∷ b ∷ c ∷ d ∷ e ∷ f ∷ g ∷ []) = plain_syntax
-rtcheck_plain (dir ∷ x ∷ y ∷ z ∷ cell ∷ w ∷ h ∷ name ∷ rest) = check_plain (direction_of dir) (view_numbers (x ∷ y ∷ z ∷ []) (cell ∷ w ∷ h ∷ [])) (name ∷ rest)
+viewed_plain : (what : LineShoot) (atoms : List (List ℕ)) → IsPlain (viewed_command what atoms)
+viewed_plain what [] = plain_syntax
+viewed_plain what (a ∷ []) = plain_syntax
+viewed_plain what (a ∷ b ∷ []) = plain_syntax
+viewed_plain what (a ∷ b ∷ c ∷ []) = plain_syntax
+viewed_plain what (a ∷ b ∷ c ∷ d ∷ []) = plain_syntax
+viewed_plain what (a ∷ b ∷ c ∷ d ∷ e ∷ []) = plain_syntax
+viewed_plain what (a ∷ b ∷ c ∷ d ∷ e ∷ f ∷ []) = plain_syntax
+viewed_plain what (a ∷ b ∷ c ∷ d ∷ e ∷ f ∷ g ∷ []) = plain_syntax
+viewed_plain what (dir ∷ x ∷ y ∷ z ∷ cell ∷ w ∷ h ∷ name ∷ rest) = view_plain what (direction_of dir) (view_numbers (x ∷ y ∷ z ∷ []) (cell ∷ w ∷ h ∷ [])) (name ∷ rest)
 
 members_plain : (members : List (List ℕ)) → ArePlain members → ArePlain (names_of (map (entry_of U) members))
 members_plain [] h = tt
@@ -400,8 +427,11 @@ atom_plain : (word : List ℕ) (atoms : List (List ℕ)) → IsPlain (atom_comma
 atom_plain word atoms =
     either_plain (bytes_eq word (codes "in")) (in_command atoms) _ (in_plain atoms)
     (either_plain (bytes_eq word (codes "nirt")) (nirt_command atoms) _ (nirt_plain atoms)
-    (either_plain (bytes_eq word (codes "rt")) (rt_command atoms) _ (rt_plain atoms)
-    (either_plain (bytes_eq word (codes "rtcheck")) (rtcheck_command atoms) _ (rtcheck_plain atoms)
+    (either_plain (bytes_eq word (codes "nirtd")) (nirtd_command atoms) _ (nirtd_plain atoms)
+    (either_plain (bytes_eq word (codes "rt")) (filed_command OfPixels atoms) _ (filed_plain OfPixels atoms)
+    (either_plain (bytes_eq word (codes "rtcheck")) (viewed_command OfOverlaps atoms) _ (viewed_plain OfOverlaps atoms)
+    (either_plain (bytes_eq word (codes "rtarea")) (viewed_command OfAreas atoms) _ (viewed_plain OfAreas atoms)
+    (either_plain (bytes_eq word (codes "rtedge")) (filed_command OfEdges atoms) _ (filed_plain OfEdges atoms)
     (either_plain (bytes_eq word (codes "r")) (r_command atoms) _ (r_plain atoms)
     (either_plain (bytes_eq word (codes "g")) (g_command atoms) _ (g_plain atoms)
     (either_plain (bytes_eq word (codes "rm")) (rm_command atoms) _ (rm_plain atoms)
@@ -410,7 +440,7 @@ atom_plain word atoms =
     (either_plain (bytes_eq word (codes "ls")) (ls_command atoms) _ (ls_plain atoms)
     (either_plain (bytes_eq word (codes "l")) (l_command atoms) _ (l_plain atoms)
     (either_plain (bytes_eq word (codes "tree")) (tree_command atoms) _ (tree_plain atoms)
-    (either_plain (bytes_eq word (codes "save")) (save_command atoms) (Bad Syntax) (save_plain atoms) plain_syntax))))))))))))
+    (either_plain (bytes_eq word (codes "save")) (save_command atoms) (Bad Syntax) (save_plain atoms) plain_syntax)))))))))))))))
 
 atoms_plain : (word : List ℕ) (atoms : Option (List (List ℕ))) → IsPlain (with_atoms (atom_command word) atoms)
 atoms_plain word None = plain_syntax

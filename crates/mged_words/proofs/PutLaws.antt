@@ -20,7 +20,7 @@ use Rattle.word_values.specs.SolidForms.{made_as}
 use Rattle.word_values.specs.declared.solid_form.SolidForm.{SolidForm}
 use Rattle.word_values.specs.Groups.{words_of_tokens}
 use Rattle.word_values.specs.Trees as trees
-use Rattle.word_values.specs.Trees.{Given, given_leaves, has_name, has_placement, member_of, members_in, most_leaves, tree_with, tree_if, tree_of}
+use Rattle.word_values.specs.Trees.{Given, given_leaves, has_name, has_placement, member_of, members_in, most_leaves, tree_if, tree_of}
 use Rattle.word_values.specs.declared.tree.TreeFault.{TreeFault}
 use Rattle.word_values.specs.declared.tree.TreeFault.TheVariants as tree
 use Rattle.put_form.specs.Keeps.{is_text, word_text, key_text, kept_attr, has_form, is_named, unnamed_at, kept_or, kept_of}
@@ -28,7 +28,7 @@ use Rattle.put_form.specs.Pairs.{Pair, pairs_of}
 use Rattle.put_form.specs.Solids as solids
 use Rattle.put_form.specs.Combs as combs
 use Rattle.put_form.specs.Puts as puts
-use Rattle.put_form.specs.Puts.{Put, unless_fault, when, name_of, solid_put, solid_with, solid_of, comb_with, comb_of, kind_named, kind_put, is_put, put_of}
+use Rattle.put_form.specs.Puts.{Put, unless_fault, when, name_of, solid_put, solid_with, comb_with, kind_named, kind_put, is_put, put_of}
 use Rattle.put_form.specs.declared.fault.PutFault.{PutFault}
 use Rattle.put_form.specs.declared.fault.PutFault.TheVariants as faults
 use Rattle.put_form.specs.declared.kind.Kind.{Kind}

@@ -16,15 +16,16 @@ use Rattle.lattice_core.specs.Views.{IsChecked, answer_of, view_fault}
 use Rattle.lattice_core.proofs.Viewing.{checked_is, first_fault_is}
 use Rattle.command_set.specs.Lawful.{view_or_fault}
 use Rattle.command_set.specs.declared.command.Command.{Command}
-use Rattle.command_set.specs.declared.command.Command.TheVariants.{Bad, Shoot}
-use Rattle.command_set.specs.declared.command.Shoot.TheVariants.{Picture, Check}
+use Rattle.command_set.specs.declared.command.Command.TheVariants.{Bad}
 use Rattle.command_set.specs.declared.refusal.Refusal.{Refusal}
 use Rattle.command_set.specs.declared.refusal.Refusal.TheVariants.{Syntax, Number, View}
 use Rattle.word_values.specs.Kinds.{numbers_as, AllWithinKinds}
 use Rattle.word_values.specs.declared.atoms.NumberList.TheVariants as lists
 use Rattle.word_values.specs.Solids.{vector_at}
-use Rattle.mged_words.specs.Commands.{unless_refused, name_fault, names_fault, numbers_fault, cell_number, side_number, size_numbers, view_of, view_refusal, direction_of, picture_command, check_command, rt_command, rtcheck_command}
+use Rattle.mged_words.specs.Commands.{unless_refused, name_fault, names_fault, numbers_fault, cell_number, side_number, size_numbers, view_of, view_refusal, direction_of, file_shoot, file_command, filed_command, line_shoot, view_command, viewed_command}
 use Rattle.mged_words.specs.Readings.{or_refused, six_numbers, view_read, view_unless_fault}
+use Rattle.mged_words.specs.declared.views.FileShoot.{FileShoot}
+use Rattle.mged_words.specs.declared.views.LineShoot.{LineShoot}
 
 -- a view without a fault, or its fault as a refusal
 pub seen : (view v : views.View) (found : Option ViewFault) → Ok v ≡ view_or_fault view found → Ok v ≡ or_refused (option_map View found ∷ []) view
@@ -87,13 +88,13 @@ third_bad (a ∷ b ∷ c ∷ e ∷ more) word d cell w refusal n h k l is = absu
 
 -- ---- six numbers
 
-fault_first : (word : ℕ) (xs ys : List (Option ℤ)) (refusal : Refusal) → numbers_fault word 1 xs ≡ Some refusal → numbers_fault word 1 (xs ++ ys) ≡ Some refusal
+pub fault_first : (word : ℕ) (xs ys : List (Option ℤ)) (refusal : Refusal) → numbers_fault word 1 xs ≡ Some refusal → numbers_fault word 1 (xs ++ ys) ≡ Some refusal
 fault_first word [] ys refusal h = absurd cc
 fault_first word (None ∷ xs) ys refusal h = h
 fault_first word (Some n ∷ xs) ys refusal h = fault_first (word + 1) xs ys refusal h
 
-refused_by : (fault : Option Refusal) (refusal : Refusal) (rest : List (Option Refusal)) (view : views.View) → fault ≡ Some refusal → Err refusal ≡ or_refused (fault ∷ rest) view
-refused_by fault refusal rest view h = sym (ap (λ (o : Option Refusal). or_refused (o ∷ rest) view) h)
+pub refused_by : {T : Type 0} (fault : Option Refusal) (refusal : Refusal) (rest : List (Option Refusal)) (value : T) → fault ≡ Some refusal → Err refusal ≡ or_refused (fault ∷ rest) value
+refused_by {T} fault refusal rest value h = sym (ap (λ (o : Option Refusal). or_refused (o ∷ rest) value) h)
 
 six : (atoms : List (Bor (List ℕ))) → length atoms ≡ 6
     → six_numbers (map (λ (a : Bor (List ℕ)). a.now) atoms) ≡ numbers_as lists.Point (map (λ (a : Bor (List ℕ)). a.now) (take 3 atoms)) ++ size_numbers (map (λ (a : Bor (List ℕ)). a.now) (take (length atoms - 3) (drop 3 atoms)))
@@ -116,7 +117,7 @@ bad_corner word dir atoms refusal n h =
     let ys : List (Option ℤ) = size_numbers (map (λ (a : Bor (List ℕ)). a.now) (take (length atoms - 3) (drop 3 atoms))) in
     bad_numbers word dir (xs ++ ys) refusal (fault_first word xs ys refusal h) ∙ sym (ap (view_read word dir) (six atoms n))
 
-sizes_fault : (word : ℕ) (corner : List ℤ) (ys : List (Option ℤ)) (refusal : Refusal) → length corner ≡ 3 → numbers_fault (word + 3) 1 ys ≡ Some refusal → numbers_fault word 1 (map (λ (n : ℤ). Some n) corner ++ ys) ≡ Some refusal
+pub sizes_fault : (word : ℕ) (corner : List ℤ) (ys : List (Option ℤ)) (refusal : Refusal) → length corner ≡ 3 → numbers_fault (word + 3) 1 ys ≡ Some refusal → numbers_fault word 1 (map (λ (n : ℤ). Some n) corner ++ ys) ≡ Some refusal
 sizes_fault word (x ∷ y ∷ z ∷ []) ys refusal n h = let sum : word + 1 + 1 + 1 ≡ word + 3 = omega arith in ap (λ (m : ℕ). numbers_fault m 1 ys) sum ∙ h
 sizes_fault word [] ys refusal n h = absurd (omega (arith, n))
 sizes_fault word (x ∷ []) ys refusal n h = absurd (omega (arith, n))
@@ -162,120 +163,117 @@ corner_near (x ∷ y ∷ z ∷ v ∷ more) n all = absurd (omega (arith, n))
 
 -- ---- commands
 
--- what a view is refused for, its command is refused for
-or_bad : (faults : List (Option Refusal)) (view : views.View) (refusal : Refusal) (command : Command) → or_refused faults view ≡ Err refusal → Bad refusal ≡ unless_refused faults command
-or_bad [] view refusal command h = absurd cc
-or_bad (Some other ∷ rest) view refusal command h = cc
-or_bad (None ∷ rest) view refusal command h = or_bad rest view refusal command h
+-- what a ray or a view is refused for, its command is refused for
+pub or_bad : {T : Type 0} (faults : List (Option Refusal)) (value : T) (refusal : Refusal) (command : Command) → or_refused faults value ≡ Err refusal → Bad refusal ≡ unless_refused faults command
+or_bad {T} [] value refusal command h = absurd cc
+or_bad {T} (Some other ∷ rest) value refusal command h = cc
+or_bad {T} (None ∷ rest) value refusal command h = or_bad rest value refusal command h
 
-or_good : (faults : List (Option Refusal)) (view made : views.View) (of : views.View → Command) → or_refused faults view ≡ Ok made → of made ≡ unless_refused faults (of view)
-or_good [] view made of h = let same : made ≡ view = cc in ap of same
-or_good (Some other ∷ rest) view made of h = absurd cc
-or_good (None ∷ rest) view made of h = or_good rest view made of h
+pub or_good : {T : Type 0} (faults : List (Option Refusal)) (value made : T) (of : T → Command) → or_refused faults value ≡ Ok made → of made ≡ unless_refused faults (of value)
+or_good {T} [] value made of h = let same : made ≡ value = cc in ap of same
+or_good {T} (Some other ∷ rest) value made of h = absurd cc
+or_good {T} (None ∷ rest) value made of h = or_good rest value made of h
 
-past : (fault : Option Refusal) (faults : List (Option Refusal)) (command : Command) → fault ≡ None → unless_refused faults command ≡ unless_refused (fault ∷ faults) command
+pub past : (fault : Option Refusal) (faults : List (Option Refusal)) (command : Command) → fault ≡ None → unless_refused faults command ≡ unless_refused (fault ∷ faults) command
 past fault faults command h = sym (ap (λ (o : Option Refusal). unless_refused (o ∷ faults) command) h)
 
-at : (fault : Option Refusal) (faults : List (Option Refusal)) (refusal : Refusal) (command : Command) → fault ≡ Some refusal → Bad refusal ≡ unless_refused (fault ∷ faults) command
+pub at : (fault : Option Refusal) (faults : List (Option Refusal)) (refusal : Refusal) (command : Command) → fault ≡ Some refusal → Bad refusal ≡ unless_refused (fault ∷ faults) command
 at fault faults refusal command h = sym (ap (λ (o : Option Refusal). unless_refused (o ∷ faults) command) h)
 
 -- the faults of a view's numbers, and then the view's
 abbrev view_faults : ℕ → Dir → List (Option ℤ) → List (Option Refusal)
 view_faults word dir numbers = numbers_fault word 1 numbers ∷ view_refusal (view_of dir numbers) ∷ []
 
-abbrev pictured : List ℕ → List (List ℕ) → views.View → Command
-pictured file names view = Shoot (Picture file view names)
+pub file_bad : (what : FileShoot) (file : List ℕ) (dir : Dir) (numbers : List (Option ℤ)) (names : List (List ℕ)) (refusal : Refusal) → name_fault 2 file ≡ Some refusal → Bad refusal ≡ file_command what file (Some dir) numbers names
+file_bad what file dir numbers names refusal h = at (name_fault 2 file) (names_fault 10 1 names ∷ view_faults 4 dir numbers) refusal (file_shoot what file (view_of dir numbers) names) h
 
-abbrev looked : List (List ℕ) → views.View → Command
-looked names view = Shoot (Check view names)
+pub file_names : (what : FileShoot) (file : List ℕ) (dir : Dir) (numbers : List (Option ℤ)) (names : List (List ℕ)) (refusal : Refusal) → name_fault 2 file ≡ None → names_fault 10 1 names ≡ Some refusal
+    → Bad refusal ≡ file_command what file (Some dir) numbers names
+file_names what file dir numbers names refusal fine h =
+    at (names_fault 10 1 names) (view_faults 4 dir numbers) refusal (file_shoot what file (view_of dir numbers) names) h
+    ∙ past (name_fault 2 file) (names_fault 10 1 names ∷ view_faults 4 dir numbers) (file_shoot what file (view_of dir numbers) names) fine
 
-pub picture_file : (file : List ℕ) (dir : Dir) (numbers : List (Option ℤ)) (names : List (List ℕ)) (refusal : Refusal) → name_fault 2 file ≡ Some refusal → Bad refusal ≡ picture_command file (Some dir) numbers names
-picture_file file dir numbers names refusal h = at (name_fault 2 file) (names_fault 10 1 names ∷ view_faults 4 dir numbers) refusal (pictured file names (view_of dir numbers)) h
+past_names : (what : FileShoot) (file : List ℕ) (dir : Dir) (numbers : List (Option ℤ)) (names : List (List ℕ)) → name_fault 2 file ≡ None → names_fault 10 1 names ≡ None
+    → unless_refused (view_faults 4 dir numbers) (file_shoot what file (view_of dir numbers) names) ≡ file_command what file (Some dir) numbers names
+past_names what file dir numbers names fine k =
+    past (names_fault 10 1 names) (view_faults 4 dir numbers) (file_shoot what file (view_of dir numbers) names) k
+    ∙ past (name_fault 2 file) (names_fault 10 1 names ∷ view_faults 4 dir numbers) (file_shoot what file (view_of dir numbers) names) fine
 
-pub picture_names : (file : List ℕ) (dir : Dir) (numbers : List (Option ℤ)) (names : List (List ℕ)) (refusal : Refusal) → name_fault 2 file ≡ None → names_fault 10 1 names ≡ Some refusal → Bad refusal ≡ picture_command file (Some dir) numbers names
-picture_names file dir numbers names refusal fine h =
-    at (names_fault 10 1 names) (view_faults 4 dir numbers) refusal (pictured file names (view_of dir numbers)) h
-    ∙ past (name_fault 2 file) (names_fault 10 1 names ∷ view_faults 4 dir numbers) (pictured file names (view_of dir numbers)) fine
+pub file_view : (what : FileShoot) (file : List ℕ) (dir : Dir) (numbers : List (Option ℤ)) (names : List (List ℕ)) (refusal : Refusal) → name_fault 2 file ≡ None → names_fault 10 1 names ≡ None → view_read 4 dir numbers ≡ Err refusal
+    → Bad refusal ≡ file_command what file (Some dir) numbers names
+file_view what file dir numbers names refusal fine k h =
+    or_bad (view_faults 4 dir numbers) (view_of dir numbers) refusal (file_shoot what file (view_of dir numbers) names) h ∙ past_names what file dir numbers names fine k
 
-past_names : (file : List ℕ) (dir : Dir) (numbers : List (Option ℤ)) (names : List (List ℕ)) → name_fault 2 file ≡ None → names_fault 10 1 names ≡ None
-    → unless_refused (view_faults 4 dir numbers) (pictured file names (view_of dir numbers)) ≡ picture_command file (Some dir) numbers names
-past_names file dir numbers names fine k =
-    past (names_fault 10 1 names) (view_faults 4 dir numbers) (pictured file names (view_of dir numbers)) k
-    ∙ past (name_fault 2 file) (names_fault 10 1 names ∷ view_faults 4 dir numbers) (pictured file names (view_of dir numbers)) fine
+pub file_good : (what : FileShoot) (file : List ℕ) (dir : Dir) (numbers : List (Option ℤ)) (names : List (List ℕ)) (view : views.View) → name_fault 2 file ≡ None → names_fault 10 1 names ≡ None → view_read 4 dir numbers ≡ Ok view
+    → file_shoot what file view names ≡ file_command what file (Some dir) numbers names
+file_good what file dir numbers names view fine k h =
+    or_good (view_faults 4 dir numbers) (view_of dir numbers) view (λ (v : views.View). file_shoot what file v names) h ∙ past_names what file dir numbers names fine k
 
-pub picture_view : (file : List ℕ) (dir : Dir) (numbers : List (Option ℤ)) (names : List (List ℕ)) (refusal : Refusal) → name_fault 2 file ≡ None → names_fault 10 1 names ≡ None → view_read 4 dir numbers ≡ Err refusal
-    → Bad refusal ≡ picture_command file (Some dir) numbers names
-picture_view file dir numbers names refusal fine k h =
-    or_bad (view_faults 4 dir numbers) (view_of dir numbers) refusal (pictured file names (view_of dir numbers)) h ∙ past_names file dir numbers names fine k
+pub view_names : (what : LineShoot) (dir : Dir) (numbers : List (Option ℤ)) (names : List (List ℕ)) (refusal : Refusal) → names_fault 9 1 names ≡ Some refusal → Bad refusal ≡ view_command what (Some dir) numbers names
+view_names what dir numbers names refusal h = at (names_fault 9 1 names) (view_faults 3 dir numbers) refusal (line_shoot what (view_of dir numbers) names) h
 
-pub picture_good : (file : List ℕ) (dir : Dir) (numbers : List (Option ℤ)) (names : List (List ℕ)) (view : views.View) → name_fault 2 file ≡ None → names_fault 10 1 names ≡ None → view_read 4 dir numbers ≡ Ok view
-    → Shoot (Picture file view names) ≡ picture_command file (Some dir) numbers names
-picture_good file dir numbers names view fine k h = or_good (view_faults 4 dir numbers) (view_of dir numbers) view (pictured file names) h ∙ past_names file dir numbers names fine k
+pub view_bad : (what : LineShoot) (dir : Dir) (numbers : List (Option ℤ)) (names : List (List ℕ)) (refusal : Refusal) → names_fault 9 1 names ≡ None → view_read 3 dir numbers ≡ Err refusal → Bad refusal ≡ view_command what (Some dir) numbers names
+view_bad what dir numbers names refusal k h =
+    or_bad (view_faults 3 dir numbers) (view_of dir numbers) refusal (line_shoot what (view_of dir numbers) names) h
+    ∙ past (names_fault 9 1 names) (view_faults 3 dir numbers) (line_shoot what (view_of dir numbers) names) k
 
-pub check_names : (dir : Dir) (numbers : List (Option ℤ)) (names : List (List ℕ)) (refusal : Refusal) → names_fault 9 1 names ≡ Some refusal → Bad refusal ≡ check_command (Some dir) numbers names
-check_names dir numbers names refusal h = at (names_fault 9 1 names) (view_faults 3 dir numbers) refusal (looked names (view_of dir numbers)) h
+pub view_good : (what : LineShoot) (dir : Dir) (numbers : List (Option ℤ)) (names : List (List ℕ)) (view : views.View) → names_fault 9 1 names ≡ None → view_read 3 dir numbers ≡ Ok view
+    → line_shoot what view names ≡ view_command what (Some dir) numbers names
+view_good what dir numbers names view k h =
+    or_good (view_faults 3 dir numbers) (view_of dir numbers) view (λ (v : views.View). line_shoot what v names) h
+    ∙ past (names_fault 9 1 names) (view_faults 3 dir numbers) (line_shoot what (view_of dir numbers) names) k
 
-pub check_view : (dir : Dir) (numbers : List (Option ℤ)) (names : List (List ℕ)) (refusal : Refusal) → names_fault 9 1 names ≡ None → view_read 3 dir numbers ≡ Err refusal → Bad refusal ≡ check_command (Some dir) numbers names
-check_view dir numbers names refusal k h =
-    or_bad (view_faults 3 dir numbers) (view_of dir numbers) refusal (looked names (view_of dir numbers)) h
-    ∙ past (names_fault 9 1 names) (view_faults 3 dir numbers) (looked names (view_of dir numbers)) k
+-- ---- words behind the words of these commands
 
-pub check_good : (dir : Dir) (numbers : List (Option ℤ)) (names : List (List ℕ)) (view : views.View) → names_fault 9 1 names ≡ None → view_read 3 dir numbers ≡ Ok view → Shoot (Check view names) ≡ check_command (Some dir) numbers names
-check_good dir numbers names view k h =
-    or_good (view_faults 3 dir numbers) (view_of dir numbers) view (looked names) h
-    ∙ past (names_fault 9 1 names) (view_faults 3 dir numbers) (looked names (view_of dir numbers)) k
+pub filed_short : (what : FileShoot) (atoms : List (Bor (List ℕ))) → length atoms < 9 → Bad Syntax ≡ filed_command what (map (λ (a : Bor (List ℕ)). a.now) atoms)
+filed_short what [] lt = refl
+filed_short what (a ∷ []) lt = refl
+filed_short what (a ∷ b ∷ []) lt = refl
+filed_short what (a ∷ b ∷ c ∷ []) lt = refl
+filed_short what (a ∷ b ∷ c ∷ d ∷ []) lt = refl
+filed_short what (a ∷ b ∷ c ∷ d ∷ e ∷ []) lt = refl
+filed_short what (a ∷ b ∷ c ∷ d ∷ e ∷ f ∷ []) lt = refl
+filed_short what (a ∷ b ∷ c ∷ d ∷ e ∷ f ∷ g ∷ []) lt = refl
+filed_short what (a ∷ b ∷ c ∷ d ∷ e ∷ f ∷ g ∷ h ∷ []) lt = refl
+filed_short what (a ∷ b ∷ c ∷ d ∷ e ∷ f ∷ g ∷ h ∷ i ∷ rest) lt = absurd (omega (arith, lt))
 
--- ---- words behind `rt` and `rtcheck`
+pub filed_long : (what : FileShoot) (atoms : List (Bor (List ℕ))) (d : Bor (List ℕ)) → 9 ≤ length atoms
+    → filed_command what (map (λ (a : Bor (List ℕ)). a.now) atoms)
+    ≡ file_command what (get_or atoms 0 d).now (direction_of (get_or atoms 1 d).now) (six_numbers (map (λ (a : Bor (List ℕ)). a.now) (take 6 (drop 2 atoms)))) (map (λ (a : Bor (List ℕ)). a.now) (drop 8 atoms))
+filed_long what (a ∷ b ∷ c ∷ d ∷ e ∷ f ∷ g ∷ h ∷ i ∷ rest) x le = refl
+filed_long what [] x le = absurd (omega (arith, le))
+filed_long what (a ∷ []) x le = absurd (omega (arith, le))
+filed_long what (a ∷ b ∷ []) x le = absurd (omega (arith, le))
+filed_long what (a ∷ b ∷ c ∷ []) x le = absurd (omega (arith, le))
+filed_long what (a ∷ b ∷ c ∷ d ∷ []) x le = absurd (omega (arith, le))
+filed_long what (a ∷ b ∷ c ∷ d ∷ e ∷ []) x le = absurd (omega (arith, le))
+filed_long what (a ∷ b ∷ c ∷ d ∷ e ∷ f ∷ []) x le = absurd (omega (arith, le))
+filed_long what (a ∷ b ∷ c ∷ d ∷ e ∷ f ∷ g ∷ []) x le = absurd (omega (arith, le))
+filed_long what (a ∷ b ∷ c ∷ d ∷ e ∷ f ∷ g ∷ h ∷ []) x le = absurd (omega (arith, le))
 
-pub rt_short : (atoms : List (Bor (List ℕ))) → length atoms < 9 → Bad Syntax ≡ rt_command (map (λ (a : Bor (List ℕ)). a.now) atoms)
-rt_short [] lt = refl
-rt_short (a ∷ []) lt = refl
-rt_short (a ∷ b ∷ []) lt = refl
-rt_short (a ∷ b ∷ c ∷ []) lt = refl
-rt_short (a ∷ b ∷ c ∷ d ∷ []) lt = refl
-rt_short (a ∷ b ∷ c ∷ d ∷ e ∷ []) lt = refl
-rt_short (a ∷ b ∷ c ∷ d ∷ e ∷ f ∷ []) lt = refl
-rt_short (a ∷ b ∷ c ∷ d ∷ e ∷ f ∷ g ∷ []) lt = refl
-rt_short (a ∷ b ∷ c ∷ d ∷ e ∷ f ∷ g ∷ h ∷ []) lt = refl
-rt_short (a ∷ b ∷ c ∷ d ∷ e ∷ f ∷ g ∷ h ∷ i ∷ rest) lt = absurd (omega (arith, lt))
+pub viewed_short : (what : LineShoot) (atoms : List (Bor (List ℕ))) → length atoms < 8 → Bad Syntax ≡ viewed_command what (map (λ (a : Bor (List ℕ)). a.now) atoms)
+viewed_short what [] lt = refl
+viewed_short what (a ∷ []) lt = refl
+viewed_short what (a ∷ b ∷ []) lt = refl
+viewed_short what (a ∷ b ∷ c ∷ []) lt = refl
+viewed_short what (a ∷ b ∷ c ∷ d ∷ []) lt = refl
+viewed_short what (a ∷ b ∷ c ∷ d ∷ e ∷ []) lt = refl
+viewed_short what (a ∷ b ∷ c ∷ d ∷ e ∷ f ∷ []) lt = refl
+viewed_short what (a ∷ b ∷ c ∷ d ∷ e ∷ f ∷ g ∷ []) lt = refl
+viewed_short what (a ∷ b ∷ c ∷ d ∷ e ∷ f ∷ g ∷ h ∷ rest) lt = absurd (omega (arith, lt))
 
-pub rt_long : (atoms : List (Bor (List ℕ))) (d : Bor (List ℕ)) → 9 ≤ length atoms
-    → rt_command (map (λ (a : Bor (List ℕ)). a.now) atoms)
-    ≡ picture_command (get_or atoms 0 d).now (direction_of (get_or atoms 1 d).now) (six_numbers (map (λ (a : Bor (List ℕ)). a.now) (take 6 (drop 2 atoms)))) (map (λ (a : Bor (List ℕ)). a.now) (drop 8 atoms))
-rt_long (a ∷ b ∷ c ∷ d ∷ e ∷ f ∷ g ∷ h ∷ i ∷ rest) x le = refl
-rt_long [] x le = absurd (omega (arith, le))
-rt_long (a ∷ []) x le = absurd (omega (arith, le))
-rt_long (a ∷ b ∷ []) x le = absurd (omega (arith, le))
-rt_long (a ∷ b ∷ c ∷ []) x le = absurd (omega (arith, le))
-rt_long (a ∷ b ∷ c ∷ d ∷ []) x le = absurd (omega (arith, le))
-rt_long (a ∷ b ∷ c ∷ d ∷ e ∷ []) x le = absurd (omega (arith, le))
-rt_long (a ∷ b ∷ c ∷ d ∷ e ∷ f ∷ []) x le = absurd (omega (arith, le))
-rt_long (a ∷ b ∷ c ∷ d ∷ e ∷ f ∷ g ∷ []) x le = absurd (omega (arith, le))
-rt_long (a ∷ b ∷ c ∷ d ∷ e ∷ f ∷ g ∷ h ∷ []) x le = absurd (omega (arith, le))
-
-pub rtcheck_short : (atoms : List (Bor (List ℕ))) → length atoms < 8 → Bad Syntax ≡ rtcheck_command (map (λ (a : Bor (List ℕ)). a.now) atoms)
-rtcheck_short [] lt = refl
-rtcheck_short (a ∷ []) lt = refl
-rtcheck_short (a ∷ b ∷ []) lt = refl
-rtcheck_short (a ∷ b ∷ c ∷ []) lt = refl
-rtcheck_short (a ∷ b ∷ c ∷ d ∷ []) lt = refl
-rtcheck_short (a ∷ b ∷ c ∷ d ∷ e ∷ []) lt = refl
-rtcheck_short (a ∷ b ∷ c ∷ d ∷ e ∷ f ∷ []) lt = refl
-rtcheck_short (a ∷ b ∷ c ∷ d ∷ e ∷ f ∷ g ∷ []) lt = refl
-rtcheck_short (a ∷ b ∷ c ∷ d ∷ e ∷ f ∷ g ∷ h ∷ rest) lt = absurd (omega (arith, lt))
-
-pub rtcheck_long : (atoms : List (Bor (List ℕ))) (d : Bor (List ℕ)) → 8 ≤ length atoms
-    → rtcheck_command (map (λ (a : Bor (List ℕ)). a.now) atoms)
-    ≡ check_command (direction_of (get_or atoms 0 d).now) (six_numbers (map (λ (a : Bor (List ℕ)). a.now) (take 6 (drop 1 atoms)))) (map (λ (a : Bor (List ℕ)). a.now) (drop 7 atoms))
-rtcheck_long (a ∷ b ∷ c ∷ d ∷ e ∷ f ∷ g ∷ h ∷ rest) x le = refl
-rtcheck_long [] x le = absurd (omega (arith, le))
-rtcheck_long (a ∷ []) x le = absurd (omega (arith, le))
-rtcheck_long (a ∷ b ∷ []) x le = absurd (omega (arith, le))
-rtcheck_long (a ∷ b ∷ c ∷ []) x le = absurd (omega (arith, le))
-rtcheck_long (a ∷ b ∷ c ∷ d ∷ []) x le = absurd (omega (arith, le))
-rtcheck_long (a ∷ b ∷ c ∷ d ∷ e ∷ []) x le = absurd (omega (arith, le))
-rtcheck_long (a ∷ b ∷ c ∷ d ∷ e ∷ f ∷ []) x le = absurd (omega (arith, le))
-rtcheck_long (a ∷ b ∷ c ∷ d ∷ e ∷ f ∷ g ∷ []) x le = absurd (omega (arith, le))
+pub viewed_long : (what : LineShoot) (atoms : List (Bor (List ℕ))) (d : Bor (List ℕ)) → 8 ≤ length atoms
+    → viewed_command what (map (λ (a : Bor (List ℕ)). a.now) atoms)
+    ≡ view_command what (direction_of (get_or atoms 0 d).now) (six_numbers (map (λ (a : Bor (List ℕ)). a.now) (take 6 (drop 1 atoms)))) (map (λ (a : Bor (List ℕ)). a.now) (drop 7 atoms))
+viewed_long what (a ∷ b ∷ c ∷ d ∷ e ∷ f ∷ g ∷ h ∷ rest) x le = refl
+viewed_long what [] x le = absurd (omega (arith, le))
+viewed_long what (a ∷ []) x le = absurd (omega (arith, le))
+viewed_long what (a ∷ b ∷ []) x le = absurd (omega (arith, le))
+viewed_long what (a ∷ b ∷ c ∷ []) x le = absurd (omega (arith, le))
+viewed_long what (a ∷ b ∷ c ∷ d ∷ []) x le = absurd (omega (arith, le))
+viewed_long what (a ∷ b ∷ c ∷ d ∷ e ∷ []) x le = absurd (omega (arith, le))
+viewed_long what (a ∷ b ∷ c ∷ d ∷ e ∷ f ∷ []) x le = absurd (omega (arith, le))
+viewed_long what (a ∷ b ∷ c ∷ d ∷ e ∷ f ∷ g ∷ []) x le = absurd (omega (arith, le))
 
 -- ---- a view that was checked is one without a fault
 
@@ -283,7 +281,7 @@ ok_none : (found : Option ViewFault) → IsOk (answer_of found) → found ≡ No
 ok_none None h = refl
 ok_none (Some fault) h = absurd cc
 
-none_found : (found : Option ViewFault) → option_map View found ≡ None → found ≡ None
+pub none_found : (found : Option ViewFault) → option_map View found ≡ None → found ≡ None
 none_found None h = refl
 none_found (Some fault) h = absurd cc
 

@@ -1,9 +1,8 @@
 -- Which command a line is, or the refusal that it is answered as it stands. All of a line's form is looked at first, then
 -- its names, its numbers, the ray or the view, and the solid.
-use Rattle.std.specs.Prelude.{ℕ, ℤ, pos, negsuc, Bool, false, ◌&&◌, ◌==◌, ◌+◌, ◌++◌, List, [], ◌∷◌, Option, Some, None, Result, Ok, Err, is_ok, is_none, unwrap_or, map, length, codes, bytes_eq, nat_le, if◌then◌else◌}
+use Rattle.std.specs.Prelude.{ℕ, ℤ, pos, negsuc, Bool, false, ◌==◌, ◌+◌, ◌++◌, List, [], ◌∷◌, Option, Some, None, Result, Ok, Err, is_ok, is_none, unwrap_or, map, length, codes, bytes_eq, nat_le, if◌then◌else◌}
 use Rattle.std.specs.Option.{option_map}
 use Rattle.std.specs.Int.RustNames.{unsigned_abs}
-use Rattle.lattice_core.specs.declared.limit.TheConstants.{WORLD}
 use Rattle.lattice_core.specs.declared.ray.Dir.{Dir}
 use Rattle.lattice_core.specs.declared.ray.Dir.TheVariants.{PlusX, MinusX, PlusY, MinusY, PlusZ, MinusZ}
 use Rattle.lattice_core.specs.declared.ray.Ray.{Ray}
@@ -11,6 +10,9 @@ use Rattle.lattice_core.specs.declared.vector.V3.{V3}
 use Rattle.lattice_core.specs.declared.view.View as views
 use Rattle.lattice_core.specs.Views.{view_fault}
 use Rattle.lattice_core.specs.declared.placement.Placement.{Placement}
+use Rattle.slant_ray.specs.declared.ray.TheConstants.{STEP}
+use Rattle.slant_ray.specs.declared.ray.SlantRay.{SlantRay}
+use Rattle.slant_ray.specs.Rays.{is_from_world, slant_fault}
 use Rattle.name_core.specs.NameText.{read_name}
 use Rattle.tcl_words.specs.Reading.{words_of}
 use Rattle.tcl_words.specs.TopWords.{top_words, atom_of}
@@ -30,8 +32,8 @@ use Rattle.object_set.specs.Objects.{Parts}
 use Rattle.command_set.specs.declared.command.Command.{Command}
 use Rattle.command_set.specs.declared.command.Command.TheVariants.{Bad, Edit, Query, Shoot}
 use Rattle.command_set.specs.declared.command.Edit.TheVariants.{Make, Region, Group, Remove, Kill, RenameAll, Place, Title, Keep, Set}
-use Rattle.command_set.specs.declared.command.Query.TheVariants.{List as Lines, Names, Tree, Save, Shot}
-use Rattle.command_set.specs.declared.command.Shoot.TheVariants.{Picture, Check}
+use Rattle.command_set.specs.declared.command.Query.TheVariants.{List as Lines, Names, Tree, Save, Shot, Slant}
+use Rattle.command_set.specs.declared.command.Shoot.TheVariants.{Picture, Check, Area, Edge}
 use Rattle.command_set.specs.declared.refusal.Refusal.{Refusal}
 use Rattle.command_set.specs.declared.refusal.Refusal.TheVariants.{Syntax, Name, Number, View, Shape}
 use Rattle.lattice_core.specs.declared.view.ViewFault.TheVariants.{World}
@@ -47,6 +49,10 @@ use Rattle.put_form.specs.Pairs.{pairs_of}
 use Rattle.put_form.specs.Puts.{Put as PutRead, put_of}
 use Rattle.put_form.specs.declared.fault.PutFault.{PutFault}
 use Rattle.put_form.specs.declared.fault.PutFault.TheVariants as put
+use Rattle.mged_words.specs.declared.views.FileShoot.{FileShoot}
+use Rattle.mged_words.specs.declared.views.FileShoot.TheVariants.{OfPixels, OfEdges}
+use Rattle.mged_words.specs.declared.views.LineShoot.{LineShoot}
+use Rattle.mged_words.specs.declared.views.LineShoot.TheVariants.{OfOverlaps, OfAreas}
 
 -- the first refusal that holds, else the command
 abbrev pub unless_refused : List (Option Refusal) → Command → Command
@@ -104,12 +110,6 @@ direction_of word =
     else (if bytes_eq word (codes "+z") then Some PlusZ
     else (if bytes_eq word (codes "-z") then Some MinusZ else None)))))
 
-abbrev pub is_in_world : ℤ → Bool
-is_in_world c = nat_le (unsigned_abs c) (unsigned_abs WORLD)
-
-abbrev pub is_from_world : V3 → Bool
-is_from_world origin = is_in_world origin.x && is_in_world origin.y && is_in_world origin.z
-
 -- a ray starts in the world
 abbrev pub world_fault : V3 → Option Refusal
 world_fault origin = if is_from_world origin then None else Some (View World)
@@ -130,6 +130,36 @@ shot_command numbers (Some dir) names =
 abbrev pub nirt_command : List (List ℕ) → Command
 nirt_command (x ∷ y ∷ z ∷ dir ∷ name ∷ rest) = shot_command (numbers_as lists.Point (x ∷ y ∷ z ∷ [])) (direction_of dir) (name ∷ rest)
 nirt_command _ = Bad Syntax
+
+abbrev pub within_step : Option ℤ → Option ℤ
+within_step None = None
+within_step (Some n) = if nat_le (unsigned_abs n) (unsigned_abs STEP) then Some n else None
+
+-- a component of a lattice direction: a whole number, of at most STEP in size
+abbrev pub step_number : List ℕ → Option ℤ
+step_number atom = within_step (number_as plain_kind atom)
+
+-- `X Y Z` of an origin, and then `DX DY DZ`
+abbrev pub slant_numbers : List (List ℕ) → List (List ℕ) → List (Option ℤ)
+slant_numbers origin steps = numbers_as lists.Point origin ++ map step_number steps
+
+-- the ray of such numbers
+abbrev pub slant_by : List (Option ℤ) → SlantRay
+slant_by numbers = record { origin = vector_at numbers 0; x = nth_number numbers 3; y = nth_number numbers 4; z = nth_number numbers 5 }
+
+-- the first fault of a ray in a lattice direction
+unfoldable pub slant_refusal : SlantRay → Option Refusal
+slant_refusal ray = option_map View (slant_fault ray)
+
+-- the numbers of such a ray, and names
+abbrev pub slant_command : List (Option ℤ) → List (List ℕ) → Command
+slant_command numbers names =
+    unless_refused (names_fault 8 1 names ∷ numbers_fault 2 1 numbers ∷ slant_refusal (slant_by numbers) ∷ []) (Query (Slant (slant_by numbers) names))
+
+-- `nirtd X Y Z DX DY DZ NAME ..`
+abbrev pub nirtd_command : List (List ℕ) → Command
+nirtd_command (x ∷ y ∷ z ∷ dx ∷ dy ∷ dz ∷ name ∷ rest) = slant_command (slant_numbers (x ∷ y ∷ z ∷ []) (dx ∷ dy ∷ dz ∷ [])) (name ∷ rest)
+nirtd_command _ = Bad Syntax
 
 abbrev pub from_zero : Option ℤ → Option ℤ
 from_zero None = None
@@ -167,28 +197,54 @@ view_of dir numbers = record {
 unfoldable pub view_refusal : views.View → Option Refusal
 view_refusal view = option_map View (view_fault view)
 
--- `rt FILE DIR`, the numbers of a view, and names
-abbrev pub picture_command : List ℕ → Option Dir → List (Option ℤ) → List (List ℕ) → Command
-picture_command file None numbers names = Bad Syntax
-picture_command file (Some dir) numbers names =
-    unless_refused (name_fault 2 file ∷ names_fault 10 1 names ∷ numbers_fault 4 1 numbers ∷ view_refusal (view_of dir numbers) ∷ []) (Shoot (Picture file (view_of dir numbers) names))
+-- what a line with a file and a view asks for: the picture, or that of the edges
+abbrev pub file_shoot : FileShoot → List ℕ → views.View → List (List ℕ) → Command
+file_shoot OfPixels file view names = Shoot (Picture file view names)
+file_shoot OfEdges file view names = Shoot (Edge file view names)
+
+-- the word of the command, a file and `DIR`, the numbers of a view, and names
+abbrev pub file_command : FileShoot → List ℕ → Option Dir → List (Option ℤ) → List (List ℕ) → Command
+file_command what file None numbers names = Bad Syntax
+file_command what file (Some dir) numbers names =
+    unless_refused (name_fault 2 file ∷ names_fault 10 1 names ∷ numbers_fault 4 1 numbers ∷ view_refusal (view_of dir numbers) ∷ []) (file_shoot what file (view_of dir numbers) names)
+
+-- behind the word: `FILE DIR X Y Z CELL W H NAME ..`
+abbrev pub filed_command : FileShoot → List (List ℕ) → Command
+filed_command what (file ∷ dir ∷ x ∷ y ∷ z ∷ cell ∷ w ∷ h ∷ name ∷ rest) =
+    file_command what file (direction_of dir) (view_numbers (x ∷ y ∷ z ∷ []) (cell ∷ w ∷ h ∷ [])) (name ∷ rest)
+filed_command what _ = Bad Syntax
 
 -- `rt FILE DIR X Y Z CELL W H NAME ..`
 abbrev pub rt_command : List (List ℕ) → Command
-rt_command (file ∷ dir ∷ x ∷ y ∷ z ∷ cell ∷ w ∷ h ∷ name ∷ rest) =
-    picture_command file (direction_of dir) (view_numbers (x ∷ y ∷ z ∷ []) (cell ∷ w ∷ h ∷ [])) (name ∷ rest)
-rt_command _ = Bad Syntax
+rt_command atoms = filed_command OfPixels atoms
 
--- `rtcheck DIR`, the numbers of a view, and names
-abbrev pub check_command : Option Dir → List (Option ℤ) → List (List ℕ) → Command
-check_command None numbers names = Bad Syntax
-check_command (Some dir) numbers names =
-    unless_refused (names_fault 9 1 names ∷ numbers_fault 3 1 numbers ∷ view_refusal (view_of dir numbers) ∷ []) (Shoot (Check (view_of dir numbers) names))
+-- `rtedge FILE DIR X Y Z CELL W H NAME ..`
+abbrev pub rtedge_command : List (List ℕ) → Command
+rtedge_command atoms = filed_command OfEdges atoms
+
+-- what a line with a view and no file asks for: the overlaps, or the areas
+abbrev pub line_shoot : LineShoot → views.View → List (List ℕ) → Command
+line_shoot OfOverlaps view names = Shoot (Check view names)
+line_shoot OfAreas view names = Shoot (Area view names)
+
+-- the word of the command and `DIR`, the numbers of a view, and names
+abbrev pub view_command : LineShoot → Option Dir → List (Option ℤ) → List (List ℕ) → Command
+view_command what None numbers names = Bad Syntax
+view_command what (Some dir) numbers names =
+    unless_refused (names_fault 9 1 names ∷ numbers_fault 3 1 numbers ∷ view_refusal (view_of dir numbers) ∷ []) (line_shoot what (view_of dir numbers) names)
+
+-- behind the word: `DIR X Y Z CELL W H NAME ..`
+abbrev pub viewed_command : LineShoot → List (List ℕ) → Command
+viewed_command what (dir ∷ x ∷ y ∷ z ∷ cell ∷ w ∷ h ∷ name ∷ rest) = view_command what (direction_of dir) (view_numbers (x ∷ y ∷ z ∷ []) (cell ∷ w ∷ h ∷ [])) (name ∷ rest)
+viewed_command what _ = Bad Syntax
 
 -- `rtcheck DIR X Y Z CELL W H NAME ..`
 abbrev pub rtcheck_command : List (List ℕ) → Command
-rtcheck_command (dir ∷ x ∷ y ∷ z ∷ cell ∷ w ∷ h ∷ name ∷ rest) = check_command (direction_of dir) (view_numbers (x ∷ y ∷ z ∷ []) (cell ∷ w ∷ h ∷ [])) (name ∷ rest)
-rtcheck_command _ = Bad Syntax
+rtcheck_command atoms = viewed_command OfOverlaps atoms
+
+-- `rtarea DIR X Y Z CELL W H NAME ..`
+abbrev pub rtarea_command : List (List ℕ) → Command
+rtarea_command atoms = viewed_command OfAreas atoms
 
 abbrev pub operator_of : List ℕ → Option Op
 operator_of word =
@@ -381,8 +437,11 @@ abbrev pub atom_command : List ℕ → List (List ℕ) → Command
 atom_command word atoms =
     if bytes_eq word (codes "in") then in_command atoms
     else (if bytes_eq word (codes "nirt") then nirt_command atoms
+    else (if bytes_eq word (codes "nirtd") then nirtd_command atoms
     else (if bytes_eq word (codes "rt") then rt_command atoms
     else (if bytes_eq word (codes "rtcheck") then rtcheck_command atoms
+    else (if bytes_eq word (codes "rtarea") then rtarea_command atoms
+    else (if bytes_eq word (codes "rtedge") then rtedge_command atoms
     else (if bytes_eq word (codes "r") then r_command atoms
     else (if bytes_eq word (codes "g") then g_command atoms
     else (if bytes_eq word (codes "rm") then rm_command atoms
@@ -391,7 +450,7 @@ atom_command word atoms =
     else (if bytes_eq word (codes "ls") then ls_command atoms
     else (if bytes_eq word (codes "l") then l_command atoms
     else (if bytes_eq word (codes "tree") then tree_command atoms
-    else (if bytes_eq word (codes "save") then save_command atoms else Bad Syntax))))))))))))
+    else (if bytes_eq word (codes "save") then save_command atoms else Bad Syntax)))))))))))))))
 
 -- a command by its own word and the words that follow it
 abbrev pub named_command : List ℕ → List Token → Word → List Word → List ℕ → Command

@@ -10,12 +10,12 @@ use Rattle.solid_set.specs.declared.solid.Solid.TheVariants as solids
 use Rattle.transcript.specs.Merge.{entry}
 use Rattle.command_set.specs.declared.command.Command.TheVariants.{Bad, Edit, Query, Shoot}
 use Rattle.command_set.specs.declared.command.Edit.TheVariants.{Make, Region, Group, Remove, Kill, RenameAll, Place, Title, Keep, Set}
-use Rattle.command_set.specs.declared.command.Query.TheVariants.{List as Lines, Names, Save, Shot}
-use Rattle.command_set.specs.declared.command.Shoot.TheVariants.{Picture, Check}
+use Rattle.command_set.specs.declared.command.Query.TheVariants.{List as Lines, Names, Save, Shot, Slant}
+use Rattle.command_set.specs.declared.command.Shoot.TheVariants.{Picture, Check, Area, Edge}
 use Rattle.command_set.specs.declared.refusal.Refusal.TheVariants.{Syntax, Name, Number, View, Shape}
-use Rattle.lattice_core.specs.declared.view.ViewFault.TheVariants.{Pixels, Side, Cell, World}
+use Rattle.lattice_core.specs.declared.view.ViewFault.TheVariants.{Pixels, Side, Cell, Direction, World}
 use Rattle.mged_words.specs.declared.script.ScriptFlaw.TheVariants as flaws
-use Rattle.mged_words.specs.Commands.{command_of, entry_of, ray_of, solid_object, view_refusal}
+use Rattle.mged_words.specs.Commands.{command_of, entry_of, ray_of, slant_refusal, solid_object, view_refusal}
 use Rattle.word_values.specs.Matrices.{identity}
 use Rattle.mged_words.specs.OneLine.{line_of, member_words}
 use Rattle.mged_words.specs.Order.{first_refusal, names_of_line, numbers_of_line, wanted_of_line}
@@ -104,6 +104,42 @@ a_shot_between = refl
 -- a shot at several names, in the order of the line; one may be given twice
 pub a_shot_at_three : command_of (codes "nirt 1 2 3 -x s {t} s") ≡ Query (Shot (ray_of (vector (pos 10) (pos 20) (pos 30)) MinusX) (codes "s" ∷ codes "t" ∷ codes "s" ∷ []))
 a_shot_at_three = refl
+
+-- a ray in a lattice direction; a component may have zeros behind its point
+pub a_slanted_shot : command_of (codes "nirtd -3 0 0.5 1 -4 2.0 s t") ≡ Query (Slant (record { origin = vector (negsuc 29) (pos 0) (pos 5); x = pos 1; y = negsuc 3; z = pos 2 }) (codes "s" ∷ codes "t" ∷ []))
+unfolding slant_refusal
+a_slanted_shot = refl
+
+pub a_common_divisor : command_of (codes "nirtd 0 0 0 2 2 0 s") ≡ Bad (View Direction)
+unfolding slant_refusal
+a_common_divisor = refl
+
+pub no_direction : command_of (codes "nirtd 0 0 0 0 0 0 s") ≡ Bad (View Direction)
+unfolding slant_refusal
+no_direction = refl
+
+pub direction_before_world : command_of (codes "nirtd 524289 0 0 2 2 0 s") ≡ Bad (View Direction)
+unfolding slant_refusal
+direction_before_world = refl
+
+pub slanted_from_outside : command_of (codes "nirtd 524289 0 0 1 2 0 s") ≡ Bad (View World)
+unfolding slant_refusal
+slanted_from_outside = refl
+
+pub a_long_step : command_of (codes "nirtd 0 0 0 5 0 0 s") ≡ Bad (Number 5)
+a_long_step = refl
+
+pub a_long_step_back : command_of (codes "nirtd 0 0 0 1 1 -5 s") ≡ Bad (Number 7)
+a_long_step_back = refl
+
+pub a_step_between : command_of (codes "nirtd 0 0 0 0 0.5 1 s") ≡ Bad (Number 6)
+a_step_between = refl
+
+pub names_before_steps : command_of (codes "nirtd 0 0 0 5 0 0 s a/b") ≡ Bad (Name 9)
+names_before_steps = refl
+
+pub slanted_at_nothing : command_of (codes "nirtd 0 0 0 1 0 0") ≡ Bad Syntax
+slanted_at_nothing = refl
 
 pub a_shot_at_nothing : command_of (codes "nirt 1 2 3 -x") ≡ Bad Syntax
 a_shot_at_nothing = refl
@@ -376,6 +412,25 @@ pub a_check : command_of (codes "rtcheck -z -1105 1104 1500 10 222 200 all s") �
 unfolding view_refusal
 a_check = refl
 
+-- the areas of regions, and the picture of the edges between them, in the same view
+pub an_area : command_of (codes "rtarea -z -1105 1104 1500 10 222 200 all s") ≡ Shoot (Area (view (negsuc 11049) (pos 11040) (pos 15000) MinusZ (pos 100) 222 200) (codes "all" ∷ codes "s" ∷ []))
+unfolding view_refusal
+an_area = refl
+
+pub an_edge_picture : command_of (codes "rtedge cup.ppm -z -1105 1104 1500 10 222 200 all {s}") ≡ Shoot (Edge (codes "cup.ppm") (view (negsuc 11049) (pos 11040) (pos 15000) MinusZ (pos 100) 222 200) (codes "all" ∷ codes "s" ∷ []))
+unfolding view_refusal
+an_edge_picture = refl
+
+pub area_without_a_cell : command_of (codes "rtarea -z 0 15 100 0 32 16 a") ≡ Bad (View Cell)
+unfolding view_refusal
+area_without_a_cell = refl
+
+pub edges_without_a_file : command_of (codes "rtedge +x 0 0 0 1 1 1 s") ≡ Bad Syntax
+edges_without_a_file = refl
+
+pub file_of_edges : command_of (codes "rtedge f/ +x a 0 0 1 1 1 s/") ≡ Bad (Name 2)
+file_of_edges = refl
+
 -- each has at least one name
 pub picture_of_nothing : command_of (codes "rt f +x 0 0 0 1 1 1") ≡ Bad Syntax
 picture_of_nothing = refl
@@ -576,11 +631,20 @@ names_of_a_region = refl
 pub names_of_a_shot : names_of_line (codes "nirt x 0 0 +x s {t}") ≡ (6, codes "s") ∷ (7, codes "t") ∷ []
 names_of_a_shot = refl
 
+pub names_of_a_slanted_shot : names_of_line (codes "nirtd x 0 0 1 1 9 s {t}") ≡ (8, codes "s") ∷ (9, codes "t") ∷ []
+names_of_a_slanted_shot = refl
+
 pub names_of_a_picture : names_of_line (codes "rt f/ +x 0 0 0 1 1 1 s {t}") ≡ (2, codes "f/") ∷ (10, codes "s") ∷ (11, codes "t") ∷ []
 names_of_a_picture = refl
 
 pub names_of_a_check : names_of_line (codes "rtcheck +x 0 0 0 1 1 1 s") ≡ (9, codes "s") ∷ []
 names_of_a_check = refl
+
+pub names_of_an_area : names_of_line (codes "rtarea +x 0 0 0 1 1 1 s") ≡ (9, codes "s") ∷ []
+names_of_an_area = refl
+
+pub names_of_an_edge_picture : names_of_line (codes "rtedge f/ +x 0 0 0 1 1 1 s") ≡ (2, codes "f/") ∷ (10, codes "s") ∷ []
+names_of_an_edge_picture = refl
 
 -- those of a tree all have the number of its word
 pub names_of_a_combination : names_of_line (codes "put c comb id x tree {u {l a} {l b/}}") ≡ (2, codes "c") ∷ (7, codes "a") ∷ (7, codes "b/") ∷ []

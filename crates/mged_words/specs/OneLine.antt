@@ -4,6 +4,7 @@ use Rattle.std.specs.List.{AllByRecursion}
 use Rattle.lattice_core.specs.declared.ray.Dir.{Dir}
 use Rattle.lattice_core.specs.declared.ray.Dir.TheVariants.{PlusX, MinusX, PlusY, MinusY, PlusZ, MinusZ}
 use Rattle.lattice_core.specs.declared.view.View.{View}
+use Rattle.slant_ray.specs.declared.ray.SlantRay.{SlantRay}
 use Rattle.name_core.specs.NameText.{IsName}
 use Rattle.tcl_words.specs.Bytes.{is_atom}
 use Rattle.tcl_words.specs.Faults.{is_bad_at}
@@ -76,3 +77,10 @@ pub record AreViewNumbers (x y z cell w h : List ℕ) (view : View) : Type 0 whe
   pub read_cell : number_as point_kind cell ≡ Some view.cell
   pub read_columns : number_as plain_kind w ≡ Some (pos view.w)
   pub read_rows : number_as plain_kind h ≡ Some (pos view.h)
+
+-- words that are read as the numbers of a ray in a lattice direction: `X Y Z` of its origin, and then `DX DY DZ`
+pub record AreSlantNumbers (x y z dx dy dz : List ℕ) (ray : SlantRay) : Type 0 where
+  pub read_origin : AreNumbers lists.Point (x ∷ y ∷ z ∷ []) (ray.origin.x ∷ ray.origin.y ∷ ray.origin.z ∷ [])
+  pub read_x : number_as plain_kind dx ≡ Some ray.x
+  pub read_y : number_as plain_kind dy ≡ Some ray.y
+  pub read_z : number_as plain_kind dz ≡ Some ray.z

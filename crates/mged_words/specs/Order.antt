@@ -41,7 +41,8 @@ use Rattle.command_set.specs.declared.refusal.Refusal.{Refusal}
 use Rattle.command_set.specs.declared.refusal.Refusal.TheVariants.{Syntax, Name, Number, View, Shape}
 use Rattle.lattice_core.specs.declared.view.ViewFault.{ViewFault}
 use Rattle.lattice_core.specs.declared.view.ViewFault.TheVariants.{World}
-use Rattle.mged_words.specs.Commands.{direction_of, is_from_world, matrix_step, matrix_words, view_numbers, view_of}
+use Rattle.slant_ray.specs.Rays.{is_from_world, slant_fault}
+use Rattle.mged_words.specs.Commands.{direction_of, matrix_step, matrix_words, slant_by, slant_numbers, view_numbers, view_of}
 
 -- words with their numbers, which are counted from one on by steps
 abbrev pub numbered : ℕ → ℕ → List (List ℕ) → List (ℕ × List ℕ)
@@ -109,30 +110,41 @@ abbrev pub nirt_wanted : List (List ℕ) → Wanted
 nirt_wanted (x ∷ y ∷ z ∷ dir ∷ names) = shot_wanted (numbers_as lists.Point (x ∷ y ∷ z ∷ [])) names
 nirt_wanted _ = nothing
 
+abbrev pub slant_wanted : List (Option ℤ) → List (List ℕ) → Wanted
+slant_wanted numbers names = record { names = numbered 8 1 names; numbers = ranged 2 1 numbers; view = slant_fault (slant_by numbers); shape = None }
+
+-- `nirtd X Y Z DX DY DZ NAME ..`
+abbrev pub nirtd_wanted : List (List ℕ) → Wanted
+nirtd_wanted (x ∷ y ∷ z ∷ dx ∷ dy ∷ dz ∷ names) = slant_wanted (slant_numbers (x ∷ y ∷ z ∷ []) (dx ∷ dy ∷ dz ∷ [])) names
+nirtd_wanted _ = nothing
+
 -- the names of a line and the numbers of its view, of which the first has this word
 abbrev pub view_wanted : ℕ → List (ℕ × List ℕ) → Option Dir → List (Option ℤ) → Wanted
 view_wanted word names None numbers = nothing
 view_wanted word names (Some dir) numbers = record { names = names; numbers = ranged word 1 numbers; view = view_fault (view_of dir numbers); shape = None }
 
--- `rt FILE DIR X Y Z CELL W H NAME ..`
+-- `rt FILE DIR X Y Z CELL W H NAME ..`, and the same of `rtedge`
 abbrev pub rt_wanted : List (List ℕ) → Wanted
 rt_wanted (file ∷ dir ∷ x ∷ y ∷ z ∷ cell ∷ w ∷ h ∷ names) =
     view_wanted 4 ((2, file) ∷ numbered 10 1 names) (direction_of dir) (view_numbers (x ∷ y ∷ z ∷ []) (cell ∷ w ∷ h ∷ []))
 rt_wanted _ = nothing
 
--- `rtcheck DIR X Y Z CELL W H NAME ..`
+-- `rtcheck DIR X Y Z CELL W H NAME ..`, and the same of `rtarea`
 abbrev pub rtcheck_wanted : List (List ℕ) → Wanted
 rtcheck_wanted (dir ∷ x ∷ y ∷ z ∷ cell ∷ w ∷ h ∷ names) = view_wanted 3 (numbered 9 1 names) (direction_of dir) (view_numbers (x ∷ y ∷ z ∷ []) (cell ∷ w ∷ h ∷ []))
 rtcheck_wanted _ = nothing
 
--- behind the word of a command whose words are all atoms: the four above, `r NAME OP MEMBER ..`, or names alone
+-- behind the word of a command whose words are all atoms: those above, `r NAME OP MEMBER ..`, or names alone
 abbrev pub wanted_behind : List ℕ → List (List ℕ) → Wanted
 wanted_behind word atoms =
     if bytes_eq word (codes "in") then in_wanted atoms
     else (if bytes_eq word (codes "nirt") then nirt_wanted atoms
+    else (if bytes_eq word (codes "nirtd") then nirtd_wanted atoms
     else (if bytes_eq word (codes "rt") then rt_wanted atoms
     else (if bytes_eq word (codes "rtcheck") then rtcheck_wanted atoms
-    else (if bytes_eq word (codes "r") then names_alone (numbered 2 2 (every_second atoms)) else names_alone (numbered 2 1 atoms)))))
+    else (if bytes_eq word (codes "rtarea") then rtcheck_wanted atoms
+    else (if bytes_eq word (codes "rtedge") then rt_wanted atoms
+    else (if bytes_eq word (codes "r") then names_alone (numbered 2 2 (every_second atoms)) else names_alone (numbered 2 1 atoms))))))))
 
 abbrev pub wanted_of_atoms : List ℕ → Option (List (List ℕ)) → Wanted
 wanted_of_atoms word None = nothing

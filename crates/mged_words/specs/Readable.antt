@@ -7,6 +7,8 @@ use Rattle.lattice_core.specs.declared.view.View.{View}
 use Rattle.lattice_core.specs.declared.limit.TheConstants.{WORLD}
 use Rattle.lattice_core.specs.Limits.{IsWithin}
 use Rattle.lattice_core.specs.Views.{IsChecked}
+use Rattle.slant_ray.specs.declared.ray.SlantRay.{SlantRay}
+use Rattle.slant_ray.specs.Rays as slants
 use Rattle.name_core.specs.declared.name.Name.{Name}
 use Rattle.comb_tree.specs.Changes.{names_of}
 use Rattle.object_set.specs.Objects.{Parts, member_names}
@@ -21,7 +23,7 @@ use Rattle.command_set.specs.declared.command.Edit.TheVariants.{Make, Region, Gr
 use Rattle.command_set.specs.declared.command.Query.{Query}
 use Rattle.command_set.specs.declared.command.Query.TheVariants as queries
 use Rattle.command_set.specs.declared.command.Shoot.{Shoot}
-use Rattle.command_set.specs.declared.command.Shoot.TheVariants.{Picture, Check}
+use Rattle.command_set.specs.declared.command.Shoot.TheVariants.{Picture, Check, Area, Edge}
 use Rattle.command_set.specs.declared.refusal.Refusal.{Refusal}
 
 -- a refusal without a line feed, that is not `memory`
@@ -59,12 +61,18 @@ pub record IsPlainShot (ray : Ray) (names : List Name) : Type 0 where
   pub one_line : ArePlain names
   pub in_world : IsWithin WORLD ray.origin
 
+-- a shot in a lattice direction without a fault
+pub record IsPlainSlant (ray : SlantRay) (names : List Name) : Type 0 where
+  pub one_line : ArePlain names
+  pub checked : slants.IsChecked ray
+
 abbrev pub IsPlainQuery : Query → Type 0
 IsPlainQuery (queries.List names) = ArePlain names
 IsPlainQuery queries.Names = Unit {0}
 IsPlainQuery (queries.Tree names) = ArePlain names
 IsPlainQuery (queries.Save file) = Lacks 10 file
 IsPlainQuery (queries.Shot ray names) = IsPlainShot ray names
+IsPlainQuery (queries.Slant ray names) = IsPlainSlant ray names
 
 -- names shot at from a view that was checked
 pub record IsPlainView (view : View) (names : List Name) : Type 0 where
@@ -74,6 +82,8 @@ pub record IsPlainView (view : View) (names : List Name) : Type 0 where
 abbrev pub IsPlainShoot : Shoot → Type 0
 IsPlainShoot (Picture file view names) = Lacks 10 file × IsPlainView view names
 IsPlainShoot (Check view names) = IsPlainView view names
+IsPlainShoot (Area view names) = IsPlainView view names
+IsPlainShoot (Edge file view names) = Lacks 10 file × IsPlainView view names
 
 abbrev pub IsPlain : Command → Type 0
 IsPlain (Bad refusal) = IsPlainRefusal refusal

@@ -3,6 +3,7 @@ use Rattle.std.specs.Prelude.{◌≡◌, ℕ, ℤ, List, [], ◌∷◌, Option, 
 use Rattle.lattice_core.specs.declared.placement.Placement.{Placement}
 use Rattle.lattice_core.specs.declared.ray.Dir.{Dir}
 use Rattle.lattice_core.specs.declared.view.View.{View}
+use Rattle.slant_ray.specs.declared.ray.SlantRay.{SlantRay}
 use Rattle.word_values.specs.Matrices.{placement_read, identity}
 use Rattle.region_attr.specs.Attrs.{is_setting}
 use Rattle.region_attr.specs.Keys.{key_of}
@@ -13,7 +14,7 @@ use Rattle.command_set.specs.declared.command.Command.{Command}
 use Rattle.command_set.specs.declared.command.Command.TheVariants.{Bad}
 use Rattle.command_set.specs.declared.refusal.Refusal.{Refusal}
 use Rattle.put_form.specs.declared.fault.PutFault.{PutFault}
-use Rattle.mged_words.specs.Commands.{refusal_of_put, numbers_fault, placement_fault, view_numbers, view_of, view_refusal}
+use Rattle.mged_words.specs.Commands.{refusal_of_put, numbers_fault, placement_fault, slant_by, slant_numbers, slant_refusal, view_numbers, view_of, view_refusal}
 use Rattle.mged_words.specs.Entries.{command_entry}
 use Rattle.mged_words.specs.Scripts.{script_of}
 use Rattle.mged_words.specs.declared.command.ScriptCommand.{ScriptCommand}
@@ -60,6 +61,14 @@ view_unless_fault view = or_refused (view_refusal view ∷ []) view
 -- the view of six numbers, of which the first has this word
 abbrev pub view_read : ℕ → Dir → List (Option ℤ) → Result View Refusal
 view_read word dir numbers = or_refused (numbers_fault word 1 numbers ∷ view_refusal (view_of dir numbers) ∷ []) (view_of dir numbers)
+
+-- the six numbers of a ray in a lattice direction, of which the first three are those of its origin
+abbrev pub six_steps : List (List ℕ) → List (Option ℤ)
+six_steps atoms = slant_numbers (take 3 atoms) (drop 3 atoms)
+
+-- the ray of six numbers, of which the first is word 2
+abbrev pub slant_read : List (Option ℤ) → Result SlantRay Refusal
+slant_read numbers = or_refused (numbers_fault 2 1 numbers ∷ slant_refusal (slant_by numbers) ∷ []) (slant_by numbers)
 
 -- what a call gave is the setting of a key and a value, or why there is none
 abbrev pub IsSettingRead : Result KeyAndValue AttrFault → List ℕ → List ℕ → Type 0

@@ -20,8 +20,10 @@ ghost use Rattle.command_set.specs.declared.command.Command.TheVariants as comma
 ghost use Rattle.command_set.specs.declared.command.Edit.TheVariants as edits;
 ghost use Rattle.command_set.specs.declared.command.Query.TheVariants as queries;
 ghost use Rattle.command_set.specs.declared.command.Shoot.TheVariants as shoots;
+ghost use Rattle.slant_ray.specs.declared.ray.SlantRay.{SlantRay};
+ghost use Rattle.slant_ray.specs.Rays.{IsChecked as IsCheckedSlant};
 ghost use Rattle.mged_words.specs.Commands.{command_of, entry_of, ray_of, solid_object};
-ghost use Rattle.mged_words.specs.OneLine.{AreMembers, AreNames, AreNumbers, AreViewNumbers, IsAtom, Member, direction_word, line_of, member_words, new_entry};
+ghost use Rattle.mged_words.specs.OneLine.{AreMembers, AreNames, AreNumbers, AreSlantNumbers, AreViewNumbers, IsAtom, Member, direction_word, line_of, member_words, new_entry};
 ghost use Rattle.mged_words.specs.Order.{TellsFirst, TellsNames, names_of_line, wanted_of_line};
 ghost use Rattle.mged_words.specs.declared.script.TheConstants.{LINE_COUNT, LINE_SIZE, SCRIPT_SIZE};
 
@@ -59,6 +61,9 @@ pub fn each_with_numbers_has_a_line()
     ensures shot { (x y z : List ℕ) (origin : V3) (dir : Dir) (first : List ℕ) (rest : List (List ℕ)) → AreNumbers lists.Point (x ∷ y ∷ z ∷ []) (origin.x ∷ origin.y ∷ origin.z ∷ []) → IsWithin WORLD origin → AreNames (first ∷ rest) → command_of (line_of (codes "nirt") (x ∷ y ∷ z ∷ direction_word dir ∷ first ∷ rest)) ≡ command.Query (queries.Shot (ray_of origin dir) (first ∷ rest)) }
     ensures picture { (file x y z cell w h : List ℕ) (view : View) (first : List ℕ) (rest : List (List ℕ)) → IsName file → AreViewNumbers x y z cell w h view → IsChecked view → AreNames (first ∷ rest) → command_of (line_of (codes "rt") (file ∷ direction_word view.dir ∷ x ∷ y ∷ z ∷ cell ∷ w ∷ h ∷ first ∷ rest)) ≡ command.Shoot (shoots.Picture file view (first ∷ rest)) }
     ensures check { (x y z cell w h : List ℕ) (view : View) (first : List ℕ) (rest : List (List ℕ)) → AreViewNumbers x y z cell w h view → IsChecked view → AreNames (first ∷ rest) → command_of (line_of (codes "rtcheck") (direction_word view.dir ∷ x ∷ y ∷ z ∷ cell ∷ w ∷ h ∷ first ∷ rest)) ≡ command.Shoot (shoots.Check view (first ∷ rest)) }
+    ensures slant { (x y z dx dy dz : List ℕ) (ray : SlantRay) (first : List ℕ) (rest : List (List ℕ)) → AreSlantNumbers x y z dx dy dz ray → IsCheckedSlant ray → AreNames (first ∷ rest) → command_of (line_of (codes "nirtd") (x ∷ y ∷ z ∷ dx ∷ dy ∷ dz ∷ first ∷ rest)) ≡ command.Query (queries.Slant ray (first ∷ rest)) }
+    ensures area { (x y z cell w h : List ℕ) (view : View) (first : List ℕ) (rest : List (List ℕ)) → AreViewNumbers x y z cell w h view → IsChecked view → AreNames (first ∷ rest) → command_of (line_of (codes "rtarea") (direction_word view.dir ∷ x ∷ y ∷ z ∷ cell ∷ w ∷ h ∷ first ∷ rest)) ≡ command.Shoot (shoots.Area view (first ∷ rest)) }
+    ensures edge { (file x y z cell w h : List ℕ) (view : View) (first : List ℕ) (rest : List (List ℕ)) → IsName file → AreViewNumbers x y z cell w h view → IsChecked view → AreNames (first ∷ rest) → command_of (line_of (codes "rtedge") (file ∷ direction_word view.dir ∷ x ∷ y ∷ z ∷ cell ∷ w ∷ h ∷ first ∷ rest)) ≡ command.Shoot (shoots.Edge file view (first ∷ rest)) }
     ensures place { (comb member : List ℕ) (words : List (List ℕ)) (placement : Placement) → IsName comb → IsName member → placement_read (numbers_as lists.Matrix words) ≡ Some placement → command_of (line_of (codes "place") (comb ∷ member ∷ words)) ≡ command.Edit (edits.Place comb member placement) }
     ensures set { (name key value : List ℕ) → IsName name → IsTrue (is_setting key value) → IsAtom value → command_of (line_of (codes "cattr") (name ∷ key ∷ value ∷ [])) ≡ command.Edit (edits.Set name (record { key = key; value = value })) }
 {}

@@ -22,9 +22,9 @@ use crate::make::in_command;
 use crate::place::place_command;
 use crate::put::put_command;
 use crate::setting::cattr_command;
-use crate::shot::nirt_command;
+use crate::shot::{nirt_command, nirtd_command};
 use crate::title::title_command;
-use crate::views::{rt_command, rtcheck_command};
+use crate::views::{FileShoot, LineShoot, filed_command, viewed_command};
 use command_set::{Command, Refusal};
 use item_list::Items;
 use memory_core::Memory;
@@ -42,10 +42,16 @@ fn atom_command(alloc: Global, word: &[u8], atoms: &[&[u8]]) -> Result<Command, 
         in_command(alloc, atoms)
     } else if is_word(word, b"nirt") {
         nirt_command(alloc, atoms)
+    } else if is_word(word, b"nirtd") {
+        nirtd_command(alloc, atoms)
     } else if is_word(word, b"rt") {
-        rt_command(alloc, atoms)
+        filed_command(alloc, FileShoot::OfPixels, atoms)
     } else if is_word(word, b"rtcheck") {
-        rtcheck_command(alloc, atoms)
+        viewed_command(alloc, LineShoot::OfOverlaps, atoms)
+    } else if is_word(word, b"rtarea") {
+        viewed_command(alloc, LineShoot::OfAreas, atoms)
+    } else if is_word(word, b"rtedge") {
+        filed_command(alloc, FileShoot::OfEdges, atoms)
     } else if is_word(word, b"r") {
         r_command(alloc, atoms)
     } else if is_word(word, b"g") {

@@ -1,18 +1,21 @@
 //! Reads the commands that shoot rays.
-ghost use Rattle.std.specs.Prelude.{◌≡◌, ◌<◌, ◌^◌, length, map, Some, IfOk};
+ghost use Rattle.std.specs.Prelude.{◌≡◌, ◌<◌, ◌^◌, length, map, None, Some, IfErr, IfOk};
+ghost use Rattle.lattice_core.specs.Limits.{IsAtMost};
+ghost use Rattle.slant_ray.specs.declared.ray.TheConstants.{STEP};
 ghost use Rattle.word_values.specs.Kinds.{numbers_as};
 ghost use Rattle.word_values.specs.declared.atoms.NumberList.TheVariants as lists;
 ghost use Rattle.mged_words.specs.Commands as commands;
-ghost use Rattle.mged_words.specs.Readings.{IsRead};
+ghost use Rattle.mged_words.specs.Readings.{IsRead, six_steps, slant_read};
 
 use crate::atoms::read_numbers;
 use crate::fault::LineFault;
 use crate::names::read_names;
-use command_set::{Command, NameList, Query, Refusal, ViewFault, WorldRay};
+use command_set::{CheckedSlant, Command, NameList, Query, Refusal, ViewFault, WorldRay};
 use lattice_core::{Dir, Ray};
+use slant_ray::{STEP, SlantRay};
 use std::alloc::Global;
 use tcl_words::is_word;
-use word_values::{NumberList, vector_at};
+use word_values::{NumberList, plain_kind, vector_at};
 
 pub(crate) fn direction(word: &[u8]) -> Option<Dir>
     ensures { result ≡ commands.direction_of word.now }
@@ -77,4 +80,50 @@ pub(crate) fn nirt_command(alloc: Global, atoms: &[&[u8]]) -> Result<Command, Li
         Some(dir) => shot_command(alloc, &atoms[..3], dir, &atoms[4..]),
         None => Err(LineFault::Refused(Refusal::Syntax)),
     }
+}
+
+/// Reads a component of a lattice direction, the word of this number.
+fn read_step(atom: &[u8], word: u32) -> Result<i8, Refusal>
+    ensures step { IfOk result (λ step. commands.step_number atom.now ≡ Some step) }
+    ensures within { IfOk result (λ step. IsAtMost STEP step) }
+    ensures none { IfErr result (λ _. commands.step_number atom.now ≡ None) }
+    ensures fault { IfErr result (λ refusal. refusal ≡ Refusal.Number word) }
+{
+    match plain_kind().read(atom) {
+        Some(step) if -STEP <= step && step <= STEP => Ok(step as i8),
+        _ => Err(Refusal::Number(word)),
+    }
+}
+
+/// Reads `X Y Z DX DY DZ`, the numbers of a ray in a lattice direction. The words are counted from 2.
+fn read_slant(atoms: &[&[u8]]) -> Result<CheckedSlant, Refusal>
+    requires { length atoms.now ≡ 6 }
+    ensures { result ≡ slant_read (six_steps (map (λ a. a.now) atoms.now)) }
+{
+    let mut numbers = [0; 3];
+    if let Some(refusal) = read_numbers(&atoms[..3], 2, NumberList::Point, &mut numbers) {
+        return Err(refusal);
+    }
+    let x = read_step(atoms[3], 5)?;
+    let y = read_step(atoms[4], 6)?;
+    let z = read_step(atoms[5], 7)?;
+    let origin = vector_at(&numbers, 0);
+    match CheckedSlant::of_ray(SlantRay { origin, x, y, z }) {
+        Ok(ray) => Ok(ray),
+        Err(fault) => Err(Refusal::View(fault)),
+    }
+}
+
+/// Reads what follows `nirtd`: `X Y Z DX DY DZ NAME ..`.
+#[inline(never)]
+pub(crate) fn nirtd_command(alloc: Global, atoms: &[&[u8]]) -> Result<Command, LineFault>
+    requires { length atoms.now < 2 ^ 31 }
+    ensures { IsRead result (commands.nirtd_command (map (λ a. a.now) atoms.now)) }
+{
+    if atoms.len() < 7 {
+        return Err(LineFault::Refused(Refusal::Syntax));
+    }
+    let names = NameList::of_vec(read_names(alloc, &atoms[6..], 8)?);
+    let ray = read_slant(&atoms[..6])?;
+    Ok(Command::Query(Query::Slant { ray, names }))
 }

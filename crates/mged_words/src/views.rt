@@ -11,6 +11,7 @@ use crate::names::{read_name, read_names};
 use crate::shot::direction;
 use command_set::{CheckedView, Command, NameList, Refusal, Shoot};
 use lattice_core::{Dir, View};
+use name_core::Name;
 use std::alloc::Global;
 use word_values::{NumberList, plain_kind, point_kind, vector_at};
 
@@ -93,9 +94,52 @@ fn read_view(dir: Dir, atoms: &[&[u8]], word: u32) -> Result<CheckedView, Refusa
     })
 }
 
-/// Reads `rt FILE DIR X Y Z CELL W H NAME ..`, with the direction read.
-fn picture_command(
+/// What a line with a file and a view asks for.
+#[derive(Clone, Copy)]
+pub(crate) enum FileShoot {
+    /// A picture.
+    OfPixels,
+    /// The picture of edges.
+    OfEdges,
+}
+
+impl FileShoot {
+    /// The command that asks for it.
+    fn command(self, file: Name, view: CheckedView, names: NameList) -> Command
+        ensures { result ≡ commands.file_shoot self file view names }
+    {
+        match self {
+            FileShoot::OfPixels => Command::Shoot(Shoot::Picture { file, view, names }),
+            FileShoot::OfEdges => Command::Shoot(Shoot::Edge { file, view, names }),
+        }
+    }
+}
+
+/// What a line with a view and no file asks for.
+#[derive(Clone, Copy)]
+pub(crate) enum LineShoot {
+    /// The overlaps.
+    OfOverlaps,
+    /// The areas.
+    OfAreas,
+}
+
+impl LineShoot {
+    /// The command that asks for it.
+    fn command(self, view: CheckedView, names: NameList) -> Command
+        ensures { result ≡ commands.line_shoot self view names }
+    {
+        match self {
+            LineShoot::OfOverlaps => Command::Shoot(Shoot::Check { view, names }),
+            LineShoot::OfAreas => Command::Shoot(Shoot::Area { view, names }),
+        }
+    }
+}
+
+/// Reads `FILE DIR X Y Z CELL W H NAME ..`, with the direction read.
+fn file_command(
     alloc: Global,
+    what: FileShoot,
     file: &[u8],
     dir: Dir,
     numbers: &[&[u8]],
@@ -103,56 +147,65 @@ fn picture_command(
 ) -> Result<Command, LineFault>
     requires six { length numbers.now ≡ 6 }
     requires few { length names.now < 2 ^ 31 }
-    ensures { IsRead result (commands.picture_command file.now (Some dir) (six_numbers (map (λ a. a.now) numbers.now)) (map (λ a. a.now) names.now)) }
+    ensures { IsRead result (commands.file_command what file.now (Some dir) (six_numbers (map (λ a. a.now) numbers.now)) (map (λ a. a.now) names.now)) }
 {
     let file = read_name(file, 2)?;
     let names = NameList::of_vec(read_names(alloc, names, 10)?);
     let view = read_view(dir, numbers, 4)?;
-    Ok(Command::Shoot(Shoot::Picture { file, view, names }))
+    Ok(what.command(file, view, names))
 }
 
-/// Reads `rtcheck DIR X Y Z CELL W H NAME ..`, with the direction read.
-fn check_command(
+/// Reads `DIR X Y Z CELL W H NAME ..`, with the direction read.
+fn view_command(
     alloc: Global,
+    what: LineShoot,
     dir: Dir,
     numbers: &[&[u8]],
     names: &[&[u8]],
 ) -> Result<Command, LineFault>
     requires six { length numbers.now ≡ 6 }
     requires few { length names.now < 2 ^ 31 }
-    ensures { IsRead result (commands.check_command (Some dir) (six_numbers (map (λ a. a.now) numbers.now)) (map (λ a. a.now) names.now)) }
+    ensures { IsRead result (commands.view_command what (Some dir) (six_numbers (map (λ a. a.now) numbers.now)) (map (λ a. a.now) names.now)) }
 {
     let names = NameList::of_vec(read_names(alloc, names, 9)?);
     let view = read_view(dir, numbers, 3)?;
-    Ok(Command::Shoot(Shoot::Check { view, names }))
+    Ok(what.command(view, names))
 }
 
-/// Reads what follows `rt`: `FILE DIR X Y Z CELL W H NAME ..`.
+/// Reads what follows `rt` and `rtedge`: `FILE DIR X Y Z CELL W H NAME ..`.
 #[inline(never)]
-pub(crate) fn rt_command(alloc: Global, atoms: &[&[u8]]) -> Result<Command, LineFault>
+pub(crate) fn filed_command(
+    alloc: Global,
+    what: FileShoot,
+    atoms: &[&[u8]],
+) -> Result<Command, LineFault>
     requires { length atoms.now < 2 ^ 31 }
-    ensures { IsRead result (commands.rt_command (map (λ a. a.now) atoms.now)) }
+    ensures { IsRead result (commands.filed_command what (map (λ a. a.now) atoms.now)) }
 {
     if atoms.len() < 9 {
         return Err(LineFault::Refused(Refusal::Syntax));
     }
     match direction(atoms[1]) {
-        Some(dir) => picture_command(alloc, atoms[0], dir, &atoms[2..8], &atoms[8..]),
+        Some(dir) => file_command(alloc, what, atoms[0], dir, &atoms[2..8], &atoms[8..]),
         None => Err(LineFault::Refused(Refusal::Syntax)),
     }
 }
 
-/// Reads what follows `rtcheck`: `DIR X Y Z CELL W H NAME ..`.
+/// Reads what follows `rtcheck` and `rtarea`: `DIR X Y Z CELL W H NAME ..`.
 #[inline(never)]
-pub(crate) fn rtcheck_command(alloc: Global, atoms: &[&[u8]]) -> Result<Command, LineFault>
+pub(crate) fn viewed_command(
+    alloc: Global,
+    what: LineShoot,
+    atoms: &[&[u8]],
+) -> Result<Command, LineFault>
     requires { length atoms.now < 2 ^ 31 }
-    ensures { IsRead result (commands.rtcheck_command (map (λ a. a.now) atoms.now)) }
+    ensures { IsRead result (commands.viewed_command what (map (λ a. a.now) atoms.now)) }
 {
     if atoms.len() < 8 {
         return Err(LineFault::Refused(Refusal::Syntax));
     }
     match direction(atoms[0]) {
-        Some(dir) => check_command(alloc, dir, &atoms[1..7], &atoms[7..]),
+        Some(dir) => view_command(alloc, what, dir, &atoms[1..7], &atoms[7..]),
         None => Err(LineFault::Refused(Refusal::Syntax)),
     }
 }

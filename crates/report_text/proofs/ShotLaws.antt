@@ -15,7 +15,7 @@ use Rattle.shot_core.specs.Regions.{Region, IsPathText}
 use Rattle.shot_core.specs.declared.shot.Lit.{Lit}
 use Rattle.report_text.specs.Shots.{part_line, line_in}
 
-either_lacks : (b : Bool) (xs ys : List ℕ) → Lacks 10 xs → Lacks 10 ys → Lacks 10 (cond b xs ys)
+pub either_lacks : (b : Bool) (xs ys : List ℕ) → Lacks 10 xs → Lacks 10 ys → Lacks 10 (cond b xs ys)
 either_lacks true xs ys h k = h
 either_lacks false xs ys h k = k
 

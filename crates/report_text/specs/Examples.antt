@@ -1,14 +1,17 @@
--- The lines of small directories, of single shots and of overlaps, proved by computation.
-use Rattle.std.specs.Prelude.{◌≡◌, refl, ℕ, pos, negsuc, List, [], ◌∷◌, None, Some, true, false, codes}
+-- The lines of small directories, of single shots, of overlaps and of areas, proved by computation.
+use Rattle.std.specs.Prelude.{◌≡◌, ◌-◌, refl, ℕ, pos, negsuc, List, [], ◌∷◌, None, Some, true, false, codes, slice_index_or}
 use Rattle.std.specs.Fmt.{digits}
 use Rattle.surd_order.specs.declared.position.Pos.{Pos}
 use Rattle.surd_order.specs.declared.position.Pos.TheVariants.{Frac, Surd}
+use Rattle.surd_quot.specs.declared.position.QPos.{QPos}
+use Rattle.surd_quot.specs.declared.position.QPos.TheVariants as quotient
 use Rattle.solid_set.specs.declared.solid.Solid.{Solid as AnySolid}
 use Rattle.region_attr.specs.Attrs.{region_attr, group_attr}
 use Rattle.object_set.specs.declared.object.Body.TheVariants.{Solid, Comb}
 use Rattle.overlap_list.specs.declared.hit.Hit.{Hit}
 use Rattle.shot_core.specs.Regions.{RegionBody, Region}
 use Rattle.shot_core.specs.declared.shot.Lit.{Lit}
+use Rattle.oblique_ray.specs.declared.slab.Slab.{Slab}
 use Rattle.tree_forms.specs.declared.Op.TheVariants.{U, N, Minus, X}
 use Rattle.tree_forms.specs.Trees.{Tree, Leaf, Join}
 use Rattle.lattice_core.specs.declared.placement.Placement.{Placement}
@@ -17,6 +20,8 @@ use Rattle.directory.specs.Walks.{Entries}
 use Rattle.report_text.specs.Listings.{listings, written_lines}
 use Rattle.report_text.specs.Names.{names_lines}
 use Rattle.report_text.specs.Shots.{shot_lines}
+use Rattle.report_text.specs.Slants.{slant_lines}
+use Rattle.report_text.specs.Areas.{area_lines}
 use Rattle.report_text.specs.Overlaps.{overlap_lines}
 
 no_lines : names_lines [] ≡ []
@@ -54,6 +59,51 @@ module _ (body : RegionBody) (hit : Hit) where
       ≡ codes "5 /b#1 0 5" ∷ codes "2 /a 5 10+sqrt(23)" ∷ []
   unfolding digits
   two_lines = refl
+
+-- a part of a ray in a lattice direction, by what its line tells
+abbrev slab_of : ℕ → QPos → QPos → Slab
+slab_of region start end = record { region = region; start = start; end = end }
+
+abbrev ray_start : QPos
+ray_start = quotient.Frac (pos 0) (pos 1)
+
+-- rays in lattice directions, whatever the regions' bodies are
+module _ (body : RegionBody) where
+  nothing_met_aslant : slant_lines (region_at body 1 (codes "/s") ∷ []) [] ≡ []
+  nothing_met_aslant = refl
+
+  a_fraction : slant_lines (region_at body 1 (codes "/w") ∷ []) (slab_of 0 ray_start (quotient.Frac (pos 40) (pos 1)) ∷ []) ≡ codes "1 /w 0 40" ∷ []
+  unfolding digits
+  a_fraction = refl
+
+  a_divided_root : slant_lines (region_at body 1 (codes "/s") ∷ []) (slab_of 0 ray_start (quotient.Quot (pos 30) true 5700 3) ∷ []) ≡ codes "1 /s 0 (30+sqrt(5700))/3" ∷ []
+  unfolding digits
+  a_divided_root = refl
+
+  -- the divisor 1 is not written
+  roots_aslant : slant_lines (region_at body 2 (codes "/a") ∷ region_at body 5 (codes "/b#1") ∷ [])
+      (slab_of 1 ray_start (quotient.Quot (pos 0) true 1250 1) ∷ slab_of 0 (quotient.Quot (pos 90) false 50 2) (quotient.Frac (pos 141) (pos 2)) ∷ [])
+      ≡ codes "5 /b#1 0 0+sqrt(1250)" ∷ codes "2 /a (90-sqrt(50))/2 141/2" ∷ []
+  unfolding digits
+  roots_aslant = refl
+
+-- counts of pixels, by place from 1
+abbrev by_place : List ℕ → ℕ → ℕ
+by_place counts place = slice_index_or counts (place - 1) 0
+
+-- regions that pixels present, whatever their bodies are
+module _ (body : RegionBody) where
+  no_areas : area_lines [] (by_place (100 ∷ [])) ≡ []
+  no_areas = refl
+
+  two_areas : area_lines (region_at body 1 (codes "/a") ∷ region_at body 2 (codes "/b") ∷ []) (by_place (100 ∷ 100 ∷ [])) ≡ codes "area 1 /a 100" ∷ codes "area 2 /b 100" ∷ []
+  unfolding digits
+  two_areas = refl
+
+  -- no line for a region that no pixel presents, nor for one behind the counts; places are not those of the list
+  areas_of_hidden_regions : area_lines (region_at body 1 (codes "/a") ∷ region_at body 3 (codes "/c#1") ∷ region_at body 4 (codes "/d") ∷ region_at body 12 (codes "/e") ∷ []) (by_place (0 ∷ 7 ∷ 4194304 ∷ 0 ∷ [])) ≡ codes "area 3 /c#1 4194304" ∷ []
+  unfolding digits
+  areas_of_hidden_regions = refl
 
 -- regions that overlap, whatever their bodies are
 module _ (body : RegionBody) where

@@ -1,5 +1,7 @@
 pub mod Names
 pub mod Shots
+pub mod Slants
+pub mod Areas
 pub mod Overlaps
 pub mod Texts
 pub mod Listings

@@ -21,7 +21,7 @@ use Rattle.command_set.specs.declared.command.Command.TheVariants.{Bad, Edit as 
 use Rattle.command_set.specs.declared.command.Query.{Query}
 use Rattle.command_set.specs.declared.command.Query.TheVariants as queries
 use Rattle.command_set.specs.declared.command.Shoot.{Shoot}
-use Rattle.command_set.specs.declared.command.Shoot.TheVariants.{Picture, Check}
+use Rattle.command_set.specs.declared.command.Shoot.TheVariants.{Picture, Check, Area, Edge}
 use Rattle.command_set.specs.declared.refusal.Refusal.{Refusal}
 use Rattle.command_set.specs.declared.refusal.Refusal.TheVariants.{Quota}
 use Rattle.directory.specs.Listing.{Listing}
@@ -34,11 +34,14 @@ use Rattle.session_run.specs.declared.answer.Found.{Found}
 use Rattle.tile_shot.specs.Named.{TileName}
 use Rattle.view_shot.specs.Kept.{reused, shot, tile_names}
 use Rattle.session_run.specs.Own.{OwnState}
-use Rattle.session_run.specs.Replies.{first_missing as first_absent, lines_unless_missing, Outcome, core_rules, most_used, size_of, within_quota, found_unless, lines_alone, lines_of_scene, pictured, lines_of_check, viewed, found, edit_outcome, outcome_of, directory_made, shown}
+use Rattle.session_run.specs.Replies.{first_missing as first_absent, lines_unless_missing, Outcome, core_rules, most_used, size_of, within_quota, found_unless, lines_alone, lines_of_areas, lines_of_scene, lines_of_slant, edged, pictured, lines_of_check, viewed, found, edit_outcome, outcome_of, directory_made, shown}
 use Rattle.session_run.proofs.EditLaws.{MayBePlain, IsPlainName, IsPlainListing, find_plain, plain_names, plain_missing, plain_instances, refusal_plain, edit_keeps, names_plain, lines_few}
 use Rattle.session_run.proofs.ListingLaws.{written_plain, listings_plain}
-use Rattle.session_run.proofs.ShotLaws.{shot_plain, check_plain}
+use Rattle.session_run.proofs.ShotLaws.{areas_plain, shot_plain, slant_plain, check_plain}
 use Rattle.session_run.proofs.PictureLaws.{picture_plain}
+use Rattle.session_run.proofs.PresentLaws.{edge_plain}
+use Rattle.area_tool.specs.Presented.{presented_in}
+use Rattle.edge_tool.specs.Edges.{edge_count}
 
 abbrev pub Any_own : OwnState → Type 0
 Any_own own = Unit {0}
@@ -91,6 +94,9 @@ viewed_plain d kept (Picture file view names) h k =
     let tiles : List TileName = tile_names (scene_of d.objects names) view in
     scene_fits d.objects names (pictured kept (scene_of d.objects names) file view) k.1.one_line (picture_plain file view (length (shot kept tiles)) (length (reused kept tiles)) k.0, tt)
 viewed_plain d kept (Check view names) h k = scene_fits d.objects names (lines_alone (lines_of_check (scene_of d.objects names) view)) k.one_line (check_plain d.objects names view (plain_names d.objects h))
+viewed_plain d kept (Area view names) h k = scene_fits d.objects names (lines_alone (lines_of_areas (scene_of d.objects names) view)) k.one_line (areas_plain d.objects names view (plain_names d.objects h))
+viewed_plain d kept (Edge file view names) h k =
+    scene_fits d.objects names (edged (scene_of d.objects names) file view) k.1.one_line (edge_plain file view (edge_count view (presented_in (scene_of d.objects names) view)) k.0, tt)
 
 all_there_plain : (missing : Option Name) (lines : List (List ℕ)) → IsPlainName missing → AllByRecursion (Lacks 10) lines → IsPlainOutcome (lines_unless_missing missing lines)
 all_there_plain None lines h k = k
@@ -102,6 +108,7 @@ found_plain d queries.Names h k = names_plain d.objects (plain_names d.objects h
 found_plain d (queries.Tree names) h k = all_there_plain (first_absent d.objects names) (listings d.objects names) (find_plain (λ name. is_none (object_of d.objects name)) names k) (listings_plain d.objects names h k)
 found_plain d (queries.Save file) h k = (lacks_append 10 (codes "saved ") file (computed 10 (codes "saved ") refl) k, tt)
 found_plain d (queries.Shot ray names) h k = scene_fits d.objects names (lines_alone (lines_of_scene (scene_of d.objects names) ray)) k.one_line (shot_plain d.objects names ray (plain_names d.objects h))
+found_plain d (queries.Slant ray names) h k = scene_fits d.objects names (lines_alone (lines_of_slant (scene_of d.objects names) ray)) k.one_line (slant_plain d.objects names ray (plain_names d.objects h))
 
 reply_fits : (d : Listing) (own : OwnState) (c : Command) → IsPlainListing d → Any_own own → IsPlain c → IsPrintableReply (shown (outcome_of d own c))
 reply_fits d own (Bad refusal) h q k = k.one_line
@@ -140,6 +147,8 @@ scene_tells es names found = missing_tells (first_missing es names) (too_many es
 viewed_tells : (d : Listing) (kept : List TileName) (shoot : Shoot) → Tells (viewed d kept shoot)
 viewed_tells d kept (Picture file view names) = scene_tells d.objects names (pictured kept (scene_of d.objects names) file view)
 viewed_tells d kept (Check view names) = scene_tells d.objects names (lines_alone (lines_of_check (scene_of d.objects names) view))
+viewed_tells d kept (Area view names) = scene_tells d.objects names (lines_alone (lines_of_areas (scene_of d.objects names) view))
+viewed_tells d kept (Edge file view names) = scene_tells d.objects names (edged (scene_of d.objects names) file view)
 
 all_there_tell : (missing : Option Name) (lines : List (List ℕ)) → Tells (lines_unless_missing missing lines)
 all_there_tell None lines = tt
@@ -151,6 +160,7 @@ found_tells d queries.Names = tt
 found_tells d (queries.Tree names) = all_there_tell (first_absent d.objects names) (listings d.objects names)
 found_tells d (queries.Save file) = tt
 found_tells d (queries.Shot ray names) = scene_tells d.objects names (lines_alone (lines_of_scene (scene_of d.objects names) ray))
+found_tells d (queries.Slant ray names) = scene_tells d.objects names (lines_alone (lines_of_slant (scene_of d.objects names) ray))
 
 reply_tells : (d : Listing) (own : OwnState) (c : Command) → IsPlain c → says_memory (shown (outcome_of d own c)) ≡ false
 reply_tells d own (Bad refusal) k = k.other

@@ -8,10 +8,11 @@ use Rattle.version_table.specs.Passes.{Adds, PassView}
 use Rattle.version_table.specs.Run.{commits_in, note_of, state_after}
 use Rattle.version_table.specs.declared.rule.Noted.{Noted}
 use Rattle.command_set.specs.declared.command.Command.{Command}
+use Rattle.command_set.specs.declared.command.Command.TheVariants.{Bad, Edit as IsEdit, Query as IsQuery, Shoot as IsShoot}
 use Rattle.directory.specs.Listing.{Listing}
 use Rattle.edit_core.specs.Modelling.{commits, is_look, next}
 use Rattle.command_set.specs.declared.refusal.Refusal.TheVariants.{Memory}
-use Rattle.session_run.specs.Flights.{Flies, IsBegun, IsBegunNext, IsLook, IsPostedNext, IsShooting}
+use Rattle.session_run.specs.Flights.{Flies, IsBegun, IsBegunNext, IsLook, IsPostedNext, IsShooting, does_fly}
 use Rattle.session_run.specs.Replies.{forgotten}
 use Rattle.session_run.specs.declared.session.Begun.{Begun}
 use Rattle.session_run.specs.declared.session.Begun.TheVariants.{Answered, InFlight}
@@ -110,6 +111,13 @@ module _ {X : Type 0} (opening : Listing) (first own : OwnState) (commands : Lis
   open_edit None command newer answer h next = holds_next opening first own own commands command old new newer answers answer h (next own)
   open_edit (Some w) command newer answer h next =
       (await_next opening first own commands command old new newer answers answer (arc_value w.flight.directory) w.flight.version (arc_value w.flight.command) w.place next h.0, h.1, h.2)
+
+-- a command that is put into flight shoots each ray of a view
+pub shooting : (command : Command) → does_fly command ≡ true → IsShooting command
+shooting (Bad refusal) h = absurd cc
+shooting (IsEdit edit) h = absurd cc
+shooting (IsQuery query) h = absurd cc
+shooting (IsShoot shoot) h = (shoot, refl)
 
 -- a command was begun at the state that its entry finds
 pub begun_next : {X : Type 0} (opening : Listing) (command : Command) (own kept : OwnState) (old new : PassView Command) (d : Listing) (version : ℕ) (asked : Command) (begun : Begun X) → is_look command ≡ true → IsShooting command

@@ -1,5 +1,5 @@
 -- A picture or a check in flight is what its command asks for.
-use Rattle.std.proofs.Common.{◌≡◌, ◌∙◌, ℕ, List, Option, Ok, Err, map, refl, ap, ap₂, sym}
+use Rattle.std.proofs.Common.{◌≡◌, ◌∙◌, ℕ, List, Option, Ok, map, refl, ap, ap₂, sym}
 use Rattle.lattice_core.specs.declared.view.View.{View}
 use Rattle.name_core.specs.declared.name.Name.{Name}
 use Rattle.command_set.specs.declared.command.Command.{Command}

@@ -1,4 +1,5 @@
 pub mod PictureLaws
+pub mod PresentLaws
 mod CheckLaws
 pub mod ShotLaws
 pub mod ObjectLaws

@@ -24,7 +24,17 @@ use Rattle.scene_prep.specs.Regions.{NamedRegion, placed_region, within_comb, un
 use Rattle.scene_prep.specs.Scenes.{node_text, path_text, region_at, scene_of}
 use Rattle.report_text.specs.Shots.{line_in, shot_lines}
 use Rattle.mged_words.specs.Readable.{ArePlain}
-use Rattle.session_run.specs.Replies.{lines_of_scene, lines_of_check}
+use Rattle.session_run.specs.Replies.{lines_of_areas, lines_of_check, lines_of_scene, lines_of_slant}
+use Rattle.area_tool.specs.Areas.{area}
+use Rattle.area_tool.specs.Presented.{view_presents}
+use Rattle.slant_ray.specs.declared.ray.SlantRay.{SlantRay}
+use Rattle.slant_ray.specs.Rays.{direction_of}
+use Rattle.oblique_ray.specs.declared.slab.Slab.{Slab}
+use Rattle.oblique_ray.specs.Shots.{slabs_on}
+use Rattle.report_text.specs.Areas.{area_line, area_lines}
+use Rattle.report_text.specs.Slants.{slab_line_in, slant_lines}
+use Rattle.report_text.proofs.AreaLaws.{area_one_line}
+use Rattle.report_text.proofs.SlantLaws.{slab_one_line}
 use Rattle.session_run.proofs.EditLaws.{HasPlainNames, same_plain}
 use Rattle.report_text.proofs.ShotLaws.{number_lacks, part_one_line}
 use Rattle.report_text.proofs.OverlapLaws.{pair_one_line}
@@ -154,3 +164,27 @@ pairs_plain scene (p ∷ pairs) h = (pair_one_line scene p (path_plain scene p.o
 
 pub check_plain : (es : Entries) (names : List Name) (view : View) → HasPlainNames es → AllByRecursion (Lacks 10) (lines_of_check (scene_of es names) view)
 check_plain es names view h = pairs_plain (scene_of es names) (view_report (scene_of es names) view) (scene_plain es names h)
+
+-- and of what a ray in a lattice direction meets
+slab_plain : (there : Option Region) (slab : Slab) → ((region : Region) → there ≡ Some region → Lacks 10 region.path) → Lacks 10 (slab_line_in there slab)
+slab_plain None slab h = tt
+slab_plain (Some region) slab h = slab_one_line region slab (h region refl)
+
+slabs_plain : (scene : List Region) (slabs : List Slab) → HasPlainPaths scene → AllByRecursion (Lacks 10) (slant_lines scene slabs)
+slabs_plain scene [] h = tt
+slabs_plain scene (s ∷ slabs) h = (slab_plain (slice_get scene s.region) s (λ region e. region_plain scene s.region region h e), slabs_plain scene slabs h)
+
+pub slant_plain : (es : Entries) (names : List Name) (ray : SlantRay) → HasPlainNames es → AllByRecursion (Lacks 10) (lines_of_slant (scene_of es names) ray)
+slant_plain es names ray h = slabs_plain (scene_of es names) (slabs_on (scene_of es names) ray.origin (direction_of ray)) (scene_plain es names h)
+
+-- and of areas
+area_step : (t : Bool) (region : Region) (pixels : ℕ) (rest : List (List ℕ)) → Lacks 10 region.path → AllByRecursion (Lacks 10) rest → AllByRecursion (Lacks 10) (cond t [] (area_line region pixels ∷ []) ++ rest)
+area_step true region pixels rest h k = k
+area_step false region pixels rest h k = (area_one_line region pixels h, k)
+
+counts_plain : (scene : List Region) (pixels_at : ℕ → ℕ) → HasPlainPaths scene → AllByRecursion (Lacks 10) (area_lines scene pixels_at)
+counts_plain [] pixels_at h = tt
+counts_plain (r ∷ scene) pixels_at h = area_step (pixels_at r.place == 0) r (pixels_at r.place) (area_lines scene pixels_at) h.0 (counts_plain scene pixels_at h.1)
+
+pub areas_plain : (es : Entries) (names : List Name) (view : View) → HasPlainNames es → AllByRecursion (Lacks 10) (lines_of_areas (scene_of es names) view)
+areas_plain es names view h = counts_plain (scene_of es names) (area (view_presents (scene_of es names) view)) (scene_plain es names h)

@@ -1,6 +1,6 @@
 -- Small directories, and what the definitions make of commands.
 use Rattle.std.specs.Prelude.{◌≡◌, ℕ, refl, pos, [], ◌∷◌, ◌++◌, None, Some, Ok, Err, codes}
-use Rattle.lattice_core.specs.declared.ray.Dir.TheVariants.{PlusX}
+use Rattle.lattice_core.specs.declared.ray.Dir.TheVariants.{PlusX, PlusY}
 use Rattle.lattice_core.specs.declared.ray.Ray.{Ray}
 use Rattle.lattice_core.specs.declared.view.View.{View}
 use Rattle.surd_order.specs.PlaceOrder.{place_cmp}
@@ -12,7 +12,7 @@ use Rattle.object_set.specs.declared.object.Body.TheVariants.{Solid, Comb}
 use Rattle.command_set.specs.declared.command.Command.TheVariants.{Bad, Edit as IsEdit, Query as IsQuery, Shoot as IsShoot}
 use Rattle.command_set.specs.declared.command.Edit.TheVariants.{Make, Kill}
 use Rattle.command_set.specs.declared.command.Query.TheVariants as queries
-use Rattle.command_set.specs.declared.command.Shoot.TheVariants.{Picture, Check}
+use Rattle.command_set.specs.declared.command.Shoot.TheVariants.{Picture, Check, Area, Edge}
 use Rattle.command_set.specs.declared.refusal.Refusal.TheVariants.{Syntax, Exists, Missing, Quota}
 use Rattle.directory.specs.Listing.{Listing}
 use Rattle.scene_prep.specs.Regions.{regions_of_name}
@@ -137,6 +137,30 @@ no_overlaps_of_a_missing_name : outcome_of three (used_so_far 67108864) (IsShoot
 unfolding size_of_name
 no_overlaps_of_a_missing_name = refl
 
+-- the pixel presents the first region of two that are at one place, and the second one has no line
+areas : outcome_of three (used_so_far 0) (IsShoot (Area at_once (codes "h" ∷ codes "h" ∷ []))) ≡ Ok (lines_alone (codes "area 1 /h 1" ∷ []))
+unfolding place_cmp digits regions_of_name size_of_name
+areas = refl
+
+-- two pixels, the second one beside the half-space
+abbrev two_pixels : View
+two_pixels = record { corner = record { x = pos 0; y = pos 0; z = pos 0 }; dir = PlusY; cell = pos 10; w = 2; h = 1 }
+
+-- the first of them is an edge, and the second one has none to its right
+edges : outcome_of three (used_so_far 0) (IsShoot (Edge (codes "e") two_pixels (codes "h" ∷ [])))
+    ≡ Ok (record { body = codes "edges e 2 1 white 1" ∷ []; file = Some (record { name = codes "e"; bytes = codes "P6\n2 1\n255\n" ++ 255 ∷ 255 ∷ 255 ∷ 0 ∷ 0 ∷ 0 ∷ [] }) })
+unfolding place_cmp digits regions_of_name size_of_name
+edges = refl
+
+-- 20 bytes of the line and 17 of the file
+room_for_the_edges : used_after 67108827 (outcome_of three (used_so_far 67108827) (IsShoot (Edge (codes "e") two_pixels (codes "h" ∷ [])))) ≡ 67108864
+unfolding place_cmp digits regions_of_name size_of_name
+room_for_the_edges = refl
+
+no_room_for_the_edges : outcome_of three (used_so_far 67108828) (IsShoot (Edge (codes "e") two_pixels (codes "h" ∷ []))) ≡ Err Quota
+unfolding place_cmp digits regions_of_name size_of_name
+no_room_for_the_edges = refl
+
 -- a tile of the one pixel, without regions
 abbrev one_tile : TileName
 one_tile = record { view = at_once; tile = 0; bodies = [] }
@@ -145,12 +169,18 @@ one_tile = record { view = at_once; tile = 0; bodies = [] }
 abbrev keeping : ℕ → OwnState
 keeping used = record { tiles = one_tile ∷ []; used = used }
 
--- after want of memory a picture leaves no tile kept, and so does a check
+-- after want of memory a picture leaves no tile kept, and so do a check, areas and edges
 forgotten_by_a_picture : forgotten (keeping 5) (IsShoot (Picture (codes "p") at_once (codes "h" ∷ []))) ≡ used_so_far 5
 forgotten_by_a_picture = refl
 
 forgotten_by_a_check : forgotten (keeping 5) (IsShoot (Check at_once (codes "h" ∷ []))) ≡ used_so_far 5
 forgotten_by_a_check = refl
+
+forgotten_by_areas : forgotten (keeping 5) (IsShoot (Area at_once (codes "h" ∷ []))) ≡ used_so_far 5
+forgotten_by_areas = refl
+
+forgotten_by_edges : forgotten (keeping 5) (IsShoot (Edge (codes "e") at_once (codes "h" ∷ []))) ≡ used_so_far 5
+forgotten_by_edges = refl
 
 -- a query and an edit leave all
 kept_by_a_query : forgotten (keeping 5) (IsQuery (queries.Shot along_x (codes "h" ∷ []))) ≡ keeping 5
@@ -166,3 +196,7 @@ after_a_check = refl
 -- a picture that is refused leaves both
 after_a_refused_picture : own_with three (keeping 67108864) (IsShoot (Picture (codes "p") at_once (codes "h" ∷ []))) (Err Quota) ≡ keeping 67108864
 after_a_refused_picture = refl
+
+-- areas that are accepted leave the tiles, and use their bytes
+after_areas : own_with three (keeping 5) (IsShoot (Area at_once (codes "h" ∷ []))) (Ok (lines_alone (codes "area 1 /h 1" ∷ []))) ≡ keeping 17
+after_areas = refl

@@ -1,10 +1,11 @@
 -- Pictures and checks in flight: what their commands will be answered.
-use Rattle.std.specs.Prelude.{◌≡◌, ◌≤◌, ℕ, false, List, Option, None, Some, Ok, length, map}
+use Rattle.std.specs.Prelude.{◌≡◌, ◌≤◌, ℕ, Bool, true, false, List, Option, None, Some, Ok, length, map}
 use Rattle.std.specs.Arc.{arc_value}
 use Rattle.lattice_core.specs.declared.view.View.{View}
 use Rattle.command_set.specs.declared.command.Command.{Command}
 use Rattle.command_set.specs.declared.command.Command.TheVariants.{Shoot as IsShoot}
 use Rattle.command_set.specs.declared.command.Shoot.{Shoot}
+use Rattle.command_set.specs.declared.command.Shoot.TheVariants as shoots
 use Rattle.directory.specs.Listing.{Listing}
 use Rattle.shot_core.specs.Regions.{Region}
 use Rattle.tile_shot.specs.Named.{TileName}
@@ -46,6 +47,12 @@ pub record IsCheckFor (d : Listing) (own : OwnState) (command : Command) (scene 
 abbrev pub Flies : {X : Type 0} → Listing → OwnState → Command → Flying X → Type 0
 Flies d own command (Picture p) = IsPictureFor d own command (arc_value p.flight.scene) p.flight.view p.flight.plan.names.items p.frame
 Flies d own command (Check c) = IsCheckFor d own command (arc_value c.scene) (arc_value c.flight.scene) c.flight.view
+
+-- a command is put into flight: a picture or a check
+abbrev pub does_fly : Command → Bool
+does_fly (IsShoot (shoots.Picture file view names)) = true
+does_fly (IsShoot (shoots.Check view names)) = true
+does_fly command = false
 
 -- a command that shoots each ray of a view
 abbrev pub IsShooting : Command → Type 0

@@ -13,7 +13,7 @@ use Rattle.command_set.specs.declared.command.Command.TheVariants.{Bad, Edit as 
 use Rattle.command_set.specs.declared.command.Query.{Query}
 use Rattle.command_set.specs.declared.command.Query.TheVariants as queries
 use Rattle.command_set.specs.declared.command.Shoot.{Shoot}
-use Rattle.command_set.specs.declared.command.Shoot.TheVariants.{Picture, Check}
+use Rattle.command_set.specs.declared.command.Shoot.TheVariants.{Picture, Check, Area, Edge}
 use Rattle.command_set.specs.declared.refusal.Refusal.{Refusal}
 use Rattle.command_set.specs.declared.refusal.Refusal.TheVariants.{Missing, Instances, Quota, Memory}
 use Rattle.asc_form.specs.Written.{written}
@@ -25,6 +25,14 @@ use Rattle.report_text.specs.Listings.{listings, written_lines}
 use Rattle.report_text.specs.Names.{names_lines}
 use Rattle.report_text.specs.Shots.{shot_lines}
 use Rattle.report_text.specs.Overlaps.{overlap_lines}
+use Rattle.report_text.specs.Areas.{area_lines}
+use Rattle.report_text.specs.Slants.{slant_lines}
+use Rattle.area_tool.specs.Areas.{area}
+use Rattle.area_tool.specs.Presented.{presented_in, view_presents}
+use Rattle.edge_tool.specs.Edges.{edge_bytes, edge_count}
+use Rattle.slant_ray.specs.declared.ray.SlantRay.{SlantRay}
+use Rattle.slant_ray.specs.Rays.{direction_of}
+use Rattle.oblique_ray.specs.Shots.{slabs_on}
 use Rattle.ppm_write.specs.Pictures.{header_text}
 use Rattle.tile_shot.specs.Pixels.{view_bytes}
 use Rattle.tile_shot.specs.Reports.{view_report}
@@ -83,6 +91,14 @@ lines_of_scene scene ray = shot_lines scene (lit_of scene ray)
 abbrev pub shot_of : Entries → Ray → List Name → Outcome
 shot_of directory ray names = found_unless (prep_fault directory names) (lines_alone (lines_of_scene (scene_of directory names) ray))
 
+-- a line for each partition of a ray in a lattice direction and a scene
+abbrev pub lines_of_slant : List Region → SlantRay → List (List ℕ)
+lines_of_slant scene ray = slant_lines scene (slabs_on scene ray.origin (direction_of ray))
+
+-- the partitions of such a ray and the regions of the names, or why these make no scene
+abbrev pub slant_of : Entries → SlantRay → List Name → Outcome
+slant_of directory ray names = found_unless (prep_fault directory names) (lines_alone (lines_of_slant (scene_of directory names) ray))
+
 -- `picture`, the file, its columns and rows, how many tiles it has, and how many of them were shot and how many reused
 abbrev pub picture_line : Name → View → ℕ → ℕ → List ℕ
 picture_line file view shot reused =
@@ -112,10 +128,39 @@ lines_of_check scene view = overlap_lines scene (view_report scene view)
 abbrev pub check_of : Entries → View → List Name → Outcome
 check_of directory view names = found_unless (prep_fault directory names) (lines_alone (lines_of_check (scene_of directory names) view))
 
+-- a line for each region of a scene that some pixel of a view presents, with how many do
+abbrev pub lines_of_areas : List Region → View → List (List ℕ)
+lines_of_areas scene view = area_lines scene (area (view_presents scene view))
+
+-- the areas of the regions of the names, or why these make no scene
+abbrev pub area_of : Entries → View → List Name → Outcome
+area_of directory view names = found_unless (prep_fault directory names) (lines_alone (lines_of_areas (scene_of directory names) view))
+
+-- `edges`, the file, its columns and rows, and how many of its pixels are white
+abbrev pub edge_line : Name → View → ℕ → List ℕ
+edge_line file view white = codes "edges " ++ (file ++ (codes " " ++ (decimal view.w ++ (codes " " ++ (decimal view.h ++ (codes " white " ++ decimal white))))))
+
+-- the picture of the edges between what pixels present, as a file, and its line
+abbrev pub edged_by : (ℕ → ℕ → ℕ) → Name → View → Found
+edged_by values file view = record {
+  body = edge_line file view (edge_count view values) ∷ [];
+  file = Some (record { name = file; bytes = header_text view.w view.h ++ edge_bytes view values });
+}
+
+-- the picture of the edges of a scene
+abbrev pub edged : List Region → Name → View → Found
+edged scene file view = edged_by (presented_in scene view) file view
+
+-- the edges of the regions of the names, or why these make no scene
+abbrev pub edge_of : Entries → Name → View → List Name → Outcome
+edge_of directory file view names = found_unless (prep_fault directory names) (edged (scene_of directory names) file view)
+
 -- what a command that shoots each ray of a view finds, where these tiles are kept
 abbrev pub viewed : Listing → List TileName → Shoot → Outcome
 viewed d kept (Picture file view names) = picture_of d.objects kept file view names
 viewed d kept (Check view names) = check_of d.objects view names
+viewed d kept (Area view names) = area_of d.objects view names
+viewed d kept (Edge file view names) = edge_of d.objects file view names
 
 -- the first of the names that is not there
 abbrev pub first_missing : Entries → List Name → Option Name
@@ -136,6 +181,7 @@ found d queries.Names = Ok (lines_alone (names_lines d.objects))
 found d (queries.Tree names) = lines_unless_missing (first_missing d.objects names) (listings d.objects names)
 found d (queries.Save file) = Ok (saved d file)
 found d (queries.Shot ray names) = shot_of d.objects ray names
+found d (queries.Slant ray names) = slant_of d.objects ray names
 
 abbrev pub edit_outcome : Result Listing Refusal → Outcome
 edit_outcome (Ok made) = Ok (lines_alone [])
@@ -166,6 +212,8 @@ tiles_with d kept (IsEdit edit) = kept
 tiles_with d kept (IsQuery query) = kept
 tiles_with d kept (IsShoot (Picture file view names)) = after_picture kept (tile_names (scene_of d.objects names) view)
 tiles_with d kept (IsShoot (Check view names)) = kept
+tiles_with d kept (IsShoot (Area view names)) = kept
+tiles_with d kept (IsShoot (Edge file view names)) = kept
 
 -- a refused command changes none of them
 abbrev pub tiles_by : Outcome → List TileName → List TileName → List TileName

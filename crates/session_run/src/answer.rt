@@ -26,22 +26,24 @@ ghost use Rattle.session_run.specs.Kept.{IsCurrent, Moves};
 ghost use Rattle.session_run.specs.declared.keep.Keep.{Keep};
 ghost use Rattle.session_run.specs.declared.answer.Found.{Found};
 ghost use Rattle.session_run.specs.Own.{OwnState, nothing_used};
-ghost use Rattle.session_run.specs.Replies.{core_rules, most_used, lines_alone, size_of, within_quota, lines_of_scene, shot_of, found_unless, picture_of, check_of, viewed, first_missing, lines_unless_missing, saved, found, edit_outcome, outcome_of, used_after, tiles_by, tiles_with, forgotten};
+ghost use Rattle.session_run.specs.Replies.{core_rules, most_used, lines_alone, size_of, within_quota, lines_of_scene, lines_of_slant, shot_of, slant_of, found_unless, picture_of, check_of, area_of, edge_of, viewed, first_missing, lines_unless_missing, saved, found, edit_outcome, outcome_of, used_after, tiles_by, tiles_with, forgotten};
 
 use crate::check::check_scene;
 use crate::keep::Keep;
 use crate::limit::MOST_USED;
 use crate::picture::shoot_picture;
+use crate::present::{count_areas, draw_edges};
 use asc_form::write_asc;
-use command_set::{CheckedView, Command, Edit, Query, Refusal, Shoot, WorldRay};
+use command_set::{CheckedSlant, CheckedView, Command, Edit, Query, Refusal, Shoot, WorldRay};
 use directory::Directory;
 use edit_core::apply;
 use item_list::Items;
 use lattice_core::Ray;
 use memory_core::Memory;
 use name_core::Name;
+use oblique_ray::slant_shot;
 use outside_core::{File, Gate, OpenGate};
-use report_text::{Body, TextFault, list_text, names_text, shot_text, tree_text};
+use report_text::{Body, TextFault, list_text, names_text, shot_text, slant_text, tree_text};
 use scene_prep::PrepFault;
 use shot_core::{Lit, Scene, shoot};
 use std::alloc::Global;
@@ -304,6 +306,45 @@ fn look_along(
     }
 }
 
+/// The partitions of a ray in a lattice direction and a scene, where there is room for them.
+fn shoot_slanted(
+    alloc: Global,
+    scene: &Scene,
+    used: u64,
+    ray: &CheckedSlant,
+) -> Result<Result<Found, Refusal>, Memory>
+    requires { used ≤ most_used }
+    ensures { IfOk result (λ outcome. outcome ≡ within_quota used (Ok (lines_alone (lines_of_slant scene.now ray.now)))) }
+{
+    let slabs = slant_shot(alloc, scene, &ray.ray())?;
+    found_or_quota(slant_text(alloc, scene, &slabs, MOST_USED - used))
+}
+
+/// The partitions of a ray in a lattice direction and the regions of names.
+fn look_slanted(
+    alloc: Global,
+    version: u32,
+    directory: &Directory,
+    keep: &mut Keep,
+    used: u64,
+    ray: &CheckedSlant,
+    names: &[Name],
+) -> Result<Result<Found, Refusal>, Memory>
+    requires quota { used ≤ most_used }
+    requires current { IsCurrent keep.old version directory.now.objects }
+    ensures outcome { IfOk result (λ outcome. outcome ≡ within_quota used (slant_of directory.now.objects ray.now names.now)) }
+    ensures current { IsCurrent keep.new version directory.now.objects }
+{
+    match keep.scene(alloc, version, directory, names) {
+        Ok(kept) => {
+            let outcome = shoot_slanted(alloc, &kept.scene, used, ray);
+            keep.put(kept);
+            outcome
+        }
+        Err(fault) => refused(fault),
+    }
+}
+
 /// The picture of the regions of names.
 fn look_at_picture<R: Threads + Sync, G: Gate + Sync>(
     executor: &Executor<R, G>,
@@ -359,6 +400,59 @@ fn look_for_overlaps<R: Threads + Sync, G: Gate + Sync>(
     }
 }
 
+/// The areas of the regions of names.
+fn look_at_areas<R: Threads + Sync, G: Gate + Sync>(
+    executor: &Executor<R, G>,
+    alloc: Global,
+    version: u32,
+    directory: &Directory,
+    keep: &mut Keep,
+    used: u64,
+    view: &CheckedView,
+    names: &[Name],
+) -> Result<Result<Found, Refusal>, Memory>
+    requires quota { used ≤ most_used }
+    requires current { IsCurrent keep.old version directory.now.objects }
+    ensures outcome { IfOk result (λ outcome. outcome ≡ within_quota used (area_of directory.now.objects view.now names.now)) }
+    ensures current { IsCurrent keep.new version directory.now.objects }
+{
+    match keep.scene(alloc, version, directory, names) {
+        Ok(kept) => {
+            let outcome = count_areas(executor, alloc, &kept.scene, used, view);
+            keep.put(kept);
+            outcome
+        }
+        Err(fault) => refused(fault),
+    }
+}
+
+/// The edges of the regions of names.
+fn look_at_edges<R: Threads + Sync, G: Gate + Sync>(
+    executor: &Executor<R, G>,
+    alloc: Global,
+    version: u32,
+    directory: &Directory,
+    keep: &mut Keep,
+    used: u64,
+    file: &Name,
+    view: &CheckedView,
+    names: &[Name],
+) -> Result<Result<Found, Refusal>, Memory>
+    requires quota { used ≤ most_used }
+    requires current { IsCurrent keep.old version directory.now.objects }
+    ensures outcome { IfOk result (λ outcome. outcome ≡ within_quota used (edge_of directory.now.objects file.now view.now names.now)) }
+    ensures current { IsCurrent keep.new version directory.now.objects }
+{
+    match keep.scene(alloc, version, directory, names) {
+        Ok(kept) => {
+            let outcome = draw_edges(executor, alloc, &kept.scene, used, file, view);
+            keep.put(kept);
+            outcome
+        }
+        Err(fault) => refused(fault),
+    }
+}
+
 /// What a command that shoots each ray of a view is answered.
 fn look_from<R: Threads + Sync, G: Gate + Sync>(
     executor: &Executor<R, G>,
@@ -403,6 +497,31 @@ fn look_from<R: Threads + Sync, G: Gate + Sync>(
                 names.items(),
             )
         }
+        Shoot::Area { view, names } => {
+            look_at_areas(
+                executor,
+                alloc,
+                version,
+                directory,
+                keep,
+                used,
+                view,
+                names.items(),
+            )
+        }
+        Shoot::Edge { file, view, names } => {
+            look_at_edges(
+                executor,
+                alloc,
+                version,
+                directory,
+                keep,
+                used,
+                file,
+                view,
+                names.items(),
+            )
+        }
     }
 }
 
@@ -426,6 +545,15 @@ fn look(
         Query::Tree { names } => look_at_trees(alloc, directory, used, names.items()),
         Query::Save { file } => save(alloc, directory, used, file),
         Query::Shot { ray, names } => look_along(
+            alloc,
+            version,
+            directory,
+            keep,
+            used,
+            ray,
+            names.items(),
+        ),
+        Query::Slant { ray, names } => look_slanted(
             alloc,
             version,
             directory,
@@ -571,8 +699,8 @@ fn answer_edit(alloc: Global, book: &mut Book, edit: &Edit) -> Answer
 }
 
 /// The core step on one thread: what a command of a session is answered, with the book and what the session has of its own
-/// after it. Want of memory is an answer too: it leaves the book as it was, and of what the session has of its own a picture or
-/// a check without memory takes the kept tiles alone. What a session keeps stays one that can be used with the book's
+/// after it. Want of memory is an answer too: it leaves the book as it was, and of what the session has of its own a command that
+/// shoots each ray of a view takes the kept tiles alone. What a session keeps stays one that can be used with the book's
 /// directory, whichever session the command is of.
 pub fn answer_command<R: Threads + Sync>(
     alloc: Global,

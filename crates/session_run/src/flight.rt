@@ -6,7 +6,7 @@ ghost use Rattle.command_set.specs.declared.command.Command.TheVariants.{Shoot a
 ghost use Rattle.command_set.specs.declared.command.Shoot.TheVariants.{Check as IsCheck, Picture as IsPicture};
 ghost use Rattle.directory.specs.Walks.{Entries};
 ghost use Rattle.scene_prep.specs.Outcomes.{IsSceneOf, prep_fault};
-ghost use Rattle.session_run.specs.Flights.{Flies, IsLook, IsShooting};
+ghost use Rattle.session_run.specs.Flights.{Flies, IsLook, IsShooting, does_fly};
 ghost use Rattle.session_run.specs.Kept.{IsCurrent};
 ghost use Rattle.session_run.specs.Replies.{forgotten, found_unless, most_used, outcome_of, tiles_by, tiles_with, within_quota};
 ghost use Rattle.session_run.specs.declared.answer.Found.{Found as AnyFound};
@@ -139,6 +139,16 @@ fn post_overlaps<'a, R: Wait, G: Gate + Sync>(
     Ok(Ok(Flying::Check(posted?)))
 }
 
+/// Whether a command is put into flight. Others are answered at once.
+pub(crate) fn does_fly(command: &Command) -> bool
+    ensures { result ≡ does_fly command.now }
+{
+    match command {
+        Command::Shoot(Shoot::Picture { .. } | Shoot::Check { .. }) => true,
+        _ => false,
+    }
+}
+
 /// Puts the picture or the check that a command asks for into flight, where it is not refused at once. Nothing of it is shot
 /// yet, and no tile is moved.
 pub(crate) fn post_shoot<'a, R: Wait, G: Gate + Sync>(
@@ -152,6 +162,7 @@ pub(crate) fn post_shoot<'a, R: Wait, G: Gate + Sync>(
     own: &Own,
     shoot: &Shoot,
 ) -> Result<Result<Flying<'a, G>, Refusal>, Memory>
+    requires flies { does_fly (IsShoot shoot.now) ≡ true }
     requires quota { own.now.used ≤ most_used }
     requires current { IsCurrent keep.old version directory.now.objects }
     ensures posted { IfOk result (λ posted. MatchResult posted (Flies directory.now own.now (IsShoot shoot.now)) (λ refusal. Err refusal ≡ outcome_of directory.now own.now (IsShoot shoot.now))) }
@@ -170,6 +181,7 @@ pub(crate) fn post_shoot<'a, R: Wait, G: Gate + Sync>(
                 pool, rt, alloc, teller, version, directory, keep, own, view, names,
             )
         }
+        Shoot::Area { .. } | Shoot::Edge { .. } => unreachable!(),
     }
 }
 

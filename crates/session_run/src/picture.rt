@@ -36,7 +36,7 @@ use view_shot::{
 type NumberText = FixedText<16>;
 
 /// Puts a word and a number at the end of a line.
-fn push_count(line: &mut Vec<u8>, word: &[u8], count: u32) -> Result<(), Memory>
+pub(crate) fn push_count(line: &mut Vec<u8>, word: &[u8], count: u32) -> Result<(), Memory>
     ensures { OnOk result (line.new.items ≡ line.old.items ++ (word.now ++ decimal count)) }
 {
     let mut text = NumberText::new();
@@ -89,14 +89,14 @@ fn picture_body(
 /// All of a picture's answer but its pixels: the line of its body, the name of its file, and its view.
 #[derive(Drop)]
 pub(crate) struct Frame {
-    body: Body,
-    file: Name,
-    view: View,
+    pub(crate) body: Body,
+    pub(crate) file: Name,
+    pub(crate) view: View,
 }
 
 impl Frame {
     /// The answer with the pixels.
-    fn filled(self, alloc: Global, pixels: &[u8]) -> Result<Found, Memory>
+    pub(crate) fn filled(self, alloc: Global, pixels: &[u8]) -> Result<Found, Memory>
         requires { IsChecked self.view }
         ensures { IfOk result (λ found. found ≡ framed self pixels.now) }
     {

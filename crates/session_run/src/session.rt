@@ -6,7 +6,7 @@ ghost use Rattle.session_merge.specs.Answered.{shown_as};
 ghost use Rattle.directory.specs.Walks.{Entries};
 ghost use Rattle.edit_core.specs.Modelling.{is_look};
 ghost use Rattle.session_run.specs.Answers.{core_answer};
-ghost use Rattle.session_run.specs.Flights.{Flies, HasRunOf, IsBegun, IsBegunNext, IsLook, IsReady, IsShooting};
+ghost use Rattle.session_run.specs.Flights.{Flies, HasRunOf, IsBegun, IsBegunNext, IsLook, IsReady, IsShooting, does_fly};
 ghost use Rattle.session_run.specs.Kept.{IsCurrent};
 ghost use Rattle.session_run.specs.Own.{OwnState};
 ghost use Rattle.session_run.specs.Points.{IsTrueReply};
@@ -15,7 +15,7 @@ ghost use Rattle.session_run.specs.Replies.{core_rules, most_used, nothing_used,
 ghost use Rattle.session_run.specs.Sessions.{HasRun, IsNext, IsCurrentPast, book_at};
 
 use crate::answer::{Answer, Found, Own, answer_look, lines_alone};
-use crate::flight::{Flight, post_shoot};
+use crate::flight::{Flight, does_fly, post_shoot};
 use crate::keep::Keep;
 use command_set::{Command, Refusal};
 use directory::Directory;
@@ -257,7 +257,7 @@ impl Course {
         directory: Arc<Directory>,
         command: Arc<Command>,
     ) -> Begun<'a, G>
-        requires shoots { IsShooting (arc_value command) }
+        requires flies { does_fly (arc_value command) ≡ true }
         requires quota { self.old.own.used ≤ most_used }
         requires current { IsCurrent self.old.keep version (arc_value directory).objects }
         ensures begun { IsBegun (arc_value directory) version (arc_value command) self.old.own self.new.own result }
@@ -319,7 +319,7 @@ impl Course {
         let Snapshot { version, state } = table.view(rt, pass, share);
         match state {
             Ok(directory) => {
-                if let Command::Shoot(_) = &*command {
+                if does_fly(&command) {
                     self.post(pool, rt, alloc, teller, version, directory, command)
                 } else {
                     Begun::Answered(self.one(executor, alloc, version, &directory, &command))

@@ -1,7 +1,6 @@
-use Rattle.std.proofs.Common.{◌≡◌, ◌<◌, ◌-◌, ◌∙◌, List, IfErr, IfOk, length, subst, arith}
+use Rattle.std.proofs.Common.{◌≡◌, ◌-◌, ◌∙◌, List, IfErr, IfOk, length, subst, arith}
 use Rattle.std.specs.Arc.{arc_value}
 use Rattle.std.proofs.lemmas.Result.{IfOk-weaker}
-use Rattle.transcript.specs.Lines.{text_of}
 use Rattle.overlap_list.specs.Overlaps.{IsTooMany}
 use Rattle.shot_core.specs.Regions.{Region}
 use Rattle.shot_core.specs.declared.pair.Pair.{Pair}

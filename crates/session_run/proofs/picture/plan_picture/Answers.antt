@@ -1,4 +1,4 @@
-use Rattle.std.proofs.Common.{◌≡◌, ◌≤◌, ◌+◌, ◌-◌, ◌<◌, ◌∙◌, ◌++◌, ℕ, List, Option, length, map, ap, sym, arith}
+use Rattle.std.proofs.Common.{◌≡◌, ◌+◌, ◌-◌, ◌<◌, ◌∙◌, ◌++◌, List, Option, length, map, ap, sym, arith}
 use Rattle.std.proofs.lemmas.List.{length-map}
 use Rattle.std.proofs.lemmas.List.FromFn.{length-map-range_with_len}
 use Rattle.lattice_core.specs.declared.view.View.{View}
@@ -8,7 +8,7 @@ use Rattle.tile_shot.specs.Pixels.{view_bytes}
 use Rattle.shot_core.specs.Regions.{Region}
 use Rattle.tile_shot.specs.Named.{TileName}
 use Rattle.view_shot.specs.Kept.{reused, tile_name, tile_names}
-use Rattle.view_shot.specs.Steps.{found, if_kept}
+use Rattle.view_shot.specs.Steps.{if_kept}
 use Rattle.view_shot.proofs.TileLaws.{few_found}
 use Rattle.session_run.specs.Replies.{size_of, picture_bytes, pictured}
 use Rattle.session_run.proofs.PictureLaws.{AreCounted, counts, found_counts, picture_told, picture_is, some_head, past_quota, in_quota}

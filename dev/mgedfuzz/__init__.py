@@ -1,4 +1,4 @@
-"""What `dev/fuzz` is made of.
+"""What `dev/fuzz` and `dev/schedules` are made of.
 
 texts     random commands of the text form, as `put`, and other spellings of a line
 commands  random commands that are mostly well formed, with small numbers, so that things meet
@@ -11,4 +11,5 @@ calls     random scripts with the words of a command line and the files of a fol
 reducing  a text, and a call, made smaller while something stays true of it
 outcomes  the runs of calls, compared with the program
 tables    models, compared with a program that runs rows
+schedules scripts of eight sessions, run again and again under load, and replayed
 """

@@ -1,6 +1,10 @@
 """Random commands, mostly well formed. Numbers come from a small grid, so that faces touch, rays lie in faces and
 regions overlap; names come from a small pool, so that edits meet."""
 
+from itertools import product
+from math import gcd
+
+from mgedmodel.lines import MOST_OF_A_STEP
 from mgedmodel.pictures import ACROSS_AND_DOWN
 from mgedmodel.solids import DIRECTIONS as STEPS
 from mgedmodel.words import length_text
@@ -11,6 +15,9 @@ SOLIDS = ("s", "t", "b1", "b2", "h", "w", "k", "p.s")
 COMBS = ("c", "d", "e.r", "f", "g1", "m", "n-1", "_0")
 MISSING = ("zz", "q", "lid")
 DIRECTIONS = ("+x", "-x", "+y", "-y", "+z", "-z")
+STEPPED = range(-MOST_OF_A_STEP, MOST_OF_A_STEP + 1)
+LATTICE = [steps for steps in product(STEPPED, repeat=3) if gcd(*steps) == 1]
+ODD_STEPS = ("0 0 0", "2 2 0", "-4 0 0", "0 -2 4", "4 4 4", "3 -3 0", "5 0 0", "1 -5 0", "1 1 5", "0.5 1 0", "1.5 1 1", "1 2.0 -0", "+1 {2} 3.", "04 1 -00", "1 1 x", "1 1", "1 1 0 0", "1000000000 1 1", "+x")
 COUNTS = ("0", "1", "5", "7", "100", "101", "999999", "1000000", "-0", "-1", "+5", "5.0", "5.5", "{5}", "{ 5 }", "5 6", "{}")
 TRUTHS = ("yes", "no", "1", "0", "{yes}", "{ no }", "{1}", "YES", "yes no", "2")
 COLOURS = ("1 2 3", "1/2/3", "0 255 256", "{0 0 255}", "{ 1 2\t3 }", "1 / 2 / 3", "{1} 2 3", "1 {2 3}", "1 2", "1 2 3 4", "1/2 3", "+1 2.0 -0", "{1/2/3}", "{ 1/2/3 }")
@@ -113,8 +120,9 @@ class Maker:
             height[self.rng.randrange(3)] = self.rng.choice((0, 0, 1, -2)) * self.scale
         radius = self.rng.choice((0, -1)) if self.errs(0.03) else radius
         top = [sum(entries) for entries in zip(base, height)]
-        side = [(entry or radius) for entry in height]
-        self.points += [base, top, [sum(entries) for entries in zip(base, side)], [entry + part // 2 for entry, part in zip(base, height)]]
+        side, rim = [(entry or radius) for entry in height], list(base)
+        rim[(along + 1) % 3] += radius
+        self.points += [base, top, rim, [sum(entries) for entries in zip(base, side)], [entry + part // 2 for entry, part in zip(base, height)]]
         return "rcc", base + height + [radius]
 
     def half(self):
@@ -166,6 +174,25 @@ class Maker:
             start[self.rng.randrange(3)] += self.rng.choice((-1, 1, 524_288, -524_289, 999_999_990))
         return f"nirt {' '.join(self.lengths(start))} {way} " + self.aims()
 
+    def nirtd(self):
+        """A ray in a lattice direction, mostly through a point of some solid."""
+        start = list(self.rng.choice(self.points)) if self.points and self.often(0.8) else self.point()
+        steps = self.rng.choice(LATTICE if self.often(0.85) else list(STEPS.values()))
+        if self.often(0.7):
+            back = self.rng.choice((99_999, 120_000) if self.is_far else (1, 3, 9)) * (1 if self.is_far else self.scale)
+            start = [part - back * step for part, step in zip(start, steps)]
+        is_odd = self.errs(0.1)
+        if self.often(0.4 if is_odd else 0.1):
+            start[self.rng.randrange(3)] += self.rng.choice((-1, 1, 524_288, -524_289, 999_999_990))
+        text = self.rng.choice(ODD_STEPS) if is_odd else " ".join(map(str, steps))
+        return f"nirtd {' '.join(self.lengths(start))} {text} " + self.aims()
+
+    def along_axis(self):
+        """A plain ray, or the same as one in a lattice direction."""
+        head, x, y, z, way, *names = self.nirt().split(" ")
+        steps = " ".join(map(str, STEPS[way]))
+        return " ".join([head, x, y, z, way, *names] if self.often(0.3) else ["nirtd", x, y, z, steps, *names])
+
     def aims(self):
         return " ".join(self.comb_name() if self.often(0.4) else self.name() for _ in range(self.rng.choice((1, 1, 2, 3, 4))))
 
@@ -195,8 +222,14 @@ class Maker:
     def check(self):
         return f"rtcheck {self.view()} {self.aims()}"
 
+    def area(self):
+        return f"rtarea {self.view()} {self.aims()}"
+
+    def edges(self):
+        return f"rtedge {self.rng.choice(PICTURES)} {self.view()} {self.aims()}"
+
     def shoot(self):
-        return self.pick((6, self.nirt), (2, self.picture), (2, self.check))
+        return self.pick((6, self.nirt), (4, self.nirtd), (2, self.picture), (2, self.check), (1, self.area), (1, self.edges))
 
     # Texts and listings.
 

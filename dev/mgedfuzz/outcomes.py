@@ -27,13 +27,13 @@ def wanted_of(given, order=None):
     return outcome._replace(files={**given.files, **dict(outcome.files)})
 
 
-def outcome_of(program, given):
+def outcome_of(program, given, seconds=SECONDS):
     with tempfile.TemporaryDirectory() as folder:
         write_files(folder, given.files)
         try:
-            ran = subprocess.run([program, *given.words], input=given.script, capture_output=True, timeout=SECONDS, cwd=folder)
+            ran = subprocess.run([program, *given.words], input=given.script, capture_output=True, timeout=seconds, cwd=folder)
         except subprocess.TimeoutExpired:
-            return Outcome("none", f"(not ended after {SECONDS} seconds)")
+            return Outcome("none", f"(not ended after {seconds:.0f} seconds)", files={})
         line = ran.stderr.decode("latin-1")
         return Outcome(ran.returncode, line[:-1] if line.endswith("\n") else line + "(no line feed)" if line else "", ran.stdout, files_of(folder))
 
@@ -119,29 +119,37 @@ def smallest(program, call, found, by_workers=False):
     return found
 
 
-def write_difference(path, found):
+def write_difference(path, found, told="A call, made smaller", by="by dev/model"):
     given, wanted, came = found
+    where, ours, theirs = first_difference(wanted, came)
+    difference = f"{where}\nwanted: {ours}\ncame:   {theirs}"
+    by_evaluator = [
+        f"--- Wanted, {by}: {ending(wanted)}\n{shown(wanted.written)}",
+        *files_shown("Wanted, the file", changed(wanted, given)),
+    ]
+    write_call(path, given, came, told, f"First difference: {difference}", by_evaluator)
+
+
+def write_call(path, given, came, told="A call", difference="", wanted=()):
+    """Writes what a call was given and what came, and what was wanted where that is known."""
     with open(path + ".mged", "wb") as file:
         file.write(given.script)
     if given.files:
         os.makedirs(path + ".files", exist_ok=True)
         write_files(path + ".files", given.files)
-    where, ours, theirs = first_difference(wanted, came)
-    difference = f"{where}\nwanted: {ours}\ncame:   {theirs}"
     parts = [
-        f"A call, made smaller; the bytes of its script are in {os.path.basename(path)}.mged, and those of its files, if any, in .files.",
-        f"It is {given.told}. First difference: {difference}",
+        f"{told}; the bytes of its script are in {os.path.basename(path)}.mged, and those of its files, if any, in .files.",
+        f"It is {given.told}. {difference}".rstrip(),
         f"--- The words: {given.words}",
         *files_shown("The file", given.files),
         f"--- The script\n{shown(given.script)}",
-        f"--- Wanted, by dev/model: {ending(wanted)}\n{shown(wanted.written)}",
-        *files_shown("Wanted, the file", changed(wanted, given)),
+        *wanted,
         f"--- Came, of the program: {ending(came)}\n{shown(came.written)}",
         *files_shown("Came, the file", changed(came, given)),
     ]
     with open(path + ".txt", "w", encoding="utf-8") as file:
         file.write("\n\n".join(parts))
-    print(f"{given.told}: {difference}\nwritten to {path}.txt")
+    print(f"{given.told}: {difference or ending(came)}\nwritten to {path}.txt")
 
 
 def changed(outcome, given):

@@ -41,9 +41,9 @@ def pictures(maker):
         elif way < 0.88:
             lines += edited(rng, solids, combs)
         elif way < 0.94:
-            lines.append(f"rtcheck {view} {' '.join(names)}")
+            lines.append(f"{rng.choice(('rtcheck', 'rtarea', 'rtedge p', 'rtedge q'))} {view} {' '.join(names)}")
         else:
-            lines.append(rng.choice((f"rt p {view} {names[0]} zz", f"rt p {view}", "rt p -z 0 2 20 0 40 2 a", "rt p -z 0 2 20 1 0 2 a", f"nirt 4 2 20 -z {names[0]}", "ls", "save m", "rt p/ -z 0 0 0 1 1 1 a")))
+            lines.append(rng.choice((f"rt p {view} {names[0]} zz", f"rt p {view}", "rt p -z 0 2 20 0 40 2 a", "rt p -z 0 2 20 1 0 2 a", f"nirt 4 2 20 -z {names[0]}", "ls", "save m", "rt p/ -z 0 0 0 1 1 1 a", f"nirtd 4 2 20 0 1 -4 {names[0]}", f"rtarea {view} {names[0]} zz", f"rtedge p {view} zz", "rtedge p -z 0 2 20 1 40 0 a")))
     if rng.random() < 0.05:
         lines[0:0] = ["g e nothing"]
         for _ in range(rng.randint(1, 3)):

@@ -11,8 +11,9 @@ directory   the named objects and what is kept with them, and their edits
 written     the written text of objects, and of all
 listings    the listings of trees
 shots       the regions of names, the partitions of a ray, and what it meets first
+slants      the partitions of a ray in a lattice direction, point by point
 kept        what names a tile of a picture, and the tiles that a session keeps
-pictures    views, the pictures of them, and the overlaps on their rays
+pictures    views, the pictures of them, the overlaps on their rays, and the areas and edges of what their pixels present
 texts       objects, kept attributes and titles as words
 models      a whole model, read of a text
 lines       which command a line is, or why it is none

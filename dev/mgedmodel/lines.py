@@ -1,12 +1,14 @@
 """Which command a line is, or why it is none: `syntax`, `name W`, `number W`, `view ..`, `shape ..`, in this order."""
 
 from collections import namedtuple
+from math import gcd
 
 from . import attributes
 from .listings import listings_of
-from .pictures import WORLD, View, overlap_report, picture
-from .refused import Refused, syntax_unless
+from .pictures import WORLD, View, area_report, edge_picture, overlap_report, picture
+from .refused import Refused, refuse_unless, syntax_unless
 from .shots import shot
+from .slants import slant_shot
 from .solids import DIRECTIONS, FARTHEST, MOST_OF_A_NORMAL, Arb8, Cylinder, Half, Ray, Sphere, box_of, placement_of
 from .texts import ANY_LENGTH, ANY_NUMBER, numbers_of_matrix, read_attr_set, read_put, read_title
 from .words import atom, counts_as_atom, length, name_at, number_at, read_words, text_from
@@ -29,6 +31,7 @@ SOLIDS = {
     b"rcc": (7, lambda given: Cylinder(tuple(given[:3]), tuple(given[3:6]), given[6])),
 }
 NORMAL = (4, 5, 6)  # the places of the plain numbers of a half-space; all other numbers of solids are lengths
+MOST_OF_A_STEP = 4  # a plain number
 
 
 def read_line(line):
@@ -176,25 +179,52 @@ def read_save(atoms):
 def read_nirt(atoms):
     syntax_unless(len(atoms) > 5 and atoms[4].decode("latin-1") in DIRECTIONS)
     names = names_from(atoms, *range(6, len(atoms) + 1))
-    start = tuple(length_at(atoms, place, ANY_LENGTH) for place in (2, 3, 4))
-    if any(abs(part) > WORLD for part in start):
-        raise Refused("view world")
+    start = start_at(atoms)
+    refuse_outside(start)
     ray = Ray(start, DIRECTIONS[atoms[4].decode()])
     return query(lambda directory: shot(directory, ray, names))
 
 
-def read_rt(atoms):
-    syntax_unless(len(atoms) > 9 and atoms[2].decode("latin-1") in DIRECTIONS)
-    file, *names = names_from(atoms, 2, *range(10, len(atoms) + 1))
-    view = view_at(atoms, 3)
-    return Command(False, lambda directory, session: picture(directory, file, view, names, session), shoots=True)
+def read_nirtd(atoms):
+    syntax_unless(len(atoms) > 7)
+    names = names_from(atoms, *range(8, len(atoms) + 1))
+    start, along = start_at(atoms), tuple(number_at(atoms, place, MOST_OF_A_STEP) for place in (5, 6, 7))
+    refuse_unless(gcd(*along) == 1, "view direction")
+    refuse_outside(start)
+    return query(lambda directory: slant_shot(directory, Ray(start, along), names))
 
 
-def read_rtcheck(atoms):
-    syntax_unless(len(atoms) > 8 and atoms[1].decode("latin-1") in DIRECTIONS)
-    names = names_from(atoms, *range(9, len(atoms) + 1))
-    view = view_at(atoms, 2)
-    return query(lambda directory: overlap_report(directory, view, names))._replace(shoots=True)
+def start_at(atoms):
+    """The start of a ray."""
+    return tuple(length_at(atoms, place, ANY_LENGTH) for place in (2, 3, 4))
+
+
+def refuse_outside(start):
+    refuse_unless(all(abs(part) <= WORLD for part in start), "view world")
+
+
+def of_view(act):
+    """A reader of a command that shoots at a view and puts no file."""
+
+    def read(atoms):
+        syntax_unless(len(atoms) > 8 and atoms[1].decode("latin-1") in DIRECTIONS)
+        names = names_from(atoms, *range(9, len(atoms) + 1))
+        view = view_at(atoms, 2)
+        return query(lambda directory: act(directory, view, names))._replace(shoots=True)
+
+    return of_atoms(read)
+
+
+def of_file_and_view(act):
+    """A reader of a command that puts a picture of a view into a file."""
+
+    def read(atoms):
+        syntax_unless(len(atoms) > 9 and atoms[2].decode("latin-1") in DIRECTIONS)
+        file, *names = names_from(atoms, 2, *range(10, len(atoms) + 1))
+        view = view_at(atoms, 3)
+        return Command(False, lambda directory, session: act(directory, file, view, names, session), shoots=True)
+
+    return of_atoms(read)
 
 
 def view_at(atoms, place):
@@ -224,6 +254,9 @@ READERS = {
     b"tree": of_names(listings_of),
     b"save": of_atoms(read_save),
     b"nirt": of_atoms(read_nirt),
-    b"rt": of_atoms(read_rt),
-    b"rtcheck": of_atoms(read_rtcheck),
+    b"nirtd": of_atoms(read_nirtd),
+    b"rt": of_file_and_view(picture),
+    b"rtcheck": of_view(overlap_report),
+    b"rtarea": of_view(area_report),
+    b"rtedge": of_file_and_view(edge_picture),
 }

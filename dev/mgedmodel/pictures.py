@@ -1,10 +1,10 @@
-"""Views, the pictures of them, and the overlaps on their rays."""
+"""Views, the pictures of them, the overlaps on their rays, and the areas and edges of what their pixels present."""
 
-from collections import namedtuple
+from collections import Counter, namedtuple
 
 from .kept import tile_names
 from .refused import Refused, refuse_unless
-from .shots import first_overlaps, regions_of_names, seen_first
+from .shots import first_overlaps, presented, regions_of_names, seen_first
 from .solids import RAY_LENGTH, Ray, box_about
 from .words import MILLIMETRE
 
@@ -59,12 +59,16 @@ def picture(directory, file, view, names, session):
     tiles = tile_names(view, regions)
     reused = session.kept.found(tiles)
     line = f"picture {file} {view.width} {view.height} tiles {len(tiles)} shot {len(tiles) - len(reused)} reused {len(reused)}"
-    head = b"P6\n%d %d\n255\n" % (view.width, view.height)
+    head = head_of(view)
     if len(line) + 1 + len(head) + 3 * view.width * view.height > session.room():
         raise Refused("quota")
     session.kept.take(tiles)
     pixels = b"".join(pixel(regions, ray) for _, _, ray in view.rays()) if regions else bytes(3 * view.width * view.height)
     return [line], [(file, head + pixels)]
+
+
+def head_of(view):
+    return b"P6\n%d %d\n255\n" % (view.width, view.height)
 
 
 def pixel(regions, ray):
@@ -86,3 +90,31 @@ def overlap_report(directory, view, names):
 
 def overlap_line(regions, one, two, rays, first):
     return f"overlap {one} {regions[one - 1].path} {two} {regions[two - 1].path} rays {rays} {first}"
+
+
+def places_presented(regions, view):
+    """The place of the region that each pixel presents, or 0: a list of these for each row."""
+    if not regions:
+        return [[0] * view.width] * view.height
+    return [[presented(regions, view.ray(column, row)) for column in range(view.width)] for row in range(view.height)]
+
+
+def area_report(directory, view, names):
+    """A line for each region that some pixel of the view presents, with how many do."""
+    regions = regions_of_names(directory, names)
+    pixels = Counter(place for row in places_presented(regions, view) for place in row)
+    return [f"area {place} {region.path} {pixels[place]}" for place, region in enumerate(regions, 1) if pixels[place]]
+
+
+def edge_picture(directory, file, view, names, _session):
+    """The line of a picture of edges, and its file."""
+    places = places_presented(regions_of_names(directory, names), view)
+    edges = [is_edge(places, column, row) for row in range(view.height) for column in range(view.width)]
+    line = f"edges {file} {view.width} {view.height} white {sum(edges)}"
+    return [line], [(file, head_of(view) + b"".join(b"\xff\xff\xff" if edge else bytes(3) for edge in edges))]
+
+
+def is_edge(places, column, row):
+    """Whether the pixel to the right or the one below is in the picture and presents another region."""
+    beside = places[row][column + 1 : column + 2] + [below[column] for below in places[row + 1 : row + 2]]
+    return any(other != places[row][column] for other in beside)

@@ -129,14 +129,22 @@ def runs(regions, woven):
     return found
 
 
+def first_of(regions, woven):
+    """The place of the region of the first partition that has no air, and where it starts; 0 and None where there is none."""
+    return next(((place, start) for place, start, _ in runs(regions, woven) if regions[place - 1].air == 0), (0, None))
+
+
+def presented(regions, ray):
+    """The place of the region that a ray presents, or 0."""
+    return first_of(regions, Cuts(regions, ray))[0]
+
+
 def seen_first(regions, ray):
     """The first partition whose region has no air, as that region and the level of what is hit at its start; None where there
     is none."""
     woven = Cuts(regions, ray)
-    for place, start, _ in runs(regions, woven):
-        if regions[place - 1].air == 0:
-            return regions[place - 1], level_at(regions, woven, ray, start)
-    return None
+    place, start = first_of(regions, woven)
+    return (regions[place - 1], level_at(regions, woven, ray, start)) if place else None
 
 
 def level_at(regions, woven, ray, start):

@@ -1,5 +1,5 @@
-"""Planes, placements, boxes, solids, and the part of a ray in a solid. A solid tells its box as it is placed, and its
-surface, by which two placed solids are equal. All lengths count tenths of a millimetre."""
+"""Planes, placements, boxes, solids, and the part of a ray in a solid. A solid tells its box as it is placed, its surface, by
+which two placed solids are equal, and its faces, all of which hold the points inside. All lengths count tenths of a millimetre."""
 
 from collections import namedtuple
 from fractions import Fraction
@@ -17,8 +17,6 @@ FACES = ((1, 2, 3, 4), (5, 6, 7, 8), (1, 2, 6, 5), (2, 3, 7, 6), (3, 4, 8, 7), (
 
 BRIGHTEST = 255
 
-Ray = namedtuple("Ray", "start along")
-Plane = namedtuple("Plane", "normal d")  # it holds the points p with normal * p at most d
 Part = namedtuple("Part", "start end start_face end_face")  # what a solid has of a ray; the face is 0 at an end of the ray
 
 
@@ -36,6 +34,54 @@ def plus(a, b):
 
 def cross(a, b):
     return (a[1] * b[2] - a[2] * b[1], a[2] * b[0] - a[0] * b[2], a[0] * b[1] - a[1] * b[0])
+
+
+class Ray(namedtuple("Ray", "start along")):
+    """A ray, which is RAY_LENGTH steps along a whole vector long."""
+
+    def point(self, steps):
+        return tuple(part + steps * step for part, step in zip(self.start, self.along))
+
+
+class Plane(namedtuple("Plane", "normal d")):
+    """It holds the points p with normal * p at most d. Of the rays that lie in it, it holds some."""
+
+    def holds_rays(self):
+        return next(part for part in self.normal if part != 0) < 0
+
+    def met(self, ray):
+        """The places at which the line of a ray crosses it."""
+        slope = dot(self.normal, ray.along)
+        return [Position(Fraction(self.d - dot(self.normal, ray.start), slope))] if slope else []
+
+    def holds(self, ray, point):
+        """Whether it holds a point of a ray."""
+        room = self.d - dot(self.normal, point)
+        return room > 0 or room == 0 and (dot(self.normal, ray.along) != 0 or self.holds_rays())
+
+
+class Round(namedtuple("Round", "centre radius axis", defaults=[None])):
+    """What is round about a centre, or about the line through it along an axis, whose part of vectors then does not count. It
+    holds the points that are as far away as the radius, but no ray along the axis there."""
+
+    def across(self, vector):
+        return tuple(part for axis, part in enumerate(vector) if axis != self.axis)
+
+    def met(self, ray):
+        """The places at which the line of a ray crosses it, or touches it."""
+        along, away = self.across(ray.along), self.across(less(ray.start, self.centre))
+        return roots(dot(along, along), dot(along, away), dot(away, away) - self.radius**2) if any(along) else []
+
+    def holds(self, ray, point):
+        away = self.across(less(point, self.centre))
+        room = self.radius**2 - dot(away, away)
+        return room > 0 or room == 0 and any(self.across(ray.along))
+
+
+def roots(a, b, c):
+    """Where a x**2 + 2 b x + c is 0, with a over 0."""
+    k = b * b - a * c
+    return [Position(Fraction(-b, a), sign, Fraction(k, a * a)) for sign in (-1, 1)] if k >= 0 else []
 
 
 class Placement(namedtuple("Placement", "rows shift")):
@@ -92,11 +138,6 @@ def lengths(numbers):
     return group(numbers, length_text)
 
 
-def held_inside(plane):
-    """Whether a plane holds a ray that lies in it."""
-    return next(part for part in plane.normal if part != 0) < 0
-
-
 def part_between(entered, left):
     """The part from the last place where a face is entered to the first where one is left, or None. Both are pairs of a place
     and a face; of the faces at one place the lowest counts."""
@@ -113,7 +154,7 @@ def crossings_of_planes(planes, ray):
         slope, room = dot(plane.normal, ray.along), plane.d - dot(plane.normal, ray.start)
         if slope != 0:
             (left if slope > 0 else entered).append((Position(Fraction(room, slope)), face))
-        elif room < 0 or room == 0 and not held_inside(plane):
+        elif room < 0 or room == 0 and not plane.holds_rays():
             return None
     return entered, left
 
@@ -152,6 +193,9 @@ class Half:
     def surface(self, placement):
         return "half", self.planes(placement)[1]
 
+    def faces(self, placement):
+        return list(self.planes(placement).values())
+
     def part(self, placement, ray):
         return part_in_planes(self.planes(placement), ray)
 
@@ -174,6 +218,9 @@ class Sphere:
 
     def surface(self, placement):
         return "sph", placement.placed(self.centre), self.radius
+
+    def faces(self, placement):
+        return [Round(placement.placed(self.centre), self.radius)]
 
     def crossed(self, placement, ray):
         """Where the ray is nearest to the centre, and the square of half of what it has of the sphere, over 0 where it has any."""
@@ -224,6 +271,11 @@ class Cylinder:
     def surface(self, placement):
         caps = self.caps(placement)
         return "rcc", caps[self.BASE], caps[self.TOP], placement.placed(self.base), self.radius
+
+    def faces(self, placement):
+        base, top = self.ends(placement)
+        axis = next(axis for axis, part in enumerate(less(top, base)) if part)
+        return [*self.caps(placement).values(), Round(base, self.radius, axis)]
 
     def crossed(self, placement, ray):
         """Where a ray across the axis is nearest to it, None for one along it; and the square of the radius less that of the
@@ -282,6 +334,9 @@ class Arb8:
         """All faces count, and None stands for one that has no plane."""
         planes = self.planes(placement)
         return "arb8", tuple(planes.get(face) for face in range(1, 13))
+
+    def faces(self, placement):
+        return list(self.planes(placement).values())
 
     def part(self, placement, ray):
         return part_in_planes(self.planes(placement), ray)

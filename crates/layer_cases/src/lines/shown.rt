@@ -218,6 +218,17 @@ fn put_shoot(shoot: &Shoot, out: &mut Shown) {
             put_view(&view.view(), out);
             put_names(b"", names.items(), out);
         }
+        Shoot::Area { view, names } => {
+            out.put(b"area");
+            put_view(&view.view(), out);
+            put_names(b"", names.items(), out);
+        }
+        Shoot::Edge { file, view, names } => {
+            out.put(b"edges");
+            put_name(file, out);
+            put_view(&view.view(), out);
+            put_names(b"", names.items(), out);
+        }
     }
 }
 
@@ -229,6 +240,13 @@ fn put_query(query: &Query, out: &mut Shown) {
             out.put(b"shot");
             out.put(direction_word(ray.dir));
             put_point(ray.origin, out);
+            put_names(b"", names.items(), out);
+        }
+        Query::Slant { ray, names } => {
+            let ray = ray.ray();
+            out.put(b"slant");
+            put_point(ray.origin, out);
+            put_point(ray.direction(), out);
             put_names(b"", names.items(), out);
         }
         Query::List { names } => put_names(b"list", names.items(), out),
@@ -280,6 +298,7 @@ pub fn put_outline(command: &Command, out: &mut Shown) {
         Command::Shoot(Shoot::Check { names, .. }) => {
             put_count(b"check ", names.items().len(), out);
         }
+        Command::Shoot(_) => out.put(b"shoot"),
         Command::Bad(refusal) => put_refusal(refusal, out),
     }
 }

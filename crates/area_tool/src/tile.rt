@@ -9,9 +9,10 @@ ghost use Rattle.shot_core.specs.FirstShots.{IsOrderOf};
 ghost use Rattle.area_tool.specs.Numbers.{row_numbers, block_numbers, IsOnePerPixel};
 ghost use Rattle.area_tool.specs.Presented.{presented, presented_in, tile_presents, seen_place};
 
+use first_hit::{Scratch, near_order, shoot_first};
 use lattice_core::{Ray, TileSpan, View};
 use memory_core::Memory;
-use shot_core::{Scene, Scratch, Seen, near_order, shoot_first};
+use shot_core::{Scene, Seen};
 use std::alloc::Global;
 
 /// The place of the region that a ray met, and 0 where it met none.

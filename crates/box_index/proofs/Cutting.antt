@@ -21,7 +21,7 @@ use Rattle.box_index.specs.Cuts.{extent_on, of_low, of_high, is_side_below, is_s
 use Rattle.box_index.specs.Nodes.{box_at, is_touched, AreInside}
 use Rattle.box_index.proofs.Members.{none_pass}
 
-is_less : (x y : ℤ) (r : Ordering) → r ≡ int_cmp x y → IsTrue (is_lt r) → x <ℤ y
+pub is_less : (x y : ℤ) (r : Ordering) → r ≡ int_cmp x y → IsTrue (is_lt r) → x <ℤ y
 is_less x y Less is h = int_ranked x y Less is
 is_less x y Equal is h = absurd (true≢false (sym h))
 is_less x y Greater is h = absurd (true≢false (sym h))
@@ -31,7 +31,7 @@ is_not_less x y Less is h = absurd (true≢false h)
 is_not_less x y Equal is h = let e : x ≡ y = int_ranked x y Equal is in omega (arith, ints)
 is_not_less x y Greater is h = let lt : y <ℤ x = int_ranked x y Greater is in omega (arith, ints)
 
-is_more : (x y : ℤ) (r : Ordering) → r ≡ int_cmp x y → IsTrue (is_gt r) → y <ℤ x
+pub is_more : (x y : ℤ) (r : Ordering) → r ≡ int_cmp x y → IsTrue (is_gt r) → y <ℤ x
 is_more x y Less is h = absurd (true≢false (sym h))
 is_more x y Equal is h = absurd (true≢false (sym h))
 is_more x y Greater is h = int_ranked x y Greater is

@@ -5,3 +5,6 @@ mod Touching
 mod Cutting
 mod Trees
 mod Parting
+mod Widths
+mod Crossing
+mod Walking

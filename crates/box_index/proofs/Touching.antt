@@ -25,7 +25,7 @@ use Rattle.lattice_core.proofs.Tiling.{span_part}
 use Rattle.lattice_core.proofs.TileBoxes as tiles
 use Rattle.box_index.specs.Reaches.{are_ordered, do_overlap, do_touch, has_points}
 
-not_over : (x y : ℤ) (r : Ordering) → r ≡ int_cmp x y → IsTrue (not (is_gt r)) ↔ (x ≤ℤ y)
+pub not_over : (x y : ℤ) (r : Ordering) → r ≡ int_cmp x y → IsTrue (not (is_gt r)) ↔ (x ≤ℤ y)
 not_over x y Less is = let lt : x <ℤ y = int_ranked x y Less is in (λ h. omega (arith, ints), λ h. refl)
 not_over x y Equal is = let e : x ≡ y = int_ranked x y Equal is in (λ h. omega (arith, ints), λ h. refl)
 not_over x y Greater is = let lt : y <ℤ x = int_ranked x y Greater is in (λ h. absurd (true≢false (sym h)), λ h. absurd (omega (arith, ints)))
@@ -74,7 +74,7 @@ overlap_from a b p q h =
     let both = and_parts (are_ordered a.low b.high) (are_ordered b.low a.high) h in
     record { first = p; second = q; ahead = (sides_tell a.low b.high).0 both.0; behind = (sides_tell b.low a.high).0 both.1 }
 
-points_tell : (b : Box3) → IsTrue (has_points b) ↔ IsNonEmpty b
+pub points_tell : (b : Box3) → IsTrue (has_points b) ↔ IsNonEmpty b
 points_tell Empty = (λ h. true≢false (sym h), λ h. absurd h)
 points_tell (Span x y z) = (
   λ h.

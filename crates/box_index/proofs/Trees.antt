@@ -16,7 +16,7 @@ use Rattle.box_index.specs.Nodes.{box_at, is_touched, has_part, content, AreInsi
 use Rattle.box_index.proofs.Cutting.{none_reached}
 
 -- ---- nodes behind one another
-content_append : (xs ys : List Node) → content (xs ++ ys) ≡ content xs ++ content ys
+pub content_append : (xs ys : List Node) → content (xs ++ ys) ≡ content xs ++ content ys
 content_append [] ys = refl
 content_append (x ∷ xs) ys = ap (λ (l : List ℕ). x.here.items ++ l) (content_append xs ys) ∙ sym (append_assoc x.here.items (content xs) (content ys))
 

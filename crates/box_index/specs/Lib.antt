@@ -1,5 +1,6 @@
 pub mod Places
 pub mod Reaches
 pub mod Cuts
+pub mod Lines
 pub mod Nodes
 pub mod Examples

@@ -10,6 +10,9 @@ use Rattle.box_index.specs.declared.cut.Half.{Half}
 use Rattle.box_index.specs.declared.node.Node.{Node}
 use Rattle.box_index.specs.Places.{places_where}
 use Rattle.box_index.specs.Reaches.{has_points, do_touch}
+use Rattle.box_index.specs.declared.line.Line.{Line}
+use Rattle.box_index.specs.declared.line.Stretch.{Stretch}
+use Rattle.box_index.specs.Lines.{is_crossed}
 use Rattle.box_index.specs.Cuts.{is_below, is_above, is_inside}
 
 -- the box at a place, or the empty one
@@ -19,6 +22,10 @@ box_at boxes i = slice_index_or boxes i Empty
 -- whether the box at a place and another box, both with points, share one
 abbrev pub is_touched : List Box3 → Box3 → ℕ → Bool
 is_touched boxes window i = do_touch (box_at boxes i) window
+
+-- whether a stretch of a line has places in the box at a place
+abbrev pub is_crossed_at : List Box3 → Line → Stretch → ℕ → Bool
+is_crossed_at boxes line stretch i = is_crossed line stretch (box_at boxes i)
 
 -- whether a box lies so by a cut
 abbrev pub lies : Box3 → Cut → Part → Bool
@@ -42,6 +49,11 @@ AreInside boxes half places = All (λ i. IsTrue (is_inside (box_at boxes i) half
 abbrev pub AreSound : List Box3 → List Node → Type 0
 AreSound boxes [] = Unit {0}
 AreSound boxes (node ∷ nodes) = (node.below ≤ length nodes) × AreInside boxes node.half (node.here.items ++ content (take node.below nodes)) × AreSound boxes nodes
+
+-- the boxes at each node and at those of the nodes below it that are there lie in its half of space
+abbrev pub AreHeld : List Box3 → List Node → Type 0
+AreHeld boxes [] = Unit {0}
+AreHeld boxes (node ∷ nodes) = AreInside boxes node.half (node.here.items ++ content (take node.below nodes)) × AreHeld boxes nodes
 
 -- a node with those below it
 pub record IsForked (half : Half) (here : List ℕ) (below nodes : List Node) : Type 0 where

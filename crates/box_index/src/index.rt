@@ -7,14 +7,19 @@ ghost use Rattle.lattice_core.specs.Limits.{IsWithin};
 ghost use Rattle.lattice_core.specs.Boxes.{MeetsRay};
 ghost use Rattle.lattice_core.specs.Views.{IsChecked};
 ghost use Rattle.lattice_core.specs.Tiles.{tiles_of, MeetsTile};
+ghost use Rattle.slant_ray.specs.Rays.{IsSlantRay, direction_of};
+ghost use Rattle.box_index.specs.Lines.{MeetsSlant};
 ghost use Rattle.box_index.specs.Reaches.{has_points, do_touch};
 ghost use Rattle.box_index.specs.Places.{ArePlacesOf};
 
 use crate::cut::Half;
 use crate::grow::{MOST_CUTS, filled_places, grow};
+use crate::line::Line;
 use crate::node::{Node, add_reached};
+use crate::slant::find_crossed;
 use lattice_core::{Box3, Ray, View, ray_box, tile_box};
 use memory_core::Memory;
+use slant_ray::SlantRay;
 use std::alloc::Global;
 use std::marker::Model;
 
@@ -72,6 +77,15 @@ impl BoxIndex {
         ensures { IfOk result (λ _. ArePlacesOf (λ b. MeetsRay b ray.now) self.now out.new.items) }
     {
         self.touches(&ray_box(ray), out)
+    }
+
+    /// Replaces `out` by the places in the list of the boxes that meet a ray in a lattice direction, in rising order. After want of
+    /// memory it may hold anything.
+    pub fn meets_slant(&self, ray: &SlantRay, out: &mut Vec<u32>) -> Result<(), Memory>
+        requires { IsSlantRay ray.now }
+        ensures { IfOk result (λ _. ArePlacesOf (λ b. MeetsSlant b ray.now.origin (direction_of ray.now)) self.now out.new.items) }
+    {
+        find_crossed(&self.nodes, &self.boxes, &Line::of(ray), out)
     }
 
     /// Replaces `out` by the places in the list of the boxes that meet the box of a tile's rays, in rising order. After want of

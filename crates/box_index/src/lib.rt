@@ -4,9 +4,11 @@
 mod cut;
 mod grow;
 mod index;
+mod line;
 mod node;
 mod part;
 mod reach;
+mod slant;
 mod spread;
 
 pub use index::BoxIndex;

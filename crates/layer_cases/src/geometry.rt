@@ -60,6 +60,7 @@ fn answer_set(
         "meet" => boxes::answer_meet(words, out),
         "box_meets_ray" => boxes::answer_box_meets_ray(words, out),
         "boxes_on_ray" => boxes::answer_boxes_on_ray(alloc, words, out),
+        "boxes_on_slant" => boxes::answer_boxes_on_slant(alloc, words, out),
         "sphere_box" => solids::answer_sphere_box(words, out),
         _ => {
             answer_placement(alloc, kind, words, out);

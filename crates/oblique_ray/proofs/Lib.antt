@@ -18,4 +18,6 @@ pub mod Separated
 pub mod SlabList
 pub mod SlabTruth
 pub mod ShotAxes
+pub mod Reached
+pub mod Touched
 pub mod ShotLaws

@@ -113,7 +113,7 @@ module _ (far : ℤ) where
     not_ended = omega (arith, ints, by_not_before far (pos 1) p q some not_ended);
   }
 
-  between_ends : (x y : QPos) (p q : ℤ) → pos 0 <ℤ q → IsQuotientPlace x → IsQuotientPlace y → ¬ (Before x slant_start) → ¬ (Before (slant_end far) y) → Before x (Frac p q) → Before (Frac p q) y → IsOnSlant far p q
+  pub between_ends : (x y : QPos) (p q : ℤ) → pos 0 <ℤ q → IsQuotientPlace x → IsQuotientPlace y → ¬ (Before x slant_start) → ¬ (Before (slant_end far) y) → Before x (Frac p q) → Before (Frac p q) y → IsOnSlant far p q
   between_ends x y p q some place place' begun not_ended after before =
       let here : IsQuotientPlace (Frac p q) = fraction_place p q some in
       on_slant p q some (λ early. begun (passes x (Frac p q) slant_start place here zero_place after early)) (λ late. not_ended (passes (slant_end far) (Frac p q) y (far_place far) here place' late before))

@@ -1,13 +1,15 @@
 //! What a ray has of the instances of a scene, and where that cuts it.
 
-ghost use Rattle.std.specs.Prelude.{◌≡◌, ◌++◌, ◌+◌, ◌<◌, ◌≤◌, ◌^◌, [], IfOk, OnOk, All, AllPairs, length, map};
+ghost use Rattle.std.specs.Prelude.{◌≡◌, ◌++◌, ◌+◌, ◌<◌, ◌≤◌, ◌^◌, [], IfOk, OnOk, All, AllPairs, length, map, flat_map};
 ghost use Rattle.lattice_core.specs.declared.limit.TheConstants.{FAR};
 ghost use Rattle.bool_weave.specs.Cuts.{IsWoven};
 ghost use Rattle.bool_weave.specs.Lines.{cuts_along};
 ghost use Rattle.shot_core.specs.Prepared.{instance_of};
-ghost use Rattle.shot_core.specs.Regions.{IsScene, HaveInstances};
+ghost use Rattle.shot_core.specs.Regions.{IsScene, HaveInstances, instances_of};
+ghost use Rattle.shot_core.specs.Steps.{owned_from};
 ghost use Rattle.slant_ranks.specs.Slants.{slant_up_to, woven_by_ranks};
 ghost use Rattle.oblique_ray.specs.CutSteps.{AreRising, IsPieceInRange, segment_of_piece};
+ghost use Rattle.oblique_ray.specs.ShotSteps.{numbered_segment, owners_noted};
 ghost use Rattle.slant_ray.specs.Rays.{direction_of, IsSlantRay};
 ghost use Rattle.oblique_ray.specs.Segments.{slant_segment};
 ghost use Rattle.oblique_ray.specs.Shots.{segment_if, segments_from, segments_on};
@@ -17,7 +19,7 @@ use crate::slant::slant_segment;
 use bool_weave::Weave;
 use lattice_core::FAR;
 use memory_core::Memory;
-use shot_core::Scene;
+use shot_core::{Scene, note};
 use slant_ray::SlantRay;
 use solid_set::Placed;
 use std::alloc::Global;
@@ -76,12 +78,10 @@ fn add_pieces(
 }
 
 /// The segments of all instances of a scene, each of which is looked at.
-pub fn pieces_of(alloc: Global, scene: &Scene, ray: &SlantRay) -> Result<Vec<Piece>, Memory>
+fn pieces_of_all(alloc: Global, scene: &Scene, ray: &SlantRay) -> Result<Vec<Piece>, Memory>
     requires { IsSlantRay ray.now }
     ensures pieces { IfOk result (λ v. map segment_of_piece v.items ≡ segments_on scene.now ray.now.origin (direction_of ray.now)) }
     ensures range { IfOk result (λ v. All IsPieceInRange v.items) }
-    ensures sound { IfOk result (λ _. IsScene scene.now) }
-    ensures leaves { IfOk result (λ _. HaveInstances scene.now) }
 {
     let mut pieces = Vec::new(alloc);
     let mut first = 0;
@@ -91,6 +91,71 @@ pub fn pieces_of(alloc: Global, scene: &Scene, ray: &SlantRay) -> Result<Vec<Pie
         first += solids.len() as u32;
     }
     Ok(pieces)
+}
+
+/// Adds the segment of the instance of that number, where there is one that has one.
+fn add_numbered(
+    pieces: &mut Vec<Piece>,
+    scene: &Scene,
+    number: u32,
+    ray: &SlantRay,
+) -> Result<(), Memory>
+    requires ray { IsSlantRay ray.now }
+    requires range { All IsPieceInRange pieces.old.items }
+    ensures pieces { OnOk result (map segment_of_piece pieces.new.items ≡ map segment_of_piece pieces.old.items ++ numbered_segment (instances_of scene.now) ray.now.origin (direction_of ray.now) number) }
+    ensures range { OnOk result (All IsPieceInRange pieces.new.items) }
+{
+    match scene.instance(number) {
+        Some(solid) => add_piece(pieces, number, solid, ray),
+        None => Ok(()),
+    }
+}
+
+/// The segments of the instances of these numbers.
+fn pieces_among(
+    alloc: Global,
+    scene: &Scene,
+    numbers: &[u32],
+    ray: &SlantRay,
+) -> Result<Vec<Piece>, Memory>
+    requires { IsSlantRay ray.now }
+    ensures pieces { IfOk result (λ v. map segment_of_piece v.items ≡ flat_map (numbered_segment (instances_of scene.now) ray.now.origin (direction_of ray.now)) numbers.now) }
+    ensures range { IfOk result (λ v. All IsPieceInRange v.items) }
+{
+    let mut pieces = Vec::new(alloc);
+    for number in numbers {
+        add_numbered(&mut pieces, scene, *number, ray)?;
+    }
+    Ok(pieces)
+}
+
+/// The segments of all instances of a scene. Where there is an index of the instances, those are looked at whose boxes meet the
+/// ray.
+pub fn pieces_of(alloc: Global, scene: &Scene, ray: &SlantRay) -> Result<Vec<Piece>, Memory>
+    requires { IsSlantRay ray.now }
+    ensures pieces { IfOk result (λ v. map segment_of_piece v.items ≡ segments_on scene.now ray.now.origin (direction_of ray.now)) }
+    ensures range { IfOk result (λ v. All IsPieceInRange v.items) }
+    ensures sound { IsScene scene.now }
+    ensures leaves { HaveInstances scene.now }
+{
+    let Some(index) = scene.by_instance() else {
+        return pieces_of_all(alloc, scene, ray);
+    };
+    let mut numbers = Vec::new(alloc);
+    index.meets_slant(ray, &mut numbers)?;
+    pieces_among(alloc, scene, &numbers, ray)
+}
+
+/// The numbers of the regions that have pieces, in rising order.
+pub fn touched(alloc: Global, scene: &Scene, pieces: &[Piece]) -> Result<Vec<u32>, Memory>
+    requires { All (λ p. p.instance < length (instances_of scene.now)) pieces.now }
+    ensures { IfOk result (λ v. v.items ≡ owners_noted (owned_from 0 scene.now) (map segment_of_piece pieces.now) []) }
+{
+    let mut numbers = Vec::new(alloc);
+    for piece in pieces {
+        note(&mut numbers, scene.owner(piece.instance))?;
+    }
+    Ok(numbers)
 }
 
 /// The cuts of a ray: its two ends and the ends of all pieces, in their order and each once.

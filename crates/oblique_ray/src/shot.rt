@@ -5,62 +5,67 @@ ghost use Rattle.lattice_core.specs.declared.limit.TheConstants.{FAR};
 ghost use Rattle.lattice_core.specs.declared.ray.Ray.{Ray};
 ghost use Rattle.lattice_core.specs.Units.{unit_of};
 ghost use Rattle.order_laws.specs.Parts.{number_of};
-ghost use Rattle.shot_core.specs.Shots.{claims_from, lit_of};
+ghost use Rattle.shot_core.specs.Shots.{lit_of};
+ghost use Rattle.shot_core.specs.Steps.{numbered_claims, renumbered};
 ghost use Rattle.oblique_ray.specs.Points.{IsTrueOfSlant};
 ghost use Rattle.slant_ray.specs.Rays.{direction_of, IsSlantRay};
 ghost use Rattle.oblique_ray.specs.ShotSteps.{slab_by_ranks};
 ghost use Rattle.oblique_ray.specs.Shots.{slabs_on, slab_of_lit};
 
 use crate::cut::cut_at;
-use crate::piece::{cuts_of, pieces_of, weave_pieces};
+use crate::piece::{cuts_of, pieces_of, touched, weave_pieces};
 use crate::slab::Slab;
-use bool_weave::{Weave, claims};
+use bool_weave::Weave;
 use memory_core::Memory;
 use overlap_list::{Partition, RegionClaims, settle};
-use shot_core::Scene;
+use shot_core::{Scene, region_claims};
 use slant_ray::SlantRay;
 use std::alloc::Global;
 use surd_quot::QPos;
 
-/// What the regions of a scene claim.
-fn claims_of_all(alloc: Global, weave: &Weave, scene: &Scene) -> Result<Vec<RegionClaims>, Memory>
-    ensures { IfOk result (λ v. v.items ≡ claims_from weave.now 0 scene.now) }
+/// What the regions of these numbers claim.
+fn claims_of_all(
+    alloc: Global,
+    weave: &Weave,
+    scene: &Scene,
+    numbers: &[u32],
+) -> Result<Vec<RegionClaims>, Memory>
+    requires { All (λ n. n < length scene.now) numbers.now }
+    ensures { IfOk result (λ v. v.items ≡ map (numbered_claims weave.now scene.now) numbers.now) }
 {
     let mut all = Vec::new(alloc);
-    let mut first = 0;
-    for region in scene.regions() {
-        let body = region.body();
-        let count = body.solids().len() as u32;
-        all.push(RegionClaims {
-            air: body.air() != 0,
-            first,
-            count,
-            claims: claims(alloc, weave, body.tree(), first)?,
-        })?;
-        first += count;
+    for number in numbers {
+        all.push(region_claims(alloc, weave, scene, *number)?)?;
     }
     Ok(all)
 }
 
-/// The part of a region between the cuts that have the numbers of a partition's ends.
-fn slab_by(cuts: &[QPos], partition: &Partition) -> Slab
-    requires { 0 < length cuts.now }
-    ensures { result ≡ slab_by_ranks cuts.now partition.now }
+/// The part of one of the regions of these numbers between the cuts that have the numbers of a partition's ends.
+fn slab_by(cuts: &[QPos], numbers: &[u32], partition: &Partition) -> Slab
+    requires cuts { 0 < length cuts.now }
+    requires region { partition.now.region < length numbers.now }
+    ensures { result ≡ slab_by_ranks cuts.now (renumbered numbers.now partition.now) }
 {
     Slab {
-        region: partition.region,
+        region: numbers[partition.region as usize],
         start: cut_at(cuts, &partition.start),
         end: cut_at(cuts, &partition.end),
     }
 }
 
-fn slabs_by(alloc: Global, cuts: &[QPos], partitions: &[Partition]) -> Result<Vec<Slab>, Memory>
-    requires { 0 < length cuts.now }
-    ensures { IfOk result (λ v. v.items ≡ map (slab_by_ranks cuts.now) partitions.now) }
+fn slabs_by(
+    alloc: Global,
+    cuts: &[QPos],
+    numbers: &[u32],
+    partitions: &[Partition],
+) -> Result<Vec<Slab>, Memory>
+    requires cuts { 0 < length cuts.now }
+    requires regions { All (λ p. p.region < length numbers.now) partitions.now }
+    ensures { IfOk result (λ v. v.items ≡ map (λ p. slab_by_ranks cuts.now (renumbered numbers.now p)) partitions.now) }
 {
     let mut slabs = Vec::new(alloc);
     for partition in partitions {
-        slabs.push(slab_by(cuts, partition))?;
+        slabs.push(slab_by(cuts, numbers, partition))?;
     }
     Ok(slabs)
 }
@@ -75,10 +80,14 @@ pub fn slant_shot(alloc: Global, scene: &Scene, ray: &SlantRay) -> Result<Vec<Sl
     ensures axes { IfOk result (λ v. (plain : Ray) → plain.origin ≡ ray.now.origin → unit_of plain.dir ≡ direction_of ray.now → v.items ≡ map slab_of_lit (lit_of scene.now plain)) }
 {
     let pieces = pieces_of(alloc, scene, ray)?;
+    if pieces.is_empty() {
+        return Ok(Vec::new(alloc));
+    }
+    let numbers = touched(alloc, scene, &pieces)?;
     let cuts = cuts_of(alloc, &pieces)?;
     let mut weave = Weave::new(alloc)?;
     weave_pieces(&mut weave, &cuts, &pieces)?;
-    let regions = claims_of_all(alloc, &weave, scene)?;
+    let regions = claims_of_all(alloc, &weave, scene, &numbers)?;
     let partitions = settle(alloc, &weave, &regions)?;
-    slabs_by(alloc, &cuts, &partitions)
+    slabs_by(alloc, &cuts, &numbers, &partitions)
 }

@@ -16,7 +16,7 @@ use Rattle.bool_weave.proofs.Sorted.{Has, has_append_left, has_append_right, con
 use Rattle.overlap_list.specs.declared.region.RegionClaims.{RegionClaims}
 use Rattle.shot_core.specs.Regions.{Instance, Region, HasLeavesBelow, HaveInstances, instances_of, firsts_from, size_of_all}
 use Rattle.shot_core.specs.Shots.{woven_if, woven_from, woven_of, body_claims, claims_from, claims_on}
-use Rattle.shot_core.specs.Steps.{is_some, has_segment, is_hit, marked_from, no_region, numbered_claims}
+use Rattle.shot_core.specs.Steps.{is_some, has_segment, has_some, is_hit, marked_from, no_region, numbered_claims}
 use Rattle.shot_core.proofs.Numbering.{get_left, get_right}
 use Rattle.shot_core.proofs.Weaving.{or_false}
 use Rattle.shot_core.proofs.Picking.{kept, LeavesOut, ClaimsNothing, map_same_on, map_twice}
@@ -68,28 +68,29 @@ none_any p [] i h lt = absurd (omega (arith, lt))
 none_any p (x ∷ xs) zero h lt = (x, refl, (or_false (p x) (list_any p xs) h).0)
 none_any p (x ∷ xs) (suc i) h lt = none_any p xs i (or_false (p x) (list_any p xs) h).1 (omega (arith, lt))
 
-abbrev SpansNothing : Ray → List Woven → ℕ → List Instance → Type 0
-SpansNothing ray woven first xs = (i : ℕ) (x : Instance) (interval : Interval) → slice_get xs i ≡ Some x → has_segment ray x ≡ false → spans woven interval (first + i) ≡ false
+-- the instances that fail a test, numbered from `first` on, span nothing
+abbrev pub SpansNothing : (Instance → Bool) → List Woven → ℕ → List Instance → Type 0
+SpansNothing has woven first xs = (i : ℕ) (x : Instance) (interval : Interval) → slice_get xs i ≡ Some x → has x ≡ false → spans woven interval (first + i) ≡ false
 
 mapped_false : (f : Interval → Bool) (xs : List Interval) (k : ℕ) → ((x : Interval) → f x ≡ false) → get_or (map f xs) k false ≡ false
 mapped_false f [] k h = refl
 mapped_false f (x ∷ xs) zero h = h x
 mapped_false f (x ∷ xs) (suc k) h = mapped_false f xs k h
 
-leaf_nothing : (ray : Ray) (woven : List Woven) (first : ℕ) (xs : List Instance) (interval : Interval) (leaf : Option ℕ) → SpansNothing ray woven first xs → list_any (has_segment ray) xs ≡ false
+leaf_nothing : (has : Instance → Bool) (woven : List Woven) (first : ℕ) (xs : List Instance) (interval : Interval) (leaf : Option ℕ) → SpansNothing has woven first xs → list_any has xs ≡ false
     → IfSome leaf (λ i. i < length xs) → leaf_value (λ i. spans woven interval (first + i)) leaf ≡ false
-leaf_nothing ray woven first xs interval None spanned bare below = refl
-leaf_nothing ray woven first xs interval (Some i) spanned bare below =
-    let one = none_any (has_segment ray) xs i bare below in
+leaf_nothing has woven first xs interval None spanned bare below = refl
+leaf_nothing has woven first xs interval (Some i) spanned bare below =
+    let one = none_any has xs i bare below in
     spanned i one.0 interval one.1 one.2
 
-body_nothing : (ray : Ray) (woven : List Woven) (first : ℕ) (r : Region) → SpansNothing ray woven first r.body.instances → HasLeavesBelow (length r.body.instances) r.body.tree → is_hit ray r ≡ false
+body_nothing : (has : Instance → Bool) (woven : List Woven) (first : ℕ) (r : Region) → SpansNothing has woven first r.body.instances → HasLeavesBelow (length r.body.instances) r.body.tree → has_some has r ≡ false
     → ClaimsNothing (body_claims woven first r.body)
-body_nothing ray woven first r spanned below bare = λ k.
+body_nothing has woven first r spanned below bare = λ k.
     mapped_false (claims_interval woven r.body.tree first) (intervals_of woven) k (λ interval.
     nothing r.body.tree (λ i. spans woven interval (first + i)) (λ leaf there.
     let c = contains_from_has (leaves r.body.tree) leaf there in
-    leaf_nothing ray woven first r.body.instances interval leaf spanned bare (subst (λ (o : Option ℕ). IfSome o (λ i. i < length r.body.instances)) c.2 (below c.0 leaf c.1))))
+    leaf_nothing has woven first r.body.instances interval leaf spanned bare (subst (λ (o : Option ℕ). IfSome o (λ i. i < length r.body.instances)) c.2 (below c.0 leaf c.1))))
 
 leaves_one : (b : Bool) (ms : List Bool) (x : RegionClaims) (xs : List RegionClaims) → (b ≡ false → ClaimsNothing x) → LeavesOut ClaimsNothing ms xs → LeavesOut ClaimsNothing (b ∷ ms) (x ∷ xs)
 leaves_one true ms x xs f h = h
@@ -98,21 +99,22 @@ leaves_one false ms x xs f h = (f refl, h)
 in_head : (xs ys : List Instance) (i : ℕ) (x : Instance) → slice_get xs i ≡ Some x → slice_get (xs ++ ys) i ≡ Some x
 in_head xs ys i x at = get_left xs ys i (slice_get_within xs i x at) ∙ at
 
-out_from : (ray : Ray) (woven : List Woven) (first : ℕ) (rs : List Region) → SpansNothing ray woven first (instances_of rs) → HaveInstances rs → LeavesOut ClaimsNothing (map (is_hit ray) rs) (claims_from woven first rs)
-out_from ray woven first [] spanned leaves = tt
-out_from ray woven first (r ∷ rs) spanned leaves =
-    let head : SpansNothing ray woven first r.body.instances = λ i x interval at none. spanned i x interval (in_head r.body.instances (instances_of rs) i x at) none in
-    let tail : SpansNothing ray woven (first + length r.body.instances) (instances_of rs) = λ i x interval at none.
+-- so the regions of which no instance passes claim nothing
+pub out_from : (has : Instance → Bool) (woven : List Woven) (first : ℕ) (rs : List Region) → SpansNothing has woven first (instances_of rs) → HaveInstances rs → LeavesOut ClaimsNothing (map (has_some has) rs) (claims_from woven first rs)
+out_from has woven first [] spanned leaves = tt
+out_from has woven first (r ∷ rs) spanned leaves =
+    let head : SpansNothing has woven first r.body.instances = λ i x interval at none. spanned i x interval (in_head r.body.instances (instances_of rs) i x at) none in
+    let tail : SpansNothing has woven (first + length r.body.instances) (instances_of rs) = λ i x interval at none.
     let e : first + length r.body.instances + i ≡ first + (length r.body.instances + i) = omega arith in
     ap (λ m. spans woven interval m) e ∙ spanned (length r.body.instances + i) x interval (get_right r.body.instances (instances_of rs) i ∙ at) none in
-    leaves_one (is_hit ray r) (map (is_hit ray) rs) (body_claims woven first r.body) (claims_from woven (first + length r.body.instances) rs)
-    (λ bare. body_nothing ray woven first r head (leaves 0 r (omega arith)) bare)
-    (out_from ray woven (first + length r.body.instances) rs tail (λ k d lt. leaves (suc k) d (omega (arith, lt))))
+    leaves_one (has_some has r) (map (has_some has) rs) (body_claims woven first r.body) (claims_from woven (first + length r.body.instances) rs)
+    (λ bare. body_nothing has woven first r head (leaves 0 r (omega arith)) bare)
+    (out_from has woven (first + length r.body.instances) rs tail (λ k d lt. leaves (suc k) d (omega (arith, lt))))
 
 -- the regions that are not hit claim nothing
 pub claims_left_out : (rs : List Region) (ray : Ray) → HaveInstances rs → LeavesOut ClaimsNothing (map (is_hit ray) rs) (claims_on rs ray)
 claims_left_out rs ray leaves =
-    out_from ray (woven_of rs ray) 0 rs (λ i x interval at none. spans_at ray 0 i (instances_of rs) x interval at none) leaves
+    out_from (has_segment ray) (woven_of rs ray) 0 rs (λ i x interval at none. spans_at ray 0 i (instances_of rs) x interval at none) leaves
 
 -- picked values by their numbers
 marked_more : (n : ℕ) (ms : List Bool) → marked_from (n + 1) ms ≡ map (λ k. suc k) (marked_from n ms)

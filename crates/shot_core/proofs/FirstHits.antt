@@ -22,8 +22,7 @@ use Rattle.shot_core.specs.Shots.{woven_if, woven_from, woven_of, level_on, leve
 use Rattle.shot_core.specs.FirstShots.{tree_region, trees_from, trees_of}
 use Rattle.shot_core.proofs.FirstShots.{none_right}
 use Rattle.shot_core.proofs.Numbering.{get_left, get_right}
-use Rattle.shot_core.proofs.LowestHits.{woven_rises}
-use Rattle.shot_core.proofs.Weaving.{woven_append, has_woven}
+use Rattle.shot_core.proofs.Weaving.{woven_append, woven_rises, has_woven}
 use Rattle.shot_core.proofs.OwnClaims.{changes_on, change_is, Agree, next_agree}
 
 -- the lowest-numbered of rising ones is the first

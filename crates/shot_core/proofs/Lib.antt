@@ -3,7 +3,6 @@ pub mod Boxing
 pub mod Landing
 pub mod Nodes
 pub mod Numbering
-pub mod Ordering
 pub mod Picking
 pub mod Weaving
 pub mod Claiming
@@ -29,13 +28,6 @@ pub mod KeptSeen
 pub mod KeptOverlaps
 pub mod KeptLaws
 pub mod Candidates
-pub mod FirstSearch
-pub mod Fronting
-pub mod Owning
-pub mod Passing
-pub mod LowestHits
-pub mod Seeing
 pub mod TilePicking
 pub mod Reaching
-pub mod NearFirst
 mod PointExamples

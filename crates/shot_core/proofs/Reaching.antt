@@ -22,11 +22,11 @@ use Rattle.shot_core.specs.Regions.{Instance, Region, IsPlacedSolid, HavePlacedS
 use Rattle.shot_core.specs.MetBoxes.{meets_ray, met_count}
 use Rattle.shot_core.specs.Prepared.{boxes_of}
 use Rattle.shot_core.specs.Shots.{woven_if, woven_from}
-use Rattle.shot_core.specs.Steps.{is_some, has_segment, hit_from, owned_from, is_last, noted, with_instance, with_instances, one_if}
+use Rattle.shot_core.specs.Steps.{is_some, has_segment, has_some, hit_from, marked_from, owned_from, is_last, noted, with_instance, with_instances, one_if}
 use Rattle.shot_core.proofs.Boxing.{met_tells}
 use Rattle.shot_core.proofs.Landing.{missed}
 use Rattle.shot_core.proofs.Numbering.{get_right, firsts_least, firsts_length}
-use Rattle.shot_core.proofs.Weaving.{hit_more, has_if, short_if}
+use Rattle.shot_core.proofs.Weaving.{has_if, short_if}
 
 -- what is woven in, and the regions that are noted
 abbrev pub State : Type 0
@@ -43,7 +43,7 @@ last_at (m ∷ k ∷ ks) n d some =
     let e : length (m ∷ k ∷ ks) - 1 ≡ suc (length (k ∷ ks) - 1) = omega arith in
     last_at (k ∷ ks) n d (omega arith) ∙ ap (λ i. get_or (m ∷ k ∷ ks) i d == n) (sym e)
 
-abbrev AreBelow : ℕ → List ℕ → Type 0
+abbrev pub AreBelow : ℕ → List ℕ → Type 0
 AreBelow n [] = Unit {0}
 AreBelow n (m ∷ ms) = (m < n) × AreBelow n ms
 
@@ -71,46 +71,51 @@ below_more n [] true below = (omega arith, tt)
 below_more n [] false below = tt
 below_more n (m ∷ ms) b below = (omega (arith, below.0), below_more n ms b below.1)
 
--- ---- which regions some instances hit
-abbrev hits_of : Ray → List Owned → List ℕ → List ℕ
-hits_of ray [] hit = hit
-hits_of ray (z ∷ zs) hit = hits_of ray zs (cond (has_segment ray z.1) (noted hit z.0) hit)
+-- ---- which regions have instances that pass a test
+abbrev pub hits_of : (Instance → Bool) → List Owned → List ℕ → List ℕ
+hits_of has [] hit = hit
+hits_of has (z ∷ zs) hit = hits_of has zs (cond (has z.1) (noted hit z.0) hit)
 
 either : (b : Bool) (x y : List ℕ) → x ≡ y → cond b x y ≡ y
 either true x y e = e
 either false x y e = refl
 
-in_noted : (ray : Ray) (n : ℕ) (is : List Instance) (zs : List Owned) (ms : List ℕ) → hits_of ray (map (λ (i : Instance). (n, i)) is ++ zs) (ms ++ n ∷ []) ≡ hits_of ray zs (ms ++ n ∷ [])
-in_noted ray n [] zs ms = refl
-in_noted ray n (i ∷ is) zs ms =
-    ap (hits_of ray (map (λ (i : Instance). (n, i)) is ++ zs)) (either (has_segment ray i) (noted (ms ++ n ∷ []) n) (ms ++ n ∷ []) (noted_again ms n))
-    ∙ in_noted ray n is zs ms
+in_noted : (has : Instance → Bool) (n : ℕ) (is : List Instance) (zs : List Owned) (ms : List ℕ) → hits_of has (map (λ (i : Instance). (n, i)) is ++ zs) (ms ++ n ∷ []) ≡ hits_of has zs (ms ++ n ∷ [])
+in_noted has n [] zs ms = refl
+in_noted has n (i ∷ is) zs ms =
+    ap (hits_of has (map (λ (i : Instance). (n, i)) is ++ zs)) (either (has i) (noted (ms ++ n ∷ []) n) (ms ++ n ∷ []) (noted_again ms n))
+    ∙ in_noted has n is zs ms
 
-in_region : (ray : Ray) (n : ℕ) (is : List Instance) (zs : List Owned) (ms : List ℕ) → AreBelow n ms
-    → hits_of ray (map (λ (i : Instance). (n, i)) is ++ zs) ms ≡ hits_of ray zs (ms ++ cond (list_any (has_segment ray) is) (n ∷ []) [])
-in_region ray n [] zs ms below = ap (hits_of ray zs) (sym (append-nil ms))
-in_region ray n (i ∷ is) zs ms below =
+in_region : (has : Instance → Bool) (n : ℕ) (is : List Instance) (zs : List Owned) (ms : List ℕ) → AreBelow n ms
+    → hits_of has (map (λ (i : Instance). (n, i)) is ++ zs) ms ≡ hits_of has zs (ms ++ cond (list_any has is) (n ∷ []) [])
+in_region has n [] zs ms below = ap (hits_of has zs) (sym (append-nil ms))
+in_region has n (i ∷ is) zs ms below =
     let rest = map (λ (i : Instance). (n, i)) is ++ zs in
-    elim (cases_Bool (has_segment ray i)) [
-      | inl has ↦
-          let any : list_any (has_segment ray) (i ∷ is) ≡ true = ap (λ b. b || list_any (has_segment ray) is) has in
-          ap (hits_of ray rest) (cond-true (has_segment ray i) (noted ms n) ms has ∙ noted_new ms n below)
-          ∙ in_noted ray n is zs ms
-          ∙ ap (λ b. hits_of ray zs (ms ++ cond b (n ∷ []) [])) (sym any)
+    elim (cases_Bool (has i)) [
+      | inl passes ↦
+          let any : list_any has (i ∷ is) ≡ true = ap (λ b. b || list_any has is) passes in
+          ap (hits_of has rest) (cond-true (has i) (noted ms n) ms passes ∙ noted_new ms n below)
+          ∙ in_noted has n is zs ms
+          ∙ ap (λ b. hits_of has zs (ms ++ cond b (n ∷ []) [])) (sym any)
       | inr lacks ↦
-          let any : list_any (has_segment ray) (i ∷ is) ≡ list_any (has_segment ray) is = ap (λ b. b || list_any (has_segment ray) is) lacks in
-          ap (hits_of ray rest) (cond-false (has_segment ray i) (noted ms n) ms lacks)
-          ∙ in_region ray n is zs ms below
-          ∙ ap (λ b. hits_of ray zs (ms ++ cond b (n ∷ []) [])) (sym any)
+          let any : list_any has (i ∷ is) ≡ list_any has is = ap (λ b. b || list_any has is) lacks in
+          ap (hits_of has rest) (cond-false (has i) (noted ms n) ms lacks)
+          ∙ in_region has n is zs ms below
+          ∙ ap (λ b. hits_of has zs (ms ++ cond b (n ∷ []) [])) (sym any)
     ]
 
-all_hits : (ray : Ray) (n : ℕ) (rs : List Region) (ms : List ℕ) → AreBelow n ms → hits_of ray (owned_from n rs) ms ≡ ms ++ hit_from ray n rs
-all_hits ray n [] ms below = sym (append-nil ms)
-all_hits ray n (r ∷ rs) ms below =
-    let b = list_any (has_segment ray) r.body.instances in
-    in_region ray n r.body.instances (owned_from (n + 1) rs) ms below
-    ∙ all_hits ray (n + 1) rs (ms ++ cond b (n ∷ []) []) (below_more n ms b below)
-    ∙ sym (hit_more ray n r rs ms b refl)
+marked_one : (n : ℕ) (b : Bool) (bs : List Bool) (before : List ℕ) → (before ++ cond b (n ∷ []) []) ++ marked_from (n + 1) bs ≡ before ++ marked_from n (b ∷ bs)
+marked_one n true bs before = append_assoc before (n ∷ []) (marked_from (n + 1) bs)
+marked_one n false bs before = append_assoc before [] (marked_from (n + 1) bs)
+
+-- they are the numbers of the regions that have such an instance
+pub all_hits : (has : Instance → Bool) (n : ℕ) (rs : List Region) (ms : List ℕ) → AreBelow n ms → hits_of has (owned_from n rs) ms ≡ ms ++ marked_from n (map (has_some has) rs)
+all_hits has n [] ms below = sym (append-nil ms)
+all_hits has n (r ∷ rs) ms below =
+    let b = list_any has r.body.instances in
+    in_region has n r.body.instances (owned_from (n + 1) rs) ms below
+    ∙ all_hits has (n + 1) rs (ms ++ cond b (n ∷ []) []) (below_more n ms b below)
+    ∙ marked_one n b (map (has_some has) rs) ms
 
 -- ---- what all instances weave in and hit, one after another
 abbrev with_each : Ray → ℕ → List Owned → State → State
@@ -123,7 +128,7 @@ each_woven ray n (z ∷ zs) s =
     each_woven ray (n + 1) zs (with_instance ray n (Some z) s)
     ∙ append_assoc s.0 (woven_if n (segment_of z.1.surface ray)) (woven_from ray (n + 1) (map (λ (z : Owned). z.1) zs))
 
-each_hit : (ray : Ray) (n : ℕ) (zs : List Owned) (s : State) → (with_each ray n zs s).1 ≡ hits_of ray zs s.1
+each_hit : (ray : Ray) (n : ℕ) (zs : List Owned) (s : State) → (with_each ray n zs s).1 ≡ hits_of (has_segment ray) zs s.1
 each_hit ray n [] s = refl
 each_hit ray n (z ∷ zs) s = each_hit ray (n + 1) zs (with_instance ray n (Some z) s)
 
@@ -204,7 +209,7 @@ module _ (ray : Ray) where
         let boxed : boxes ≡ map box_of zs = boxes_are ∙ ap boxes_of (sym (owned_are 0 rs)) ∙ map-map (λ (i : Instance). i.bounds) (λ (z : Owned). z.1) zs in
         let each = with_each ray 0 zs ([], []) in
         let woven : each.0 ≡ woven_from ray 0 (instances_of rs) = each_woven ray 0 zs ([], []) ∙ ap (woven_from ray 0) (owned_are 0 rs) in
-        let hit : each.1 ≡ hit_from ray 0 rs = each_hit ray 0 zs ([], []) ∙ all_hits ray 0 rs [] tt in
+        let hit : each.1 ≡ hit_from ray 0 rs = each_hit ray 0 zs ([], []) ∙ all_hits (has_segment ray) 0 rs [] tt in
         ap (with_instances ray zs ([], [])) (told_places ∙ ap (places_where f) boxed)
         ∙ reach_from [] zs ([], []) (told_all ray 0 rs placed)
         ∙ ap (λ (l : List Woven). (l, each.1)) woven

@@ -10,7 +10,7 @@ use Rattle.surd_order.specs.declared.position.Seg.{Seg}
 use Rattle.solid_set.specs.Segments.{segment_of}
 use Rattle.bool_weave.specs.declared.woven.Woven.{Woven}
 use Rattle.bool_weave.proofs.Sorted.{Has, has_append_cases}
-use Rattle.overlap_list.proofs.Ordered.{all_from_has}
+use Rattle.overlap_list.proofs.Ordered.{Rises, all_from_has, rises_append}
 use Rattle.shot_core.specs.Regions.{Instance, Region, instances_of}
 use Rattle.shot_core.specs.MetBoxes.{meets_ray}
 use Rattle.shot_core.specs.Shots.{woven_if, woven_from, woven_of}
@@ -166,3 +166,19 @@ module _ (ray : Ray) (r : Region) (rest from : List Region) (xs : List Instance)
   pub few_next : (first n : ℕ) (before after : List Woven) → length xs ≡ n → after ≡ before ++ woven_from ray first xs → length before ≤ first → length after ≤ first + n
   few_next first n before after count step few =
       omega (arith, ap length step, length-append before (woven_from ray first xs), woven_short ray first xs, count, few)
+
+-- the numbers of what is woven rise
+one_rises : (n : ℕ) (o : _) → Rises (λ (v w : Woven). v.instance < w.instance) (woven_if n o)
+one_rises n None = tt
+one_rises n (Some seg) = (λ y h. absurd h, tt)
+
+number_of_one : (n : ℕ) (o : _) (w : Woven) → Has (woven_if n o) w → w.instance ≡ n
+number_of_one n None w h = absurd h
+number_of_one n (Some seg) w (inl e) = ap (λ (v : Woven). v.instance) (sym e)
+number_of_one n (Some seg) w (inr h) = absurd h
+
+pub woven_rises : (ray : Ray) (n : ℕ) (xs : List Instance) → Rises (λ (v w : Woven). v.instance < w.instance) (woven_from ray n xs)
+woven_rises ray n [] = tt
+woven_rises ray n (x ∷ xs) =
+    rises_append (λ (v w : Woven). v.instance < w.instance) (woven_if n (segment_of x.surface ray)) (woven_from ray (n + 1) xs) (one_rises n (segment_of x.surface ray)) (woven_rises ray (n + 1) xs)
+    (λ v w h m. omega (arith, number_of_one n (segment_of x.surface ray) v h, (has_woven ray (n + 1) xs w m).number))

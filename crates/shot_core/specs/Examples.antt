@@ -2,11 +2,10 @@
 use Rattle.std.specs.Prelude.{◌≡◌, refl, ℕ, ℤ, pos, negsuc, true, false, List, [], ◌∷◌, Some, None}
 use Rattle.lattice_core.specs.declared.limit.TheConstants.{FAR}
 use Rattle.std.proofs.Common.{inl, inr}
-use Rattle.lattice_core.specs.declared.boxes.Side.TheVariants.{Open, At}
 use Rattle.lattice_core.specs.declared.boxes.Box3.{Box3}
 use Rattle.lattice_core.specs.declared.boxes.Box3.TheVariants.{Empty, Span}
 use Rattle.lattice_core.specs.declared.ray.Ray.{Ray}
-use Rattle.lattice_core.specs.declared.ray.Dir.TheVariants.{PlusX, MinusX}
+use Rattle.lattice_core.specs.declared.ray.Dir.TheVariants.{PlusX}
 use Rattle.lattice_core.specs.declared.view.View.{View}
 use Rattle.lattice_core.specs.Extents.{extent_between}
 use Rattle.lattice_core.specs.Vectors.{vector, zero_vector}
@@ -28,7 +27,6 @@ use Rattle.shot_core.specs.MetBoxes.{met_count}
 use Rattle.shot_core.specs.Shots.{lit_of, overlaps_on}
 use Rattle.shot_core.specs.Pruned.{kept_for}
 use Rattle.shot_core.specs.Candidates.{candidates_of}
-use Rattle.shot_core.specs.NearFirst.{GoesBefore, begins_at}
 use Rattle.shot_core.specs.Points.{TreeHolds, Stretch, ray_places, stretches_of}
 use Rattle.shot_core.specs.Steps.{noted, owned_from, with_instances}
 
@@ -243,17 +241,3 @@ one_instance_woven : with_instances (ray (negsuc 4) (pos 5) (pos 5)) (owned_from
     ≡ (record { instance = 1; seg = record { start = whole 10; start_face = 1; end = whole 20; end_face = 2 } } ∷ [], 1 ∷ [])
 unfolding place_cmp
 one_instance_woven = refl
-
--- a box begins at its low side along an axis, and at its high side against it
-begins_along_the_axis : begins_at PlusX (Some (single 1 0 (box (pos 20) (pos 30) (pos 5) (pos 25) (pos 0) (pos 10)))) ≡ At (pos 20)
-begins_along_the_axis = refl
-
-begins_against_the_axis : begins_at MinusX (Some (single 1 0 (box (pos 20) (pos 30) (pos 5) (pos 25) (pos 0) (pos 10)))) ≡ At (negsuc 29)
-begins_against_the_axis = refl
-
--- a half-space has no side there, and goes before each that has one, also where its number is higher
-begins_nowhere : begins_at PlusX (Some (single 1 0 (half (pos 5)))) ≡ Open
-begins_nowhere = refl
-
-goes_before_a_box : GoesBefore Open 2 (At (pos 20)) 0
-goes_before_a_box = inl tt

@@ -5,8 +5,6 @@ pub mod Shots
 pub mod FirstShots
 pub mod Pruned
 pub mod Candidates
-pub mod FirstSteps
-pub mod NearFirst
 pub mod Laws
 pub mod Points
 pub mod OverlapPoints

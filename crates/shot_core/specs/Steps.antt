@@ -39,6 +39,10 @@ is_some (Some seg) = true
 abbrev pub has_segment : Ray → Instance → Bool
 has_segment ray i = is_some (segment_of i.surface ray)
 
+-- whether some instance of a region passes a test
+abbrev pub has_some : (Instance → Bool) → Region → Bool
+has_some has r = list_any has r.body.instances
+
 -- whether some instance of a region has one
 abbrev pub is_hit : Ray → Region → Bool
 is_hit ray r = list_any (has_segment ray) r.body.instances

@@ -83,6 +83,25 @@ pub fn kept_regions(alloc: Global, scene: &Scene, view: &View, tile: u32) -> Res
     Scene::unindexed(alloc, kept)
 }
 
+/// Shares of regions, in their order.
+fn shares(alloc: Global, regions: &[SceneRegion]) -> Result<Vec<SceneRegion>, Memory>
+    ensures { IfOk result (λ v. v.items ≡ regions.now) }
+{
+    let mut all = Vec::with_capacity(alloc, regions.len())?;
+    for region in regions {
+        all.push(share(region)?)?;
+    }
+    Ok(all)
+}
+
+/// The same scene with an index of its instances, where these are not few. It shares the paths and the bodies.
+pub fn indexed(alloc: Global, scene: &Scene) -> Result<Scene, Memory>
+    ensures { IfOk result (λ s. s ≡ scene.now) }
+{
+    let regions = shares(alloc, scene.regions())?;
+    Scene::new(alloc, regions)
+}
+
 /// What the regions at some places in their list are.
 fn bodies_at(
     alloc: Global,

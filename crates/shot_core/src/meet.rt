@@ -120,7 +120,7 @@ fn is_last(numbers: &[u32], number: u32) -> bool
 }
 
 /// Adds the number of a region that is hit, where it is not the last one already.
-fn note(hit: &mut Vec<u32>, number: u32) -> Result<(), Memory>
+pub fn note(hit: &mut Vec<u32>, number: u32) -> Result<(), Memory>
     ensures { OnOk result (hit.new.items ≡ noted hit.old.items number) }
 {
     if !is_last(hit, number) {

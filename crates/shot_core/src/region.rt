@@ -154,7 +154,7 @@ impl PrepRegion {
     }
 
     /// The same box, lent: each ray asks for it.
-    pub(crate) fn lent_bounds(&self) -> &Box3
+    pub fn lent_bounds(&self) -> &Box3
         ensures { result.now ≡ tree_box (boxes_of self.now.instances) self.now.tree }
     {
         &self.bounds

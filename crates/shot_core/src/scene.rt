@@ -131,7 +131,7 @@ impl Scene {
     }
 
     /// The same without an index of the instances, for a scene at which no ray is shot that would look there.
-    pub(crate) fn unindexed(alloc: Global, regions: Vec<SceneRegion>) -> Result<Scene, Memory>
+    pub fn unindexed(alloc: Global, regions: Vec<SceneRegion>) -> Result<Scene, Memory>
         requires { IsScene regions.items }
         ensures { IfOk result (λ s. s ≡ regions.items) }
     {
@@ -185,7 +185,7 @@ impl Scene {
     }
 
     /// The index of the instances' boxes. There is none where they are few, nor in the scene of a tile.
-    pub(crate) fn by_instance(&self) -> Option<&BoxIndex>
+    pub fn by_instance(&self) -> Option<&BoxIndex>
         ensures boxes { IfSome result (λ index. index.now ≡ boxes_of (instances_of self.now)) }
         ensures sound { IsScene self.now }
         ensures leaves { HaveInstances self.now }
@@ -205,8 +205,8 @@ impl Scene {
         self.firsts[region as usize]
     }
 
-    /// The region of the instance of that number.
-    pub(crate) fn owner(&self, number: u32) -> u32
+    /// The number of the region of the instance of that number, counted from 0.
+    pub fn owner(&self, number: u32) -> u32
         requires { number < length (instances_of self.now) }
         ensures { IfSome (slice_get (owned_from 0 self.now) number) (λ one. one.0 ≡ result) }
     {

@@ -39,8 +39,8 @@ pub struct Lit {
     pub level: u8,
 }
 
-/// What a region claims, by its number.
-fn claims_of(
+/// What a region claims of what is woven, by its number.
+pub fn region_claims(
     alloc: Global,
     weave: &Weave,
     scene: &Scene,
@@ -72,13 +72,13 @@ fn claims_of_all(
 {
     let mut all = Vec::new(alloc);
     for number in numbers {
-        all.push(claims_of(alloc, weave, scene, *number)?)?;
+        all.push(region_claims(alloc, weave, scene, *number)?)?;
     }
     Ok(all)
 }
 
 /// How bright the hit instance is at the face that is hit.
-pub(crate) fn level_of_hit(scene: &Scene, hit: &Hit, ray: &Ray) -> u8
+pub fn level_of_hit(scene: &Scene, hit: &Hit, ray: &Ray) -> u8
     requires origin { IsWithin WORLD ray.now.origin }
     requires hit { IsHitOn scene.now ray.now hit.now }
     ensures { result ≡ level_of_hit scene.now ray.now hit.now }

@@ -1,4 +1,4 @@
--- The box of a placed solid holds every point inside.
+-- The box of a placed solid holds every point inside, along any line.
 use Rattle.std.proofs.Common.{◌≡◌, ◌∙◌, ◌<◌, inl, inr, ℕ, ℤ, pos, ◌+ℤ◌, ◌-ℤ◌, ◌*ℤ◌, ◌<ℤ◌, ◌≤ℤ◌, List, [], ◌∷◌, fold, Option, Some, None, ap, sym, subst, arith}
 use Rattle.std.specs.Int.{int_max}
 use Rattle.std.specs.Option.{option_map}
@@ -13,19 +13,18 @@ use Rattle.lattice_core.specs.declared.boxes.Side.TheVariants.{Open, At}
 use Rattle.lattice_core.specs.declared.placement.Placement.{Placement}
 use Rattle.lattice_core.specs.declared.ray.Dir.{Dir}
 use Rattle.lattice_core.specs.declared.ray.Dir.TheVariants.{PlusX, MinusX, PlusY, MinusY, PlusZ, MinusZ}
-use Rattle.lattice_core.specs.declared.ray.Ray.{Ray}
 use Rattle.lattice_core.specs.declared.vector.V3.{V3}
 use Rattle.lattice_core.specs.Boxes.{HasPoint, IsFrom, IsUpTo}
 use Rattle.lattice_core.specs.Extents.{extent_between}
 use Rattle.lattice_core.specs.Placements.{placed}
-use Rattle.lattice_core.specs.Rays.{scaled_point}
 use Rattle.lattice_core.specs.Turns.{turned}
 use Rattle.lattice_core.specs.Units.{unit_of}
 use Rattle.lattice_core.specs.Vectors.{dot_product, vector_sum}
 use Rattle.lattice_core.proofs.Products.{mul_add, mul_at_most, mul_assoc, add_mul}
 use Rattle.lattice_core.proofs.Turning.{turned_dot}
 use Rattle.plane_geom.specs.declared.plane.Plane.{Plane}
-use Rattle.plane_geom.specs.Planes.{PlaneHolds, placed_plane, slope_on, start_on}
+use Rattle.plane_geom.specs.Chords.{point_along}
+use Rattle.plane_geom.specs.Planes.{PlaneHoldsAlong, placed_plane, slope_along, start_at}
 use Rattle.plane_geom.proofs.Cross.{sub_mul}
 use Rattle.prim_arb8.specs.Faces.{box_plane, outward_face, vertex_at}
 use Rattle.prim_sphere.proofs.Bounds.{holds_points}
@@ -40,12 +39,14 @@ use Rattle.solid_set.specs.declared.solid.Solid.TheVariants as solids
 use Rattle.solid_set.specs.declared.surface.Surface.TheVariants.{Cylinder}
 use Rattle.solid_set.specs.declared.surface.Surface.{Surface}
 use Rattle.prim_arb8.specs.Bounds.{reach_of, farthest, box_of}
-use Rattle.solid_set.specs.Surfaces.{AllHold, IsInside, IsMade, IsLawful, HoldsInside, surface_of, bounds_of}
+use Rattle.solid_set.specs.PlacedFaces.{AllHoldAlong, IsInsideAlong, HoldsInsideAlong}
+use Rattle.solid_set.specs.Surfaces.{IsMade, IsLawful, HoldsInside, surface_of, bounds_of}
+use Rattle.solid_set.proofs.FacesAlong.{surfaces_are_of_faces}
 use Rattle.solid_set.proofs.Landing.{LandsOn, lands}
 
--- the point of a ray, along a normal
-along_ray : (n o e : V3) (p q : ℤ) → dot_product n (let v : V3 = record { x = (o.x *ℤ q) +ℤ (e.x *ℤ p); y = (o.y *ℤ q) +ℤ (e.y *ℤ p); z = (o.z *ℤ q) +ℤ (e.z *ℤ p) } in v) ≡ (dot_product n o *ℤ q) +ℤ (dot_product n e *ℤ p)
-along_ray n o e p q =
+-- the point of a line, along a normal
+along_normal : (n o e : V3) (p q : ℤ) → dot_product n (point_along o e p q) ≡ (dot_product n o *ℤ q) +ℤ (dot_product n e *ℤ p)
+along_normal n o e p q =
     omega (
       arith,
       ints,
@@ -65,22 +66,22 @@ along_ray n o e p q =
     )
 
 -- a point that a plane holds is not beyond it
-held_below : (plane : Plane) (ray : Ray) (p q : ℤ) → pos 0 <ℤ q → PlaneHolds plane ray p q → dot_product plane.n (scaled_point ray p q) ≤ℤ (plane.d *ℤ q)
-held_below plane ray p q some held =
-    let at : dot_product plane.n (scaled_point ray p q) ≡ (start_on plane ray *ℤ q) +ℤ (slope_on plane ray *ℤ p) = along_ray plane.n ray.origin (unit_of ray.dir) p q in
+held_below : (plane : Plane) (o e : V3) (p q : ℤ) → pos 0 <ℤ q → PlaneHoldsAlong plane o e p q → dot_product plane.n (point_along o e p q) ≤ℤ (plane.d *ℤ q)
+held_below plane o e p q some held =
+    let at : dot_product plane.n (point_along o e p q) ≡ (start_at plane o *ℤ q) +ℤ (slope_along plane e *ℤ p) = along_normal plane.n o e p q in
     elim held [
       | inl steep ↦ omega (arith, ints, at, steep.1)
       | inr flat ↦
-          let none : slope_on plane ray *ℤ p ≡ pos 0 = ap (λ (z : ℤ). z *ℤ p) flat.0 ∙ zero-*ℤ p in
-          let low : start_on plane ray ≤ℤ plane.d = elim flat.1 [ inl under ↦ omega (arith, ints, under) | inr edge ↦ omega (arith, ints, edge.0) ] in
-          let scaled : (start_on plane ray *ℤ q) ≤ℤ (plane.d *ℤ q) = mul_at_most (start_on plane ray) plane.d q (omega (arith, ints, some)) low in
+          let none : slope_along plane e *ℤ p ≡ pos 0 = ap (λ (z : ℤ). z *ℤ p) flat.0 ∙ zero-*ℤ p in
+          let low : start_at plane o ≤ℤ plane.d = elim flat.1 [ inl under ↦ omega (arith, ints, under) | inr edge ↦ omega (arith, ints, edge.0) ] in
+          let scaled : (start_at plane o *ℤ q) ≤ℤ (plane.d *ℤ q) = mul_at_most (start_at plane o) plane.d q (omega (arith, ints, some)) low in
           omega (arith, ints, at, none, scaled)
     ]
 
 -- all planes hold a point, also those after the first
-all_rest : (side : Option Plane) (sides : List (Option Plane)) (ray : Ray) (p q : ℤ) → AllHold (side ∷ sides) ray p q → AllHold sides ray p q
-all_rest None sides ray p q h = h
-all_rest (Some plane) sides ray p q h = h.1
+all_rest : (side : Option Plane) (sides : List (Option Plane)) (o e : V3) (p q : ℤ) → AllHoldAlong (side ∷ sides) o e p q → AllHoldAlong sides o e p q
+all_rest None sides o e p q h = h
+all_rest (Some plane) sides o e p q h = h.1
 
 abbrev side_in : Placement → List V3 → ℕ → Option Plane
 side_in by v face = option_map (placed_plane by) (outward_face v face)
@@ -93,22 +94,22 @@ box_sides by v =
     Some (box_in by v PlusX) ∷ Some (box_in by v MinusX) ∷ Some (box_in by v PlusY)
     ∷ Some (box_in by v MinusY) ∷ Some (box_in by v PlusZ) ∷ Some (box_in by v MinusZ) ∷ []
 
-box_holds : (by : Placement) (v : List V3) (ray : Ray) (p q : ℤ) → IsInside (surface_of (solids.Arb8 (record { vertices = v })) by) ray p q → AllHold (box_sides by v) ray p q
-box_holds by v ray p q h =
-    let six = all_rest (side_in by v 1) (side_in by v 2 ∷ side_in by v 3 ∷ side_in by v 4 ∷ side_in by v 5 ∷ side_in by v 6 ∷ box_sides by v) ray p q h in
-    let five = all_rest (side_in by v 2) (side_in by v 3 ∷ side_in by v 4 ∷ side_in by v 5 ∷ side_in by v 6 ∷ box_sides by v) ray p q six in
-    let four = all_rest (side_in by v 3) (side_in by v 4 ∷ side_in by v 5 ∷ side_in by v 6 ∷ box_sides by v) ray p q five in
-    let three = all_rest (side_in by v 4) (side_in by v 5 ∷ side_in by v 6 ∷ box_sides by v) ray p q four in
-    let two = all_rest (side_in by v 5) (side_in by v 6 ∷ box_sides by v) ray p q three in
-    all_rest (side_in by v 6) (box_sides by v) ray p q two
+box_holds : (by : Placement) (v : List V3) (o e : V3) (p q : ℤ) → IsInsideAlong (surface_of (solids.Arb8 (record { vertices = v })) by) o e p q → AllHoldAlong (box_sides by v) o e p q
+box_holds by v o e p q h =
+    let six = all_rest (side_in by v 1) (side_in by v 2 ∷ side_in by v 3 ∷ side_in by v 4 ∷ side_in by v 5 ∷ side_in by v 6 ∷ box_sides by v) o e p q h.0 in
+    let five = all_rest (side_in by v 2) (side_in by v 3 ∷ side_in by v 4 ∷ side_in by v 5 ∷ side_in by v 6 ∷ box_sides by v) o e p q six in
+    let four = all_rest (side_in by v 3) (side_in by v 4 ∷ side_in by v 5 ∷ side_in by v 6 ∷ box_sides by v) o e p q five in
+    let three = all_rest (side_in by v 4) (side_in by v 5 ∷ side_in by v 6 ∷ box_sides by v) o e p q four in
+    let two = all_rest (side_in by v 5) (side_in by v 6 ∷ box_sides by v) o e p q three in
+    all_rest (side_in by v 6) (box_sides by v) o e p q two
 
-box_held : (by : Placement) (v : List V3) (ray : Ray) (p q : ℤ) (dir : Dir) → AllHold (box_sides by v) ray p q → PlaneHolds (box_in by v dir) ray p q
-box_held by v ray p q PlusX h = h.0
-box_held by v ray p q MinusX h = h.1.0
-box_held by v ray p q PlusY h = h.1.1.0
-box_held by v ray p q MinusY h = h.1.1.1.0
-box_held by v ray p q PlusZ h = h.1.1.1.1.0
-box_held by v ray p q MinusZ h = h.1.1.1.1.1.0
+box_held : (by : Placement) (v : List V3) (o e : V3) (p q : ℤ) (dir : Dir) → AllHoldAlong (box_sides by v) o e p q → PlaneHoldsAlong (box_in by v dir) o e p q
+box_held by v o e p q PlusX h = h.0
+box_held by v o e p q MinusX h = h.1.0
+box_held by v o e p q PlusY h = h.1.1.0
+box_held by v o e p q MinusY h = h.1.1.1.0
+box_held by v o e p q PlusZ h = h.1.1.1.1.0
+box_held by v o e p q MinusZ h = h.1.1.1.1.1.0
 
 -- the greatest of a function of points, moved by a number
 abbrev most : (V3 → ℤ) → ℤ → List V3 → ℤ
@@ -138,16 +139,16 @@ farthest_moved by v from to small lands_on =
     (dot_product (unit_of from) (vertex_at v 1)) (reach_of by to (vertex_at v 1)) (reach_moved by from to small lands_on (vertex_at v 1))
 
 -- a point inside lies no farther in a direction than the vertices
-within : (by : Placement) (v : List V3) (ray : Ray) (p q : ℤ) (to : Dir) → by.turn.number < 48 → pos 0 <ℤ q → AllHold (box_sides by v) ray p q
-    → dot_product (unit_of to) (scaled_point ray p q) ≤ℤ (farthest by v to *ℤ q)
-within by v ray p q to small some h =
+within : (by : Placement) (v : List V3) (o e : V3) (p q : ℤ) (to : Dir) → by.turn.number < 48 → pos 0 <ℤ q → AllHoldAlong (box_sides by v) o e p q
+    → dot_product (unit_of to) (point_along o e p q) ≤ℤ (farthest by v to *ℤ q)
+within by v o e p q to small some h =
     let landing : LandsOn by.turn.number to = lands by.turn.number to small in
     let from : Dir = landing.0 in
-    let below : dot_product (turned by.turn.number (unit_of landing.0)) (scaled_point ray p q) ≤ℤ (((box_plane v landing.0).d +ℤ dot_product (turned by.turn.number (unit_of landing.0)) by.shift) *ℤ q) =
-    held_below (box_in by v landing.0) ray p q some (box_held by v ray p q landing.0 h) in
-    let turned_below : dot_product (unit_of to) (scaled_point ray p q) ≤ℤ (((box_plane v landing.0).d +ℤ dot_product (unit_of to) by.shift) *ℤ q) =
-    subst (λ (n : V3). dot_product n (scaled_point ray p q) ≤ℤ (((box_plane v landing.0).d +ℤ dot_product n by.shift) *ℤ q)) landing.1 below in
-    subst (λ (z : ℤ). dot_product (unit_of to) (scaled_point ray p q) ≤ℤ (z *ℤ q)) (sym (farthest_moved by v landing.0 to small landing.1)) turned_below
+    let below : dot_product (turned by.turn.number (unit_of landing.0)) (point_along o e p q) ≤ℤ (((box_plane v landing.0).d +ℤ dot_product (turned by.turn.number (unit_of landing.0)) by.shift) *ℤ q) =
+    held_below (box_in by v landing.0) o e p q some (box_held by v o e p q landing.0 h) in
+    let turned_below : dot_product (unit_of to) (point_along o e p q) ≤ℤ (((box_plane v landing.0).d +ℤ dot_product (unit_of to) by.shift) *ℤ q) =
+    subst (λ (n : V3). dot_product n (point_along o e p q) ≤ℤ (((box_plane v landing.0).d +ℤ dot_product n by.shift) *ℤ q)) landing.1 below in
+    subst (λ (z : ℤ). dot_product (unit_of to) (point_along o e p q) ≤ℤ (z *ℤ q)) (sym (farthest_moved by v landing.0 to small landing.1)) turned_below
 
 low_from : (d x q : ℤ) → (pos 0 -ℤ x) ≤ℤ (d *ℤ q) → ((pos 0 -ℤ d) *ℤ q) ≤ℤ x
 low_from d x q h = omega (arith, ints, h, sub_mul (pos 0) d q, zero-*ℤ q)
@@ -167,28 +168,28 @@ box_has far u q h =
       (low_from (far MinusZ) u.z q (omega (arith, ints, e)), omega (arith, ints, f)),
     )
 
-arb8_enclosed : (by : Placement) (v : List V3) → HoldsInside (surface_of (solids.Arb8 (record { vertices = v })) by) (box_of by v)
-arb8_enclosed by v ray p q some inside =
-    box_has (farthest by v) (scaled_point ray p q) q (λ to. within by v ray p q to by.turn.in_range some (box_holds by v ray p q inside))
+arb8_enclosed : (by : Placement) (v : List V3) → HoldsInsideAlong (surface_of (solids.Arb8 (record { vertices = v })) by) (box_of by v)
+arb8_enclosed by v o e p q some inside =
+    box_has (farthest by v) (point_along o e p q) q (λ to. within by v o e p q to by.turn.in_range some (box_holds by v o e p q inside))
 
-solid_enclosed : (solid : Solid) (by : Placement) → IsLawful solid → HoldsInside (surface_of solid by) (bounds_of solid by)
+solid_enclosed : (solid : Solid) (by : Placement) → IsLawful solid → HoldsInsideAlong (surface_of solid by) (bounds_of solid by)
 solid_enclosed (solids.Arb8 solid) by lawful = arb8_enclosed by solid.vertices
-solid_enclosed (solids.Sphere sphere) by lawful = λ ray p q some inside. holds_points (placed by sphere.centre) sphere.radius lawful.radius_size (scaled_point ray p q) q some inside
-solid_enclosed (solids.Half half) by lawful = λ ray p q some inside. ((tt, tt), (tt, tt), (tt, tt))
+solid_enclosed (solids.Sphere sphere) by lawful = λ o e p q some inside. holds_points (placed by sphere.centre) sphere.radius lawful.radius_size (point_along o e p q) q some inside.1
+solid_enclosed (solids.Half half) by lawful = λ o e p q some inside. ((tt, tt), (tt, tt), (tt, tt))
 solid_enclosed (solids.Rcc rcc) by lawful =
-    subst (λ (faces : RccFaces). HoldsInside (Cylinder faces) (bounds_of (solids.Rcc rcc) by)) (sym (faces_placed by rcc by.turn.in_range lawful.axis))
-    (λ ray p q some inside.
+    subst (λ (faces : RccFaces). HoldsInsideAlong (Cylinder faces) (bounds_of (solids.Rcc rcc) by)) (sym (faces_placed by rcc by.turn.in_range lawful.axis))
+    (λ o e p q some inside.
     holds_cylinder (placed by rcc.base) (turned by.turn.number rcc.height) rcc.radius
-    (turned_has_one by.turn.number rcc.height by.turn.in_range lawful.axis) lawful.radius_size (scaled_point ray p q) q some (record {
-      above = held_below (base_plane (placed_cylinder by rcc)) ray p q some inside.0;
-      below = held_below (top_plane (placed_cylinder by rcc)) ray p q some inside.1;
-      around = held_around (round_side (placed_cylinder by rcc)) ray.origin (unit_of ray.dir) p q inside.2;
+    (turned_has_one by.turn.number rcc.height by.turn.in_range lawful.axis) lawful.radius_size (point_along o e p q) q some (record {
+      above = held_below (base_plane (placed_cylinder by rcc)) o e p q some inside.0.0;
+      below = held_below (top_plane (placed_cylinder by rcc)) o e p q some inside.0.1.0;
+      around = held_around (round_side (placed_cylinder by rcc)) o e p q inside.1;
     }))
 
-made_enclosed : (surface : Surface) (bounds : Box3) → IsMade surface bounds → HoldsInside surface bounds
+made_enclosed : (surface : Surface) (bounds : Box3) → IsMade surface bounds → HoldsInsideAlong surface bounds
 made_enclosed surface bounds made =
-    subst (λ (s : Surface). HoldsInside s bounds) (sym made.surface_is)
-    (subst (λ (b : Box3). HoldsInside (surface_of made.solid made.by) b) (sym made.bounds_is) (solid_enclosed made.solid made.by made.lawful))
+    subst (λ (s : Surface). HoldsInsideAlong s bounds) (sym made.surface_is)
+    (subst (λ (b : Box3). HoldsInsideAlong (surface_of made.solid made.by) b) (sym made.bounds_is) (solid_enclosed made.solid made.by made.lawful))
 
 from_prop : (side : Side) (x w : ℤ) → IsProp (IsFrom side x w)
 from_prop Open x w = hlevel
@@ -202,6 +203,11 @@ point_prop : (b : Box3) (v : V3) (w : ℤ) → IsProp (HasPoint b v w)
 point_prop Empty v w = hlevel
 point_prop (Span x y z) v w = hlevel (from_prop, up_to_prop)
 
+pub enclosed_along : (surface : Surface) (bounds : Box3) → ∥ IsMade surface bounds ∥₁ → HoldsInsideAlong surface bounds
+enclosed_along surface bounds made o e p q some inside =
+    ∥∥₁_elim made (point_prop bounds (point_along o e p q) q) (λ (m : IsMade surface bounds). made_enclosed surface bounds m o e p q some inside)
+
+-- along a ray its faces tell what lies inside
 pub enclosed : (surface : Surface) (bounds : Box3) → ∥ IsMade surface bounds ∥₁ → HoldsInside surface bounds
 enclosed surface bounds made ray p q some inside =
-    ∥∥₁_elim made (point_prop bounds (scaled_point ray p q) q) (λ (m : IsMade surface bounds). made_enclosed surface bounds m ray p q some inside)
+    enclosed_along surface bounds made ray.origin (unit_of ray.dir) p q some (((surfaces_are_of_faces surface ray).inside p q).1 inside)

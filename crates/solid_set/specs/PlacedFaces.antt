@@ -1,13 +1,15 @@
 -- The faces of placed solids, whatever their kinds: planes, and at most one round face.
-use Rattle.std.specs.Prelude.{◌≡◌, ◌↔◌, ℤ, Bool, false, true, ◌||◌, List, [], ◌∷◌, ◌++◌, Option, Some, None, replicate}
+use Rattle.std.specs.Prelude.{◌≡◌, ◌↔◌, ℤ, pos, ◌<ℤ◌, Bool, false, true, ◌||◌, List, [], ◌∷◌, ◌++◌, Option, Some, None, replicate}
 use Rattle.lattice_core.specs.declared.limit.TheConstants.{PLACED}
+use Rattle.lattice_core.specs.declared.boxes.Box3.{Box3}
 use Rattle.lattice_core.specs.declared.ray.Ray.{Ray}
 use Rattle.lattice_core.specs.declared.vector.V3.{V3}
+use Rattle.lattice_core.specs.Boxes.{HasPoint}
 use Rattle.lattice_core.specs.Limits.{IsWithin}
 use Rattle.lattice_core.specs.Units.{unit_of}
 use Rattle.plane_geom.specs.declared.plane.Plane.{Plane}
 use Rattle.plane_geom.specs.Planes.{PlaneHoldsAlong}
-use Rattle.plane_geom.specs.Chords.{IsRadius}
+use Rattle.plane_geom.specs.Chords.{IsRadius, point_along}
 use Rattle.prim_sphere.specs.Spheres.{SphereHoldsAlong, chord_at}
 use Rattle.prim_rcc.specs.declared.axis.Axis.{Axis}
 use Rattle.prim_rcc.specs.declared.side.RoundSide.{RoundSide}
@@ -61,6 +63,10 @@ RoundHoldsAlong (Some round) o e p q = HoldsAround round.axis round.centre round
 -- the point of the line lies inside of a surface
 abbrev pub IsInsideAlong : Surface → V3 → V3 → ℤ → ℤ → Type 0
 IsInsideAlong surface o e p q = AllHoldAlong (planes_of_faces surface) o e p q × RoundHoldsAlong (round_of surface) o e p q
+
+-- the box holds every point inside, along any line
+abbrev pub HoldsInsideAlong : Surface → Box3 → Type 0
+HoldsInsideAlong surface bounds = (o e : V3) (p q : ℤ) → pos 0 <ℤ q → IsInsideAlong surface o e p q → HasPoint bounds (point_along o e p q) q
 
 -- where a ray enters or leaves what is round
 abbrev pub crossed_around : Option Axis → V3 → ℤ → Ray → Bool → List Crossed

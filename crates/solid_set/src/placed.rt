@@ -91,7 +91,7 @@ impl Placed {
     ghost use Rattle.solid_set.specs.Laws.{TellsInside, IsSound, IsSegInRange};
     ghost use Rattle.solid_set.specs.HitPlaces.{TellsByHitPlaces};
     ghost use Rattle.plane_geom.specs.Planes.{IsWorldPlane};
-    ghost use Rattle.solid_set.specs.PlacedFaces.{planes_of_faces, round_of, IsRoundSized};
+    ghost use Rattle.solid_set.specs.PlacedFaces.{planes_of_faces, round_of, IsRoundSized, HoldsInsideAlong};
 
     fn arb8(arb8: &Arb8, by: &Placement) -> Placed
         requires { IsWithin SHIFT by.now.shift }
@@ -172,6 +172,7 @@ impl Placed {
     pub fn bounds(&self) -> Box3
         ensures value { result ≡ self.now.bounds }
         ensures holds { HoldsInside self.now.surface result }
+        ensures along { HoldsInsideAlong self.now.surface result }
     {
         self.bounds
     }

@@ -11,10 +11,11 @@ ghost use Rattle.shot_core.specs.FirstShots.{IsOrderOf, first_seen, seen_of};
 ghost use Rattle.tile_shot.specs.Pixels.{shaded_part, shaded, pixel_of, parts_of};
 ghost use Rattle.tile_shot.specs.Steps.{seen_colour};
 
+use first_hit::{Scratch, shoot_first};
 use lattice_core::{Ray, TileSpan, View};
 use memory_core::Memory;
 use region_attr::Rgb;
-use shot_core::{Scene, Scratch, Seen, shoot_first};
+use shot_core::{Scene, Seen};
 use std::alloc::Global;
 
 const BLACK: Rgb = Rgb { r: 0, g: 0, b: 0 };

@@ -1,8 +1,9 @@
 use crate::key::TileKey;
 use crate::pixel::pixels;
+use first_hit::near_order;
 use lattice_core::View;
 use memory_core::Memory;
-use shot_core::{Scene, near_order};
+use shot_core::Scene;
 use std::alloc::Global;
 use std::marker::Model;
 

@@ -32,12 +32,11 @@ use Rattle.shot_core.specs.SeenPoints.{IsSeen, IsSeenFirst}
 use Rattle.shot_core.specs.Shots.{woven_if, woven_from, claims_on, level_on, lit_of}
 use Rattle.shot_core.specs.Steps.{no_region}
 use Rattle.shot_core.proofs.Claiming.{no_claims}
-use Rattle.shot_core.proofs.LowestHits.{woven_rises}
 use Rattle.shot_core.proofs.FirstHits.{IsBelow, Ending, ends_among, hits_of, face_of, ending_of, ends_are}
 use Rattle.shot_core.proofs.OwnClaims.{changes_on}
 use Rattle.shot_core.proofs.PointTruth.{ordered_lit}
 use Rattle.shot_core.proofs.SeenTruth.{seen_tells_points}
-use Rattle.shot_core.proofs.Weaving.{IsOfInstance, has_woven}
+use Rattle.shot_core.proofs.Weaving.{IsOfInstance, woven_rises, has_woven}
 use Rattle.tile_shot.specs.Pixels.{colour_of, pixel_by, shaded}
 use Rattle.tile_shot.specs.Reports.{HaveRisingPlaces}
 use Rattle.view_laws.specs.PixelPoints.{TurnsAt, TurnsWith, HasLevel, PresentsFirst, IsTruePixel}

@@ -94,13 +94,8 @@ pub fn answer_box_meets_ray(words: &mut Words, out: &mut Shown) -> Result<(), Ca
     push_text(answer, out)
 }
 
-/// `boxes_on_ray RAY BOX .. => PLACES`, those of the boxes that the ray meets, counted from 0, by an index of all
-pub fn answer_boxes_on_ray(
-    alloc: Global,
-    words: &mut Words,
-    out: &mut Shown,
-) -> Result<(), CaseFault> {
-    let ray = words.ray();
+/// The index of the boxes that are next.
+fn index_of(alloc: Global, words: &mut Words) -> Result<BoxIndex, CaseFault> {
     let mut boxes = Vec::new(alloc);
     for word in words_of(alloc, words.all())? {
         boxes.push(box_of(word)?)?;
@@ -108,13 +103,40 @@ pub fn answer_boxes_on_ray(
     if boxes.len() > MOST_BOXES {
         return Err(CaseFault::Line);
     }
-    let mut places = Vec::new(alloc);
-    BoxIndex::build(alloc, boxes)?.meets_ray(&ray, &mut places)?;
-    for place in &places {
+    Ok(BoxIndex::build(alloc, boxes)?)
+}
+
+fn push_places(places: &[u32], out: &mut Shown) {
+    for place in places {
         if !out.is_empty() {
             out.put_byte(b' ');
         }
         out.put_number(*place);
     }
+}
+
+/// `boxes_on_ray RAY BOX .. => PLACES`, those of the boxes that the ray meets, counted from 0, by an index of all
+pub fn answer_boxes_on_ray(
+    alloc: Global,
+    words: &mut Words,
+    out: &mut Shown,
+) -> Result<(), CaseFault> {
+    let ray = words.ray();
+    let mut places = Vec::new(alloc);
+    index_of(alloc, words)?.meets_ray(&ray, &mut places)?;
+    push_places(&places, out);
+    Ok(())
+}
+
+/// `boxes_on_slant RAY BOX .. => PLACES`, those of the boxes that the ray in a lattice direction meets, by an index of all
+pub fn answer_boxes_on_slant(
+    alloc: Global,
+    words: &mut Words,
+    out: &mut Shown,
+) -> Result<(), CaseFault> {
+    let ray = words.slant_ray()?;
+    let mut places = Vec::new(alloc);
+    index_of(alloc, words)?.meets_slant(&ray, &mut places)?;
+    push_places(&places, out);
     Ok(())
 }

@@ -4,9 +4,11 @@
 ghost use Rattle.std.specs.Prelude.{◌≤ℤ◌, pos, IfOk};
 ghost use Rattle.lattice_core.specs.declared.limit.TheConstants.{SHIFT, WORLD};
 ghost use Rattle.lattice_core.specs.Limits.{IsAtMost, IsWithin};
+ghost use Rattle.slant_ray.specs.Rays.{IsSlantRay};
 
 use case_text::{CaseFault, first_word};
 use lattice_core::{Dir, Placement, Ray, SHIFT, Turn, V3, WORLD};
+use slant_ray::{STEP, SlantRay};
 
 /// The words of a row that are still to be read, and the first fault of those that were read. Where a word has a fault
 /// something is answered in its place, and what the row answers then doesn't count.
@@ -164,6 +166,23 @@ impl<'a> Words<'a> {
         let origin = self.point(WORLD);
         let dir = self.direction();
         Ray { origin, dir }
+    }
+
+    /// A ray in a lattice direction: its origin `X,Y,Z` and the vector `X,Y,Z` along which it goes.
+    pub fn slant_ray(&mut self) -> Result<SlantRay, CaseFault>
+        ensures { IfOk result IsSlantRay }
+    {
+        let origin = self.point(WORLD);
+        let step = self.point(STEP);
+        if step.is_zero() {
+            return Err(CaseFault::Number);
+        }
+        Ok(SlantRay {
+            origin,
+            x: step.x as i8,
+            y: step.y as i8,
+            z: step.z as i8,
+        })
     }
 
     /// The direction that is next: `+x`, `-x`, `+y`, `-y`, `+z` or `-z`.

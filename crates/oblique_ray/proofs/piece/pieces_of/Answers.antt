@@ -1,25 +1,18 @@
-use Rattle.std.proofs.Common.{◌≡◌, ◌+◌, ◌∙◌, ◌∷◌, length, map, drop, ap, sym, arith}
-use Rattle.std.proofs.lemmas.List.{drop_more, length-map}
-use Rattle.shot_core.specs.Prepared.{instance_of}
-use Rattle.shot_core.specs.Regions.{Region, RegionBody}
+use Rattle.std.proofs.Common.{◌≡◌, ◌∙◌, flat_map, ap}
+use Rattle.std.proofs.lemmas.Result.{IfOk-weaker}
+use Rattle.shot_core.specs.Regions.{instances_of}
 use Rattle.slant_ray.specs.Rays.{direction_of}
-use Rattle.oblique_ray.proofs.PieceLaws.{next_found, next_count}
+use Rattle.oblique_ray.specs.Shots.{segments_on}
+use Rattle.oblique_ray.specs.ShotSteps.{numbered_segment}
+use Rattle.oblique_ray.proofs.Reached.{reached}
+use Rattle.oblique_ray.proofs.Runs.{has_length}
 use Rattle.oblique_ray.proofs.piece.pieces_of.Goals as goal
 
-pub loop-region-preserved : goal.loop-region-preserved
-loop-region-preserved c =
-    let rs = c.regions-region-items.result.now in
-    let i = c.loop-region.region-index in
-    let r = c.region-item.result in
-    let xs = map instance_of c.solids-solids.result.now in
-    let n = length c.solids-solids.result.now in
-    let at : drop c.loop-region.region-index c.regions-region-items.result.now ≡ c.region-item.result ∷ drop (c.loop-region.region-index + 1) c.regions-region-items.result.now =
-    drop_more c.regions-region-items.result.now c.loop-region.region-index c.region-item.result (omega (arith, c.loop-region-test.true))
-    ∙ ap (λ (x : Region). x ∷ drop (c.loop-region.region-index + 1) c.regions-region-items.result.now) (sym c.region-item.is) in
-    let items : map instance_of c.solids-solids.result.now ≡ c.region-item.result.body.instances = c.solids-solids.ensures.value ∙ ap (λ (b : RegionBody). b.instances) (c.deref.ensures ∙ c.body.ensures) in
-    let count : length (map instance_of c.solids-solids.result.now) ≡ length c.solids-solids.result.now = length-map c.solids-solids.result.now instance_of in
-    record {
-      made = next_found r (drop (i + 1) rs) (drop i rs) xs n at items count c.args.ray.now.origin (direction_of c.args.ray.now) c.loop-region.first _ _ _ c.in_ok-add_pieces.ensures.pieces c.loop-region.invariant.made;
-      range = c.in_ok-add_pieces.ensures.range;
-      left = omega (arith, c.loop-region.invariant.left, next_count r (drop (i + 1) rs) (drop i rs) xs n at items count);
-    }
+pub returns-clause-pieces : goal.returns-clause-pieces
+returns-clause-pieces c =
+    let o = c.args.ray.now.origin in
+    let e = direction_of c.args.ray.now in
+    let whole : flat_map (numbered_segment (instances_of c.args.scene.now) c.args.ray.now.origin (direction_of c.args.ray.now)) c.deref.result.now ≡ segments_on c.args.scene.now c.args.ray.now.origin (direction_of c.args.ray.now) =
+    ap (flat_map (numbered_segment (instances_of c.args.scene.now) o e)) c.deref.ensures.value
+    ∙ reached o e c.args.scene.now c.in-Some.index.now c.meets_slant.new.out.items (has_length _ c.requires.some) c.in-Some.ensures.boxes c.in_ok-meets_slant.ensures c.by_instance.ensures.placed in
+    IfOk-weaker c.pieces_among.result _ _ (λ v h. h ∙ whole) c.pieces_among.ensures.pieces

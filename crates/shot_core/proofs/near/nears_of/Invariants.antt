@@ -1,5 +1,0 @@
-use Rattle.shot_core.specs.NearFirst.{AreNears}
-use Rattle.shot_core.proofs.near.nears_of.Given as goal
-
-abbrev pub invariant-loop-i : goal.invariant-loop-i
-invariant-loop-i l = AreNears l.dir l.scene l.i l.nears.items

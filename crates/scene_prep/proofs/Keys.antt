@@ -14,7 +14,7 @@ use Rattle.scene_prep.specs.contracts.body.BodyKeyPartialEq.TheImpl as keys
 same_rgb : (a b : Rgb) → a.r ≡ b.r → a.g ≡ b.g → a.b ≡ b.b → a ≡ b
 same_rgb a b p q r = λ i. record { r = p i; g = q i; b = r i }
 
-rgb_decides : (a b : Rgb) → Decides (colours.eq-value.it a b) (a ≡ b)
+pub rgb_decides : (a b : Rgb) → Decides (colours.eq-value.it a b) (a ≡ b)
 rgb_decides a b =
     Decides-like _ (λ h. same_rgb a b h.0 h.1.0 h.1.1) (λ e. (ap (λ (c : Rgb). c.r) e, (ap (λ (c : Rgb). c.g) e, ap (λ (c : Rgb). c.b) e)))
     (Decides-and _ _ (Decides-eqb a.r b.r) (Decides-and _ _ (Decides-eqb a.g b.g) (Decides-eqb a.b b.b)))

@@ -8,6 +8,7 @@ mod Numbers
 mod Parts
 mod PathLines
 pub mod Pointing
+mod SameParts
 pub mod Scening
 mod Settling
 mod Sizing

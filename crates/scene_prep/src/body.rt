@@ -15,6 +15,7 @@ ghost use Rattle.scene_prep.specs.Walking.{body_at, body_under, IsWritten, finis
 
 use crate::expand::expand_nodes;
 use crate::expansion::Expansion;
+use crate::memo::Memo;
 use comb_tree::CombNode;
 use directory::Directory;
 use lattice_core::Placement;
@@ -48,41 +49,61 @@ pub(crate) struct Shape<'a> {
 }
 
 /// The body of a tree that was written.
-fn finish(alloc: Global, out: Expansion, id: u32, air: u32, rgb: Rgb) -> Result<PrepRegion, Memory>
+fn finish(
+    alloc: Global,
+    memo: &mut Memo,
+    out: Expansion,
+    id: u32,
+    air: u32,
+    rgb: Rgb,
+) -> Result<Arc<PrepRegion>, Memory>
     requires { (tree : Expanded) × IsWritten out tree × (length (leaves tree) < 2 ^ 32) }
-    ensures { IfOk result (λ body. (tree : Expanded) → IsWritten out tree → body ≡ finished rgb id air tree) }
+    ensures { IfOk result (λ body. (tree : Expanded) → IsWritten out tree → arc_value body ≡ finished rgb id air tree) }
 {
     let (tree, solids) = out.into_parts();
-    PrepRegion::new(alloc, id, air, rgb, tree, solids)
+    memo.body(alloc, id, air, rgb, tree, solids)
 }
 
 /// The body of a solid.
-fn solid_body(alloc: Global, key: &BodyKey, solid: &Solid) -> Result<PrepRegion, Memory>
+fn solid_body(
+    alloc: Global,
+    memo: &mut Memo,
+    key: &BodyKey,
+    solid: &Solid,
+) -> Result<Arc<PrepRegion>, Memory>
     requires { IsWithin SHIFT key.now.by.shift }
-    ensures { IfOk result (λ body. body ≡ body_under key.now.by key.now.rgb (solid_region key.now.name solid.now)) }
+    ensures { IfOk result (λ body. arc_value body ≡ body_under key.now.by key.now.rgb (solid_region key.now.name solid.now)) }
 {
     let mut out = Expansion::new(alloc);
-    out.push_solid(solid, &key.by)?;
-    finish(alloc, out, 0, 0, key.rgb)
+    out.push_solid(memo, solid, &key.by)?;
+    finish(alloc, memo, out, 0, 0, key.rgb)
 }
 
 /// The body of a tree.
 fn tree_body(
     alloc: Global,
     directory: &Directory,
+    memo: &mut Memo,
     key: &BodyKey,
     shape: Shape<'_>,
-) -> Result<PrepRegion, Memory>
+) -> Result<Arc<PrepRegion>, Memory>
     requires sound { IsSound directory.now.objects }
     requires within { All (StandsWithin directory.now.objects shape.levels) shape.nodes.now }
     requires by { IsPlacedAbove (shape.levels + 1) key.now.by }
     requires room { nodes_size directory.now.objects shape.nodes.now ≤ most_size }
     requires tree { (tree : Tree Member) × (comb_nodes (Some tree) ≡ shape.nodes.now) }
-    ensures { IfOk result (λ body. (tree : Tree Member) → comb_nodes (Some tree) ≡ shape.entry.nodes.now → body ≡ body_at key.now.by key.now.rgb shape.entry.id shape.entry.air (expanded_tree (expanded directory.now.objects) tree)) }
+    ensures { IfOk result (λ body. (tree : Tree Member) → comb_nodes (Some tree) ≡ shape.entry.nodes.now → arc_value body ≡ body_at key.now.by key.now.rgb shape.entry.id shape.entry.air (expanded_tree (expanded directory.now.objects) tree)) }
 {
     let mut out = Expansion::new(alloc);
-    expand_nodes(directory, &mut out, shape.nodes, &key.by, shape.levels)?;
-    finish(alloc, out, shape.id, shape.air, key.rgb)
+    expand_nodes(
+        directory,
+        &mut out,
+        memo,
+        shape.nodes,
+        &key.by,
+        shape.levels,
+    )?;
+    finish(alloc, memo, out, shape.id, shape.air, key.rgb)
 }
 
 /// Bodies that were prepared, to be shared by the regions that have them.
@@ -131,6 +152,7 @@ impl Bodies {
         &mut self,
         alloc: Global,
         directory: &Directory,
+        memo: &mut Memo,
         key: &BodyKey,
         solid: &Solid,
     ) -> Result<Arc<PrepRegion>, Memory>
@@ -143,7 +165,7 @@ impl Bodies {
         if let Some(body) = self.find(key)? {
             return Ok(body);
         }
-        let body = Arc::new(alloc, solid_body(alloc, key, solid)?)?;
+        let body = solid_body(alloc, memo, key, solid)?;
         self.keep(directory, key, &body)?;
         Ok(body)
     }
@@ -153,6 +175,7 @@ impl Bodies {
         &mut self,
         alloc: Global,
         directory: &Directory,
+        memo: &mut Memo,
         key: &BodyKey,
         shape: Shape<'_>,
     ) -> Result<Arc<PrepRegion>, Memory>
@@ -168,7 +191,7 @@ impl Bodies {
         if let Some(body) = self.find(key)? {
             return Ok(body);
         }
-        let body = Arc::new(alloc, tree_body(alloc, directory, key, shape)?)?;
+        let body = tree_body(alloc, directory, memo, key, shape)?;
         self.keep(directory, key, &body)?;
         Ok(body)
     }

@@ -12,6 +12,7 @@ ghost use Rattle.scene_prep.specs.Levels.{IsShallow, StandsWithin, IsPlacedAbove
 ghost use Rattle.scene_prep.specs.Writing.{Writes, WritesNode};
 
 use crate::expansion::Expansion;
+use crate::memo::Memo;
 use bool_weave::MaskNode;
 use comb_tree::CombNode;
 use directory::Directory;
@@ -35,6 +36,7 @@ fn placed_below(by: &Placement, member: &Placement, levels: u32) -> Placement
 pub(crate) fn expand_name(
     directory: &Directory,
     out: &mut Expansion,
+    memo: &mut Memo,
     name: &Name,
     by: &Placement,
     levels: u32,
@@ -47,13 +49,13 @@ pub(crate) fn expand_name(
 {
     match directory.get(name) {
         Some(object) => match object.body() {
-            Body::Solid(solid) => out.push_solid(solid, by),
+            Body::Solid(solid) => out.push_solid(memo, solid, by),
             Body::Comb { tree, .. } => {
                 let nodes = tree.nodes();
                 if nodes.is_empty() {
                     return out.push_node(MaskNode::Never);
                 }
-                expand_nodes(directory, out, nodes, by, levels - 1)
+                expand_nodes(directory, out, memo, nodes, by, levels - 1)
             }
         },
         None => out.push_node(MaskNode::Never),
@@ -65,6 +67,7 @@ pub(crate) fn expand_name(
 fn expand_node(
     directory: &Directory,
     out: &mut Expansion,
+    memo: &mut Memo,
     node: &CombNode,
     by: &Placement,
     levels: u32,
@@ -78,7 +81,7 @@ fn expand_node(
     match node {
         CombNode::Leaf { name, placement } => {
             let by = placed_below(by, placement, levels);
-            expand_name(directory, out, name, &by, levels)
+            expand_name(directory, out, memo, name, &by, levels)
         }
         CombNode::U => out.push_node(MaskNode::U),
         CombNode::N => out.push_node(MaskNode::N),
@@ -93,6 +96,7 @@ fn expand_node(
 pub(crate) fn expand_nodes(
     directory: &Directory,
     out: &mut Expansion,
+    memo: &mut Memo,
     nodes: &[CombNode],
     by: &Placement,
     levels: u32,
@@ -104,7 +108,7 @@ pub(crate) fn expand_nodes(
     ensures { IfOk result (λ _. (tree : Tree Member) → comb_nodes (Some tree) ≡ nodes.now → Writes out.old out.new (placed_tree by.now (expanded_tree (expanded directory.now.objects) tree))) }
 {
     for node in nodes {
-        expand_node(directory, out, node, by, levels)?;
+        expand_node(directory, out, memo, node, by, levels)?;
     }
     Ok(())
 }

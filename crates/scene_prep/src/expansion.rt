@@ -1,3 +1,4 @@
+use crate::memo::Memo;
 use bool_weave::{MaskNode, MaskTree};
 use lattice_core::Placement;
 use memory_core::Memory;
@@ -31,13 +32,19 @@ impl Expansion {
     }
 
     /// Puts a solid at the end.
-    pub(crate) fn push_solid(&mut self, solid: &Solid, by: &Placement) -> Result<(), Memory>
+    pub(crate) fn push_solid(
+        &mut self,
+        memo: &mut Memo,
+        solid: &Solid,
+        by: &Placement,
+    ) -> Result<(), Memory>
         requires room { vec_len self.old.solids < 65536 }
         requires near { IsWithin SHIFT by.now.shift }
         ensures { IfOk result (λ _. Writes self.old self.new (trees.Leaf (Some (record { solid = solid.now; placements = by.now ∷ [] })))) }
     {
         let number = self.solids.len() as u32;
-        self.solids.push(solid.placed(by))?;
+        let placed = memo.place(solid, by)?;
+        self.solids.push(placed)?;
         self.nodes.push(MaskNode::Leaf(number))?;
         Ok(())
     }

@@ -8,13 +8,17 @@ mod expand;
 mod expansion;
 mod fault;
 mod laws;
+mod memo;
 mod part;
 mod path;
 mod preparing;
 mod size;
+#[cfg(test)]
+mod tests;
 mod walk;
 
 pub use fault::PrepFault;
 pub use laws::{point_laws, region_laws};
-pub use preparing::prepare;
+pub use memo::Memo;
+pub use preparing::{prepare, prepare_again};
 pub use size::{MOST_SIZE, limit_laws};

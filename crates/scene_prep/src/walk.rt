@@ -3,7 +3,7 @@ ghost use Rattle.std.specs.Arc.{arc_value};
 ghost use Rattle.tree_forms.specs.Trees.{Tree};
 ghost use Rattle.comb_tree.specs.Nodes.{Member, comb_nodes};
 ghost use Rattle.directory.specs.Walks.{Entries, IsSound};
-ghost use Rattle.shot_core.specs.Regions.{IsPathText};
+ghost use Rattle.shot_core.specs.Regions.{IsPathText, IsScene};
 ghost use Rattle.scene_prep.specs.Expanding.{expanded};
 ghost use Rattle.scene_prep.specs.Regions.{solid_region, whole_region, node_region};
 ghost use Rattle.scene_prep.specs.Sizes.{most_size, size_of_name, names_size};
@@ -15,6 +15,7 @@ ghost use Rattle.scene_prep.specs.declared.walk.Task.TheVariants as variant;
 
 use crate::body::{Bodies, Shape};
 use crate::context::Context;
+use crate::memo::Memo;
 use crate::part::{Part, parts_of};
 use comb_tree::CombNode;
 use directory::Directory;
@@ -31,17 +32,19 @@ use std::sync::Arc;
 #[derive(Drop)]
 pub(crate) struct Walk {
     bodies: Bodies,
+    memo: Memo,
     regions: Vec<SceneRegion>,
 }
 
 impl Walk {
     /// Nothing yet.
-    fn new(alloc: Global) -> Walk
+    fn new(alloc: Global, memo: Memo) -> Walk
         ensures regions { result.regions.items ≡ [] }
         ensures known { (directory : Entries) → AreBodies directory result.bodies }
     {
         Walk {
             bodies: Bodies::new(alloc),
+            memo,
             regions: Vec::new(alloc),
         }
     }
@@ -74,7 +77,8 @@ impl Walk {
         ensures known { OnOk result (AreBodies directory.now.objects self.new.bodies) }
     {
         let key = context.key(name, None);
-        let body = self.bodies.of_solid(alloc, directory, &key, solid)?;
+        let memo = &mut self.memo;
+        let body = self.bodies.of_solid(alloc, directory, memo, &key, solid)?;
         let path = context.path_to(alloc, name)?;
         self.push_region(path, body)
     }
@@ -106,7 +110,8 @@ impl Walk {
             levels: context.levels_below(),
         };
         let key = context.key(name, None);
-        let body = self.bodies.of_tree(alloc, directory, &key, shape)?;
+        let memo = &mut self.memo;
+        let body = self.bodies.of_tree(alloc, directory, memo, &key, shape)?;
         let path = context.path()?;
         self.push_region(path, body)
     }
@@ -137,7 +142,8 @@ impl Walk {
             levels: context.levels_below(),
         };
         let key = context.key(comb, Some(node.number));
-        let body = self.bodies.of_tree(alloc, directory, &key, shape)?;
+        let memo = &mut self.memo;
+        let body = self.bodies.of_tree(alloc, directory, memo, &key, shape)?;
         let path = context.path_of_node(alloc, node.number)?;
         self.push_region(path, body)
     }
@@ -312,13 +318,15 @@ pub(crate) fn regions_of(
     alloc: Global,
     directory: &Directory,
     names: &[Name],
-) -> Result<Vec<SceneRegion>, Memory>
+    memo: Memo,
+) -> Result<(Vec<SceneRegion>, Memo), Memory>
     requires { names_size directory.now.objects names.now ≤ most_size }
-    ensures { IfOk result (λ regions. regions.items ≡ scene_of directory.now.objects names.now) }
+    ensures regions { IfOk result (λ made. made.0.items ≡ scene_of directory.now.objects names.now) }
+    ensures sound { IfOk result (λ made. IsScene made.0.items) }
 {
     let _count = directory.len();
     let top = Context::top(alloc)?;
-    let mut walk = Walk::new(alloc);
+    let mut walk = Walk::new(alloc, memo);
     let mut tasks = Vec::new(alloc);
     for name in names {
         tasks.push(Task::Name {
@@ -327,6 +335,6 @@ pub(crate) fn regions_of(
         })?;
         come_to_all(alloc, directory, &mut walk, &mut tasks)?;
     }
-    let Walk { regions, .. } = walk;
-    Ok(regions)
+    let Walk { regions, memo, .. } = walk;
+    Ok((regions, memo))
 }

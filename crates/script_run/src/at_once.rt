@@ -16,6 +16,7 @@ ghost use Rattle.script_run.specs.Runs.{IsRun};
 ghost use Rattle.script_run.specs.declared.at_once.Finished.{Finished as TheFinished};
 ghost use Rattle.script_run.specs.declared.tasks.Task.{Task as TheTask};
 
+use crate::room::workers_with_room;
 use crate::run::{Run, no_answers};
 use crate::tasks::{Task, tasks_of};
 use command_set::Command;
@@ -51,7 +52,7 @@ fn run_task<R: Threads + Wait + Sync, G: Gate + Sync>(
     task: Task,
 ) -> Finished
     requires ready { CanRun table.now.id task }
-    requires workers { (1 ≤ workers) × (workers ≤ 16) }
+    requires workers { workers ≤ 16 }
     ensures { IsRunOf table.now.told.state task result }
 {
     let Task {
@@ -77,7 +78,7 @@ fn run_tasks<R: Threads + Wait + Sync, G: Gate + Sync>(
     tasks: Vec<Task>,
 ) -> Result<Vec<Finished>, Memory>
     requires ready { All (CanRun table.now.id) tasks.items }
-    requires workers { (1 ≤ workers) × (workers ≤ 16) }
+    requires workers { workers ≤ 16 }
     ensures len { IfOk result (λ finished. vec_len finished ≡ vec_len tasks) }
     ensures ran { IfOk result (λ finished. (i : ℕ) (t : TheTask) (f : TheFinished) → i < vec_len tasks → IsRunOf table.now.told.state (slice_index_or tasks.items i t) (slice_index_or finished.items i f)) }
 {
@@ -86,7 +87,7 @@ fn run_tasks<R: Threads + Wait + Sync, G: Gate + Sync>(
         tasks,
         &|task: Task| -> Finished
             requires ready { CanRun table.now.id task }
-            requires workers { (1 ≤ workers) × (workers ≤ 16) }
+            requires workers { workers ≤ 16 }
             ensures { IsRunOf table.entry.now.told.state task result }
         { run_task(rt, alloc, table, workers, gate, task) },
     )?;
@@ -153,11 +154,12 @@ fn run_sessions<R: Threads + Wait + Sync, G: Gate + Sync>(
     requires sessions { All HasSession (map command_entry script.now) }
     requires few { length script.now + 1 < 2 ^ 32 }
     requires pass { pass.old ≡ pass_of table.now.id 0 [] [] (length script.now) }
-    requires workers { (1 ≤ workers) × (workers ≤ 16) }
+    requires workers { workers ≤ 16 }
     ensures run { IfOk result (λ lists. AreAllRun table.now.told.state table.now.id (map command_entry script.now) pass.new lists.items) }
     ensures eight { IfOk result (λ lists. vec_len lists ≡ 8) }
 {
     let tasks = tasks_of(alloc, table, pass, script)?;
+    let workers = workers_with_room(alloc, tasks.len(), workers);
     let finished = run_tasks(rt, alloc, table, workers, gate, tasks)?;
     let mut lists = no_answers(alloc)?;
     join_all(table, pass, finished, &mut lists);
@@ -177,8 +179,9 @@ fn history_order(alloc: Global, entries: &[Entry<Command>]) -> Result<Vec<u8>, M
 
 /// Runs all sessions of a script at the same time, from a directory. Each session runs its own commands in sequence, and
 /// all share one history of versions, whose order the transcript prints. The tiles of each picture and check are shot by
-/// `workers` threads, from 1 to 16, beside that of its session, which helps them when it gathers. In one order of the history,
-/// and with memory for all, the answers are the same, however many these are.
+/// `workers` threads, from 1 to 16, beside that of its session, which helps them when it gathers; where there is no room for so
+/// many, by fewer or none. In one order of the history, and with memory for all, the answers are the same, however many these
+/// are.
 pub fn run_at_once<R: Threads + Wait + Sync, G: Gate + Sync>(
     rt: &R,
     alloc: Global,

@@ -4,6 +4,7 @@
 
 mod at_once;
 mod order;
+mod room;
 mod run;
 mod tasks;
 

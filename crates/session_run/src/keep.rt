@@ -8,8 +8,8 @@ ghost use Rattle.session_run.specs.Kept.{IsCurrent, IsKeptOf, IsOf};
 use directory::Directory;
 use memory_core::Memory;
 use name_core::Name;
-use scene_prep::{PrepFault, prepare};
-use shot_core::Scene;
+use scene_prep::{Memo, PrepFault, prepare_again};
+use shot_core::{Scene, indexed};
 use std::alloc::Global;
 use std::collections::HashMap;
 use std::sync::Arc;
@@ -32,6 +32,8 @@ pub(crate) struct KeptScene {
     version: u32,
     names: Vec<Name>,
     pub(crate) scene: Arc<Scene>,
+    /// Whether it was looked at twice, and has an index of its instances where these are many.
+    is_indexed: bool,
 }
 
 /// A scene that is kept, of these names and this version.
@@ -51,7 +53,16 @@ fn kept_scene(
         version,
         names,
         scene,
+        is_indexed: false,
     })
+}
+
+/// The same scene with an index.
+fn shared_index(alloc: Global, scene: &Scene) -> Result<Arc<Scene>, Memory>
+    ensures { IfOk result (λ s. arc_value s ≡ scene.now) }
+{
+    let scene = indexed(alloc, scene)?;
+    Ok(Arc::new(alloc, scene)?)
 }
 
 impl KeptScene {
@@ -61,6 +72,26 @@ impl KeptScene {
     {
         self.version == version && self.names.as_slice() == names
     }
+
+    /// The same scene for one more look, with an index. Where there is no memory for one it has none.
+    fn looked_again(self, alloc: Global) -> KeptScene
+        ensures version { result.version ≡ self.version }
+        ensures names { result.names ≡ self.names }
+        ensures scene { arc_value result.scene ≡ arc_value self.scene }
+    {
+        if self.is_indexed {
+            return self;
+        }
+        match shared_index(alloc, &self.scene) {
+            Ok(scene) => KeptScene {
+                version: self.version,
+                names: self.names,
+                scene,
+                is_indexed: true,
+            },
+            Err(_) => self,
+        }
+    }
 }
 
 /// The scenes that a session prepared lately: the last one that is large, and small ones by the first of their names. To
@@ -69,6 +100,7 @@ impl KeptScene {
 pub struct Keep {
     large: Option<KeptScene>,
     small: HashMap<Name, KeptScene>,
+    memo: Memo,
 }
 
 impl Keep {
@@ -79,6 +111,7 @@ impl Keep {
         Keep {
             large: None,
             small: HashMap::new(alloc),
+            memo: Memo::new(alloc),
         }
     }
 
@@ -137,9 +170,9 @@ impl Keep {
         ensures rest { IsCurrent self.new version directory.now.objects }
     {
         if let Some(kept) = self.take(version, names) {
-            return Ok(kept);
+            return Ok(kept.looked_again(alloc));
         }
-        let scene = prepare(alloc, directory, names)?;
+        let scene = prepare_again(alloc, directory, names, &mut self.memo)?;
         match kept_scene(alloc, version, names, scene) {
             Ok(kept) => Ok(kept),
             Err(_) => Err(PrepFault::Memory),

@@ -459,8 +459,8 @@ impl Session {
     /// Runs all commands in sequence, each as an entry of the history. It takes no memory for the list of answers.
     /// So many threads as there are workers shoot the tiles of a picture or a check while this one goes on with the edits behind
     /// it, and this one helps them when it gathers. The later tiles of a large check are shot by as many, this one among them, when
-    /// some of those that serve may still be at an earlier one. The gate is told after each accepted edit, and before each tile
-    /// that is shot.
+    /// some of those that serve may still be at an earlier one. With no worker this thread shoots each picture and check whole, and
+    /// starts none. The gate is told after each accepted edit, and before each tile that is shot.
     pub fn run<R: Threads + Wait + Sync, G: Gate + Sync>(
         self,
         rt: &R,
@@ -473,29 +473,30 @@ impl Session {
         requires table { pass.old.table ≡ table.now.id }
         requires session { pass.old.session ≡ self.session }
         requires calls { length self.commands ≤ pass.old.left }
-        requires workers { (1 ≤ workers) × (workers ≤ 16) }
+        requires workers { workers ≤ 16 }
         ensures ran { HasRun table.now.told.state self.own self.commands pass.old pass.new result }
     {
+        if workers == 0 {
+            return self.run_alone(rt, alloc, table, pass, gate);
+        }
         match TilePool::new(alloc) {
             Ok(pool) => run_served(self, rt, alloc, table, pass, workers, gate, &pool),
-            Err(_) => self.run_alone(rt, alloc, table, pass, workers, gate),
+            Err(_) => self.run_alone(rt, alloc, table, pass, gate),
         }
     }
 
-    /// Runs all commands in sequence, and each picture and check whole before the next command.
+    /// Runs all commands in sequence, on this thread alone, and each picture and check whole before the next command.
     fn run_alone<R: Threads + Wait + Sync, G: Gate + Sync>(
         self,
         rt: &R,
         alloc: Global,
         table: &VersionTable<Modeller>,
         pass: &mut Pass<Modeller>,
-        workers: u8,
         gate: &G,
     ) -> Items<Answer>
         requires table { pass.old.table ≡ table.now.id }
         requires session { pass.old.session ≡ self.session }
         requires calls { length self.commands ≤ pass.old.left }
-        requires workers { (1 ≤ workers) × (workers ≤ 16) }
         ensures ran { HasRun table.now.told.state self.own self.commands pass.old pass.new result }
     {
         let Session {
@@ -511,7 +512,7 @@ impl Session {
             command = command.saturating_add(1);
             let executor = Executor::Parallel(Parallel {
                 rt,
-                workers,
+                workers: 1,
                 session,
                 command,
                 gate,

@@ -5,6 +5,8 @@ use Rattle.scene_prep.specs.declared.walk.Task.TheVariants as tasks
 use Rattle.scene_prep.specs.Regions.{regions_of, regions_of_name}
 use Rattle.scene_prep.specs.Sizes.{most_size}
 use Rattle.scene_prep.specs.Walking.{contents_in, Adds, pending}
+use Rattle.shot_core.specs.Regions.{IsScene}
+use Rattle.scene_prep.proofs.Scening.{scene_sound}
 use Rattle.scene_prep.proofs.Settling.{adds_more, adds_same}
 use Rattle.scene_prep.proofs.Tasks.{given_alone, given_sound, given_size, given_contents}
 use Rattle.scene_prep.proofs.Walking.{next_contents, room_next, all_come}
@@ -50,9 +52,17 @@ loop-name-preserved c =
       known = c.in_ok-come_to_all.ensures.known;
     }
 
-pub returns : goal.returns
-returns c =
+pub returns-clause-regions : goal.returns-clause-regions
+returns-clause-regions c =
     let end : c.loop-name.name-index ≡ length c.args.names.now = omega arith in
     let whole : take c.loop-name.name-index c.args.names.now ≡ c.args.names.now = ap (λ n. take n c.args.names.now) end ∙ take-length c.args.names.now in
     all_come c.args.directory.now.objects c.in_ok-top.top c.new-walk.result c.loop-name.walk c.args.names.now c.in_ok-top.ensures c.new-walk.ensures.regions
     (subst (λ ns. Adds c.new-walk.result c.loop-name.walk (contents_in c.in_ok-top.top (regions_of c.args.directory.now.objects ns))) whole c.loop-name.invariant.regions)
+
+pub returns-clause-sound : goal.returns-clause-sound
+returns-clause-sound c =
+    let end : c.loop-name.name-index ≡ length c.args.names.now = omega arith in
+    let whole : take c.loop-name.name-index c.args.names.now ≡ c.args.names.now = ap (λ n. take n c.args.names.now) end ∙ take-length c.args.names.now in
+    subst IsScene (sym (all_come c.args.directory.now.objects c.in_ok-top.top c.new-walk.result c.loop-name.walk c.args.names.now c.in_ok-top.ensures c.new-walk.ensures.regions
+    (subst (λ ns. Adds c.new-walk.result c.loop-name.walk (contents_in c.in_ok-top.top (regions_of c.args.directory.now.objects ns))) whole c.loop-name.invariant.regions)))
+    (scene_sound c.args.directory.now.objects c.args.names.now c.requires)

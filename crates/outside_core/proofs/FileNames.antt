@@ -3,6 +3,7 @@ use Rattle.std.proofs.Common.{◌≡◌, ◌<◌, [], ◌∷◌, ℕ, zero, suc,
 use Rattle.std.specs.Str.{IsAscii, IsUtf8}
 use Rattle.std.proofs.lemmas.Str.{IsUtf8-from_ascii}
 use Rattle.name_core.specs.NameText.{IsName, is_first_byte, is_next_byte}
+use Rattle.outside_core.specs.Partial.{partial_name}
 
 first_below : (b : ℕ) → is_first_byte b ≡ true → b < 128
 first_below b h = grind arith
@@ -22,3 +23,7 @@ name_ascii (b ∷ bs) name (suc i) = below_at bs name.rest i
 
 pub name_text : (bytes : List ℕ) → IsName bytes → IsUtf8 bytes
 name_text bytes name = IsUtf8-from_ascii bytes (name_ascii bytes name)
+
+-- no name begins with a dot
+pub partial_no_name : (name : List ℕ) → ¬ (IsName (partial_name name))
+partial_no_name name h = cc

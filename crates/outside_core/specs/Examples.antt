@@ -4,6 +4,7 @@ use Rattle.std.proofs.Common.{arith, lit≤, lit<}
 use Rattle.outside_core.specs.Faults.{Rose, next_count}
 use Rattle.outside_core.specs.CallCounts.{NextIsListed, faulted}
 use Rattle.outside_core.specs.Files.{bytes_in, Gives}
+use Rattle.outside_core.specs.Partial.{partial_name}
 use Rattle.outside_core.specs.Transfers.{IsCutShort}
 use Rattle.outside_core.specs.declared.calls.Calls.{Calls}
 use Rattle.outside_core.specs.declared.traits.File.{File}
@@ -55,3 +56,7 @@ first_two = refl
 -- of a text of three bytes two were written
 cut_after_two : IsCutShort (Some (9 ∷ [])) (Some (9 ∷ 1 ∷ 2 ∷ [])) (1 ∷ 2 ∷ 3 ∷ [])
 cut_after_two = record { count = 2; short = lit< tt; front = refl }
+
+-- the file `m.asc` is written under this name
+unfinished_name : partial_name (codes "m.asc") ≡ codes ".m.asc.partial"
+unfinished_name = refl

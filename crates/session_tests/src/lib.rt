@@ -1,5 +1,5 @@
-//! Tests that need types of this language and the whole run: one session at any version, sessions at once, and gates at which
-//! threads of one run meet or are noted.
+//! Tests that need types of this language and the whole run: one session at any version, sessions at once, gates at which
+//! threads of one run meet or are noted, and a shelf that finds no memory.
 #![tactic(auto)]
 
 #[cfg(test)]
@@ -10,5 +10,7 @@ mod gates;
 mod meetings;
 #[cfg(test)]
 mod running;
+#[cfg(test)]
+mod scarce;
 #[cfg(test)]
 mod sessions;

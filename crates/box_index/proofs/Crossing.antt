@@ -1,5 +1,5 @@
--- Where a ray lies in boxes and in halves of space: what a stretch keeps of it.
-use Rattle.std.proofs.Common.{◌≡◌, ◌↔◌, ◌∙◌, zero, suc, ◌&&◌, ℤ, pos, negsuc, ◌+ℤ◌, ◌-ℤ◌, ◌*ℤ◌, ◌<ℤ◌, ◌≤ℤ◌, Bool, true, false, not, IsTrue, ap, sym, subst, refl, inl, inr, arith}
+-- Where a ray lies in boxes: what a stretch keeps of it.
+use Rattle.std.proofs.Common.{◌≡◌, ◌↔◌, ◌∙◌, zero, suc, ◌&&◌, ℤ, pos, negsuc, ◌+ℤ◌, ◌-ℤ◌, ◌*ℤ◌, ◌<ℤ◌, ◌≤ℤ◌, Bool, true, false, not, IsTrue, if◌then◌else◌, ap, sym, subst, refl, inl, inr, arith}
 use Rattle.std.specs.Int.{int_min, int_max}
 use Rattle.std.specs.Ordering.{int_cmp, is_lt}
 use Rattle.std.specs.declared.cmp.Ordering.{Ordering}
@@ -21,15 +21,13 @@ use Rattle.lattice_core.specs.Boxes.{IsFrom, IsUpTo, IsBetween, HasPoint}
 use Rattle.lattice_core.proofs.Products.{mul_swap, mul_sub, mul_neg, mul_at_most, at_most_from_mul}
 use Rattle.box_index.specs.declared.cut.Axis.{Axis}
 use Rattle.box_index.specs.declared.cut.Axis.TheVariants.{X, Y, Z}
-use Rattle.box_index.specs.declared.cut.Half.{Half}
-use Rattle.box_index.specs.declared.cut.Half.TheVariants.{AllPoints, Below, Above}
 use Rattle.box_index.specs.declared.line.TheConstants.{PARTS}
 use Rattle.box_index.specs.declared.line.Line.{Line}
 use Rattle.box_index.specs.declared.line.Stretch.{Stretch}
-use Rattle.box_index.specs.Cuts.{is_side_below, is_side_above, is_below, is_above, is_inside}
-use Rattle.box_index.specs.Lines.{slant_point, MeetsSlant, pace_of, line_of, whole_line, empty_stretch, has_some, holds, begun, ended, through, clipped_by, in_extent, in_box, in_half, is_crossed, IsPace, IsLine}
+use Rattle.box_index.specs.Cuts.{is_side_below, is_side_above}
+use Rattle.box_index.specs.Lines.{slant_point, MeetsSlant, pace_of, line_of, whole_line, empty_stretch, has_some, holds, begun, ended, through, clipped_by, in_extent, in_box, is_crossed, IsPace, IsLine}
 use Rattle.box_index.specs.Reaches.{has_points}
-use Rattle.box_index.proofs.Cutting.{is_less, is_more}
+use Rattle.box_index.proofs.Rooms.{fails_too}
 use Rattle.box_index.proofs.Touching.{not_over, points_tell}
 
 -- the place after p / q steps is one of a stretch
@@ -242,50 +240,6 @@ box_keeps line is (Span x y z) s p q some =
       λ h. c.1 (b.1 (a.1 (h.0, h.1.0), h.1.1), h.1.2),
     )
 
-less_most : (a b : ℤ) → a <ℤ b → a ≤ℤ b
-less_most a b lt = omega (arith, ints, lt)
-
--- a point of a box below a cut, or above it
-below_cut : (at : ℤ) (side : Side) (c q : ℤ) → pos 0 <ℤ q → IsTrue (is_side_below at side) → IsUpTo side c q → c ≤ℤ (at *ℤ q)
-below_cut at Open c q some h up = absurd (true≢false (sym h))
-below_cut at (At s) c q some h up = let m = (rising s at q some).0 (less_most s at (is_less s at (int_cmp s at) refl h)) in omega (arith, ints, m, up)
-
-above_cut : (at : ℤ) (side : Side) (c q : ℤ) → pos 0 <ℤ q → IsTrue (is_side_above at side) → IsFrom side c q → (at *ℤ q) ≤ℤ c
-above_cut at Open c q some h up = absurd (true≢false (sym h))
-above_cut at (At s) c q some h up = let m = (rising at s q some).0 (less_most at s (is_more s at (int_cmp s at) refl h)) in omega (arith, ints, m, up)
-
--- the point lies in a half of space or on its cut
-abbrev IsInHalf : Half → V3 → ℤ → Type 0
-IsInHalf AllPoints v q = Unit {0}
-IsInHalf (Below cut) v q = along_axis v cut.axis ≤ℤ (cut.at *ℤ q)
-IsInHalf (Above cut) v q = (cut.at *ℤ q) ≤ℤ along_axis v cut.axis
-
-half_keeps : (line : Line) (is : IsLine line) (half : Half) (s : Stretch) (p q : ℤ) → pos 0 <ℤ q → IsOn (in_half line half s) p q ↔ (IsOn s p q × IsInHalf half (point_of line is p q) q)
-unfolding Keeps
-half_keeps line is AllPoints s p q some = (λ on. (on, tt), λ h. h.0)
-half_keeps line is (Below cut) s p q some =
-    let k = extent_keeps line is (record { low = Open; high = At cut.at }) cut.axis s p q some in
-    (λ on. let h = k.0 on in (h.0, h.1.1), λ h. k.1 (h.0, (tt, h.1)))
-half_keeps line is (Above cut) s p q some =
-    let k = extent_keeps line is (record { low = At cut.at; high = Open }) cut.axis s p q some in
-    (λ on. let h = k.0 on in (h.0, h.1.0), λ h. k.1 (h.0, (h.1, tt)))
-
-inside_below : (x y z : Extent) (axis : Axis) (at : ℤ) (v : V3) (q : ℤ) → pos 0 <ℤ q → IsTrue (is_below (Span x y z) (record { axis = axis; at = at })) → HasPoint (Span x y z) v q → along_axis v axis ≤ℤ (at *ℤ q)
-inside_below x y z X at v q some h point = below_cut at x.high v.x q some h point.0.1
-inside_below x y z Y at v q some h point = below_cut at y.high v.y q some h point.1.1
-inside_below x y z Z at v q some h point = below_cut at z.high v.z q some h point.2.1
-
-inside_above : (x y z : Extent) (axis : Axis) (at : ℤ) (v : V3) (q : ℤ) → pos 0 <ℤ q → IsTrue (is_above (Span x y z) (record { axis = axis; at = at })) → HasPoint (Span x y z) v q → (at *ℤ q) ≤ℤ along_axis v axis
-inside_above x y z X at v q some h point = above_cut at x.low v.x q some h point.0.0
-inside_above x y z Y at v q some h point = above_cut at y.low v.y q some h point.1.0
-inside_above x y z Z at v q some h point = above_cut at z.low v.z q some h point.2.0
-
-inside_half : (b : Box3) (half : Half) (v : V3) (q : ℤ) → pos 0 <ℤ q → IsTrue (is_inside b half) → HasPoint b v q → IsInHalf half v q
-inside_half Empty half v q some h point = absurd point
-inside_half (Span x y z) AllPoints v q some h point = tt
-inside_half (Span x y z) (Below cut) v q some h point = inside_below x y z cut.axis cut.at v q some h point
-inside_half (Span x y z) (Above cut) v q some h point = inside_above x y z cut.axis cut.at v q some h point
-
 -- ---- which boxes a stretch crosses
 pub record IsMet (line : Line) (is : IsLine line) (s : Stretch) (b : Box3) : Type 0 where
   pub p : ℤ
@@ -312,28 +266,42 @@ crossed_tells line is s b = (
   λ m. some_from (in_box line b s) m.p m.q m.some ((box_keeps line is b s m.p m.q m.some).1 (m.on, m.inside)),
 )
 
-same_truth : (a b : Bool) → (IsTrue a → IsTrue b) → (IsTrue b → IsTrue a) → a ≡ b
-same_truth true true f g = refl
-same_truth true false f g = absurd (true≢false (sym (f refl)))
-same_truth false true f g = absurd (true≢false (sym (g refl)))
-same_truth false false f g = refl
-
--- a box in a half of space is asked within it as well
-pub same_within : (line : Line) → IsLine line → (half : Half) (s : Stretch) (b : Box3) → IsTrue (is_inside b half) → is_crossed line (in_half line half s) b ≡ is_crossed line s b
-same_within line is half s b inside =
-    let whole = crossed_tells line is s b in
-    let part = crossed_tells line is (in_half line half s) b in
-    same_truth _ _
-    (λ h. let m = part.0 h in whole.1 (record { p = m.p; q = m.q; some = m.some; on = ((half_keeps line is half s m.p m.q m.some).0 m.on).0; inside = m.inside }))
+-- a line that crosses no point of a room crosses no box whose points are the room's
+pub missed_within : (line : Line) → IsLine line → (room b : Box3) → ((v : V3) (q : ℤ) → pos 0 <ℤ q → HasPoint b v q → HasPoint room v q) → is_crossed line whole_line room ≡ false → is_crossed line whole_line b ≡ false
+missed_within line is room b within none =
+    fails_too (is_crossed line whole_line room) (is_crossed line whole_line b)
     (λ h.
-    let m = whole.0 h in
-    part.1 (record { p = m.p; q = m.q; some = m.some; on = (half_keeps line is half s m.p m.q m.some).1 (m.on, inside_half b half _ m.q m.some inside m.inside); inside = m.inside }))
+    let m = (crossed_tells line is whole_line b).0 h in
+    (crossed_tells line is whole_line room).1 (record { p = m.p; q = m.q; some = m.some; on = m.on; inside = within (point_of line is m.p m.q) m.q m.some m.inside }))
+    none
 
--- and not at all where the stretch has no places there
-pub missed_within : (line : Line) → IsLine line → (half : Half) (s : Stretch) (b : Box3) → IsTrue (is_inside b half) → has_some (in_half line half s) ≡ false → is_crossed line s b ≡ false
-missed_within line is half s b inside none =
-    sym (same_within line is half s b inside)
-    ∙ same_truth (is_crossed line (in_half line half s) b) false (λ h. let m = (crossed_tells line is (in_half line half s) b).0 h in sym none ∙ some_from (in_half line half s) m.p m.q m.some m.on) (λ h. absurd (true≢false (sym h)))
+-- ---- a stretch without places has none in any extent
+begun_later : (side : Side) (o k from : ℤ) → from ≤ℤ begun side o k from
+begun_later Open o k from = omega (arith, ints)
+begun_later (At at) o k from = omega (arith, ints, clamps)
+
+ended_sooner : (side : Side) (o k to : ℤ) → ended side o k to ≤ℤ to
+ended_sooner Open o k to = omega (arith, ints)
+ended_sooner (At at) o k to = omega (arith, ints, clamps)
+
+some_before : (near far : Side) (o k : ℤ) (s : Stretch) → IsTrue (has_some (through near far o k s)) → IsTrue (has_some s)
+some_before near far o k s h =
+    let from = begun near o k s.from in
+    let to = ended far o k s.to in
+    let le : from ≤ℤ to = (not_over from to (int_cmp from to) refl).0 h in
+    let a : s.from ≤ℤ from = begun_later near o k s.from in
+    let b : to ≤ℤ s.to = ended_sooner far o k s.to in
+    (not_over s.from s.to (int_cmp s.from s.to) refl).1 (omega (arith, ints, le, a, b))
+
+none_clipped : (r : Ordering) (extent : Extent) (o k : ℤ) (s : Stretch) → has_some s ≡ false → has_some (clipped_by r extent o k s) ≡ false
+none_clipped Less extent o k s none = fails_too (has_some s) (has_some (through extent.high extent.low o k s)) (some_before extent.high extent.low o k s) none
+none_clipped Greater extent o k s none = fails_too (has_some s) (has_some (through extent.low extent.high o k s)) (some_before extent.low extent.high o k s) none
+none_clipped Equal extent o k s none = elim (holds extent o) as (λ (t : Bool). has_some (if t then s else empty_stretch) ≡ false) [ true ↦ none | false ↦ refl ]
+
+pub none_in_extent : (line : Line) (extent : Extent) (axis : Axis) (s : Stretch) → has_some s ≡ false → has_some (in_extent line extent axis s) ≡ false
+none_in_extent line extent X s none = none_clipped (int_cmp line.pace.x (pos 0)) extent line.origin.x line.pace.x s none
+none_in_extent line extent Y s none = none_clipped (int_cmp line.pace.y (pos 0)) extent line.origin.y line.pace.y s none
+none_in_extent line extent Z s none = none_clipped (int_cmp line.pace.z (pos 0)) extent line.origin.z line.pace.z s none
 
 -- ---- the line of a ray
 pub pace_fits : (e : ℤ) → IsAtMost STEP e → IsPace e (pace_of e)

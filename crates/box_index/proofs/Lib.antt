@@ -2,9 +2,8 @@ pub mod Members
 pub mod Placing
 mod Listing
 mod Touching
-mod Cutting
-mod Trees
-mod Parting
+mod Rooms
 mod Widths
 mod Crossing
-mod Walking
+mod Trees
+mod Parting

@@ -30,7 +30,7 @@ not_over x y Less is = let lt : x <ℤ y = int_ranked x y Less is in (λ h. omeg
 not_over x y Equal is = let e : x ≡ y = int_ranked x y Equal is in (λ h. omega (arith, ints), λ h. refl)
 not_over x y Greater is = let lt : y <ℤ x = int_ranked x y Greater is in (λ h. absurd (true≢false (sym h)), λ h. absurd (omega (arith, ints)))
 
-sides_tell : (low high : Side) → IsTrue (are_ordered low high) ↔ AreOrdered low high
+pub sides_tell : (low high : Side) → IsTrue (are_ordered low high) ↔ AreOrdered low high
 sides_tell Open high = (λ h. tt, λ h. refl)
 sides_tell (At a) Open = (λ h. tt, λ h. refl)
 sides_tell (At a) (At b) = not_over a b (int_cmp a b) refl

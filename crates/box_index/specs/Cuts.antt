@@ -1,5 +1,5 @@
 -- Where boxes lie by a cut.
-use Rattle.std.specs.Prelude.{Bool, true, false, Option, Some, None, ℤ}
+use Rattle.std.specs.Prelude.{Bool, false, Option, Some, None, ℤ}
 use Rattle.std.specs.Ordering.{int_cmp, is_lt, is_gt}
 use Rattle.lattice_core.specs.declared.boxes.Side.{Side}
 use Rattle.lattice_core.specs.declared.boxes.Side.TheVariants.{Open, At}
@@ -9,8 +9,6 @@ use Rattle.lattice_core.specs.declared.boxes.Box3.TheVariants.{Empty, Span}
 use Rattle.box_index.specs.declared.cut.Axis.{Axis}
 use Rattle.box_index.specs.declared.cut.Axis.TheVariants.{X, Y, Z}
 use Rattle.box_index.specs.declared.cut.Cut.{Cut}
-use Rattle.box_index.specs.declared.cut.Half.{Half}
-use Rattle.box_index.specs.declared.cut.Half.TheVariants.{AllPoints, Below, Above}
 
 -- the extent of a box along an axis
 abbrev pub extent_on : Box3 → Axis → Option Extent
@@ -28,15 +26,6 @@ abbrev pub is_side_above : ℤ → Side → Bool
 is_side_above at Open = false
 is_side_above at (At s) = is_gt (int_cmp s at)
 
--- the same, or open
-abbrev pub is_open_or_below : ℤ → Side → Bool
-is_open_or_below at Open = true
-is_open_or_below at (At s) = is_lt (int_cmp s at)
-
-abbrev pub is_open_or_above : ℤ → Side → Bool
-is_open_or_above at Open = true
-is_open_or_above at (At s) = is_gt (int_cmp s at)
-
 abbrev pub of_low : (Side → Bool) → Option Extent → Bool
 of_low f None = false
 of_low f (Some e) = f e.low
@@ -51,22 +40,3 @@ is_below b cut = of_high (is_side_below cut.at) (extent_on b cut.axis)
 
 abbrev pub is_above : Box3 → Cut → Bool
 is_above b cut = of_low (is_side_above cut.at) (extent_on b cut.axis)
-
--- a box has points on one side of the cut
-abbrev pub starts_below : Box3 → Cut → Bool
-starts_below b cut = of_low (is_open_or_below cut.at) (extent_on b cut.axis)
-
-abbrev pub ends_above : Box3 → Cut → Bool
-ends_above b cut = of_high (is_open_or_above cut.at) (extent_on b cut.axis)
-
--- a box lies in a half of space, without touching the cut
-abbrev pub is_inside : Box3 → Half → Bool
-is_inside b AllPoints = true
-is_inside b (Below cut) = is_below b cut
-is_inside b (Above cut) = is_above b cut
-
--- a box has points there
-abbrev pub does_reach : Box3 → Half → Bool
-does_reach b AllPoints = true
-does_reach b (Below cut) = starts_below b cut
-does_reach b (Above cut) = ends_above b cut

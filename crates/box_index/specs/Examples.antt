@@ -3,19 +3,15 @@ use Rattle.std.specs.Prelude.{◌≡◌, [], ◌∷◌, ℤ, pos, negsuc, Bool, 
 use Rattle.lattice_core.specs.declared.vector.V3.{V3}
 use Rattle.lattice_core.specs.Extents.{extent_between}
 use Rattle.lattice_core.specs.Vectors.{vector}
-use Rattle.lattice_core.specs.declared.boxes.Side.TheVariants.{Open}
 use Rattle.lattice_core.specs.declared.boxes.Box3.{Box3}
 use Rattle.lattice_core.specs.declared.boxes.Box3.TheVariants.{Empty, Span}
 use Rattle.box_index.specs.Lines.{line_of, whole_line, is_crossed}
 use Rattle.box_index.specs.Places.{places_where}
+use Rattle.box_index.specs.Rooms.{around, all_points}
 
 abbrev has_extents : Box3 → Bool
 has_extents Empty = false
 has_extents (Span x y z) = true
-
--- the box of all points
-abbrev all_points : Box3
-all_points = Span (record { low = Open; high = Open }) (record { low = Open; high = Open }) (record { low = Open; high = Open })
 
 abbrev four : List Box3
 four = Empty ∷ all_points ∷ Empty ∷ all_points ∷ []
@@ -31,6 +27,19 @@ all_pass = refl
 
 pub some_pass : places_where has_extents four ≡ 1 ∷ 3 ∷ []
 some_pass = refl
+
+-- ---- rooms
+abbrev cube_between : ℤ → ℤ → Box3
+cube_between low high = Span (extent_between low high) (extent_between low high) (extent_between low high)
+
+pub around_two : around (cube_between (pos 1) (pos 3)) (cube_between (pos 2) (pos 5)) ≡ cube_between (pos 1) (pos 5)
+around_two = refl
+
+pub around_none : around Empty (cube_between (pos 2) (pos 5)) ≡ cube_between (pos 2) (pos 5)
+around_none = refl
+
+pub around_all : around all_points (cube_between (pos 2) (pos 5)) ≡ all_points
+around_all = refl
 
 -- ---- rays in lattice directions
 abbrev does_cross : V3 → V3 → Box3 → Bool

@@ -1,4 +1,4 @@
--- Rays in lattice directions: which boxes they meet, and the part of one that lies in a box or in a half of space.
+-- Rays in lattice directions: which boxes they meet, and the part of one that lies in a box.
 use Rattle.std.specs.Prelude.{◌⊎◌, ◌≡◌, ◌&&◌, ℤ, pos, ◌+ℤ◌, ◌-ℤ◌, ◌*ℤ◌, Bool, not, if◌then◌else◌}
 use Rattle.std.specs.Int.{int_min, int_max}
 use Rattle.std.specs.Int.Signed.{quot_z}
@@ -16,8 +16,6 @@ use Rattle.lattice_core.specs.Boxes.{HasPoint}
 use Rattle.lattice_core.specs.Rays.{IsOnRay}
 use Rattle.box_index.specs.declared.cut.Axis.{Axis}
 use Rattle.box_index.specs.declared.cut.Axis.TheVariants.{X, Y, Z}
-use Rattle.box_index.specs.declared.cut.Half.{Half}
-use Rattle.box_index.specs.declared.cut.Half.TheVariants.{AllPoints, Below, Above}
 use Rattle.box_index.specs.declared.line.TheConstants.{PARTS}
 use Rattle.box_index.specs.declared.line.Line.{Line}
 use Rattle.box_index.specs.declared.line.Stretch.{Stretch}
@@ -83,11 +81,6 @@ in_extent line extent Z s = clipped extent line.origin.z line.pace.z s
 abbrev pub in_box : Line → Box3 → Stretch → Stretch
 in_box line Empty s = empty_stretch
 in_box line (Span x y z) s = in_extent line z Z (in_extent line y Y (in_extent line x X s))
-
-abbrev pub in_half : Line → Half → Stretch → Stretch
-in_half line AllPoints s = s
-in_half line (Below cut) s = in_extent line (record { low = Open; high = At cut.at }) cut.axis s
-in_half line (Above cut) s = in_extent line (record { low = At cut.at; high = Open }) cut.axis s
 
 -- a stretch has places in a box
 abbrev pub is_crossed : Line → Stretch → Box3 → Bool

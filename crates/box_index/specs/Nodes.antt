@@ -1,19 +1,18 @@
--- What stands in a tree of cuts.
-use Rattle.std.specs.Prelude.{◌≡◌, ◌≤◌, ℕ, List, [], ◌∷◌, ◌++◌, length, take, filter, Bool, ◌&&◌, not, IsTrue, All, slice_index_or}
+-- What stands in a tree of rooms.
+use Rattle.std.specs.Prelude.{◌≡◌, ◌≤◌, ℕ, List, [], ◌∷◌, ◌++◌, length, take, filter, Bool, ◌&&◌, not, All, slice_index_or}
 use Rattle.std.specs.List.Sorted.{IsPermutation}
 use Rattle.lattice_core.specs.declared.boxes.Box3.{Box3}
 use Rattle.lattice_core.specs.declared.boxes.Box3.TheVariants.{Empty}
 use Rattle.box_index.specs.declared.cut.Cut.{Cut}
 use Rattle.box_index.specs.declared.part.Part.{Part}
 use Rattle.box_index.specs.declared.part.Part.TheVariants.{Here, Low, High}
-use Rattle.box_index.specs.declared.cut.Half.{Half}
 use Rattle.box_index.specs.declared.node.Node.{Node}
 use Rattle.box_index.specs.Places.{places_where}
 use Rattle.box_index.specs.Reaches.{has_points, do_touch}
 use Rattle.box_index.specs.declared.line.Line.{Line}
-use Rattle.box_index.specs.declared.line.Stretch.{Stretch}
-use Rattle.box_index.specs.Lines.{is_crossed}
-use Rattle.box_index.specs.Cuts.{is_below, is_above, is_inside}
+use Rattle.box_index.specs.Lines.{is_crossed, whole_line}
+use Rattle.box_index.specs.Cuts.{is_below, is_above}
+use Rattle.box_index.specs.Rooms.{Holds}
 
 -- the box at a place, or the empty one
 abbrev pub box_at : List Box3 → ℕ → Box3
@@ -23,9 +22,9 @@ box_at boxes i = slice_index_or boxes i Empty
 abbrev pub is_touched : List Box3 → Box3 → ℕ → Bool
 is_touched boxes window i = do_touch (box_at boxes i) window
 
--- whether a stretch of a line has places in the box at a place
-abbrev pub is_crossed_at : List Box3 → Line → Stretch → ℕ → Bool
-is_crossed_at boxes line stretch i = is_crossed line stretch (box_at boxes i)
+-- whether a line crosses the box at a place
+abbrev pub is_crossed_at : List Box3 → Line → ℕ → Bool
+is_crossed_at boxes line i = is_crossed line whole_line (box_at boxes i)
 
 -- whether a box lies so by a cut
 abbrev pub lies : Box3 → Cut → Part → Bool
@@ -41,39 +40,41 @@ abbrev pub content : List Node → List ℕ
 content [] = []
 content (node ∷ nodes) = node.here.items ++ content nodes
 
--- the boxes at the places lie in a half of space
-abbrev pub AreInside : List Box3 → Half → List ℕ → Type 0
-AreInside boxes half places = All (λ i. IsTrue (is_inside (box_at boxes i) half)) places
+-- the room of the boxes at all nodes of a tree
+abbrev pub root_room : List Node → Box3
+root_room [] = Empty
+root_room (node ∷ nodes) = node.room
 
--- the nodes below each node are there, and the boxes at it and below it lie in its half of space
+-- a room holds the boxes at the places
+abbrev pub AreHeld : List Box3 → Box3 → List ℕ → Type 0
+AreHeld boxes room places = All (λ i. Holds room (box_at boxes i)) places
+
+-- the nodes below each node are there, and its room holds the boxes at it and below it
 abbrev pub AreSound : List Box3 → List Node → Type 0
 AreSound boxes [] = Unit {0}
-AreSound boxes (node ∷ nodes) = (node.below ≤ length nodes) × AreInside boxes node.half (node.here.items ++ content (take node.below nodes)) × AreSound boxes nodes
-
--- the boxes at each node and at those of the nodes below it that are there lie in its half of space
-abbrev pub AreHeld : List Box3 → List Node → Type 0
-AreHeld boxes [] = Unit {0}
-AreHeld boxes (node ∷ nodes) = AreInside boxes node.half (node.here.items ++ content (take node.below nodes)) × AreHeld boxes nodes
+AreSound boxes (node ∷ nodes) = (node.below ≤ length nodes) × AreHeld boxes node.room (node.here.items ++ content (take node.below nodes)) × AreSound boxes nodes
 
 -- a node with those below it
-pub record IsForked (half : Half) (here : List ℕ) (below nodes : List Node) : Type 0 where
+pub record IsForked (room : Box3) (here : List ℕ) (below nodes : List Node) : Type 0 where
   pub root : Node
   pub is : nodes ≡ root ∷ below
-  pub in_half : root.half ≡ half
+  pub in_room : root.room ≡ room
   pub places : root.here.items ≡ here
   pub count : root.below ≡ length below
 
--- nodes have the places, each as often as it is given
+-- nodes have the places, each as often as it is given, and the first one's room holds the boxes at all of them
 pub record AreNodesOf (boxes : List Box3) (places : List ℕ) (nodes : List Node) : Type 0 where
   pub sound : AreSound boxes nodes
   pub has_all : IsPermutation places (content nodes)
+  pub held : AreHeld boxes (root_room nodes) (content nodes)
 
 -- nodes have the places of the boxes with points
 abbrev pub IsIndexOf : List Box3 → List Node → Type 0
 IsIndexOf boxes nodes = AreNodesOf boxes (places_where has_points boxes) nodes
 
--- a node was asked: what was found with what the nodes that are left have is what was found before with what all had
-pub record IsLeft (boxes : List Box3) (window : Box3) (node : Node) (behind rest : List Node) (old new : List ℕ) : Type 0 where
+-- a node was asked for the boxes that pass a test: what was found with what the nodes that are left have is what was found before
+-- with what all had
+pub record IsLeft (boxes : List Box3) (test : ℕ → Bool) (node : Node) (behind rest : List Node) (old new : List ℕ) : Type 0 where
   pub sound : AreSound boxes rest
   pub fewer : length rest ≤ length behind
-  pub found : new ++ filter (is_touched boxes window) (content rest) ≡ old ++ filter (is_touched boxes window) (content (node ∷ behind))
+  pub found : new ++ filter test (content rest) ≡ old ++ filter test (content (node ∷ behind))

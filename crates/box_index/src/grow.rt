@@ -1,25 +1,30 @@
-//! The tree of cuts of some boxes.
+//! The tree of rooms of some boxes.
 
-ghost use Rattle.std.specs.Prelude.{◌≡◌, ◌<◌, ◌^◌, ◌++◌, length, IfOk, IfSome};
-ghost use Rattle.box_index.specs.Nodes.{IsForked, AreInside, AreNodesOf};
+ghost use Rattle.std.specs.Prelude.{◌≡◌, ◌<◌, ◌^◌, ◌++◌, [], length, IfOk, IfSome};
+ghost use Rattle.box_index.specs.Nodes.{root_room, IsForked, AreNodesOf};
 ghost use Rattle.box_index.specs.Places.{places_where};
 ghost use Rattle.box_index.specs.Reaches.{has_points};
+ghost use Rattle.box_index.specs.Rooms.{around};
 
-use crate::cut::{Cut, Half};
-use crate::node::Node;
+use crate::cut::Cut;
+use crate::node::{Node, root_room};
 use crate::part::{Parts, divided};
 use crate::reach::has_points;
+use crate::room::{all_points, around, room_of};
 use crate::spread::cut_for;
 use lattice_core::Box3;
 use memory_core::Memory;
 use std::alloc::Global;
 
-/// The greatest number of places at a node without a cut, where a cut can be had. The scene of a tile mostly has fewer regions,
-/// and its index is made for each tile.
-const MOST_HERE: usize = 32;
+/// The greatest number of places that are not cut at all. The scene of a tile mostly has fewer regions, and its index is made for
+/// each tile.
+const MOST_UNCUT: usize = 32;
+
+/// The greatest number of places at a leaf, where a cut can be had.
+const MOST_HERE: usize = 8;
 
 /// The greatest number of cuts from the root of a tree to a leaf.
-pub(crate) const MOST_CUTS: u32 = 16;
+const MOST_CUTS: u32 = 16;
 
 /// The nodes of one list, and behind them those of another.
 fn joined(mut nodes: Vec<Node>, more: Vec<Node>) -> Result<Vec<Node>, Memory>
@@ -32,16 +37,42 @@ fn joined(mut nodes: Vec<Node>, more: Vec<Node>) -> Result<Vec<Node>, Memory>
 }
 
 /// A node with those below it.
-fn forked(alloc: Global, half: Half, here: Vec<u32>, below: Vec<Node>) -> Result<Vec<Node>, Memory>
-    ensures { IfOk result (λ v. IsForked half here.items below.items v.items) }
+fn forked(alloc: Global, room: Box3, here: Vec<u32>, below: Vec<Node>) -> Result<Vec<Node>, Memory>
+    ensures { IfOk result (λ v. IsForked room here.items below.items v.items) }
 {
     let mut nodes = Vec::new(alloc);
     nodes.push(Node {
-        half,
+        room,
         here,
         below: below.len(),
     })?;
     joined(nodes, below)
+}
+
+/// A node without any below it.
+fn leaf(alloc: Global, room: Box3, places: Vec<u32>) -> Result<Vec<Node>, Memory>
+    ensures { IfOk result (λ v. IsForked room places.items [] v.items) }
+{
+    forked(alloc, room, places, Vec::new(alloc))
+}
+
+/// A node over three trees, without places of its own.
+fn fork(
+    alloc: Global,
+    middle: Vec<Node>,
+    low: Vec<Node>,
+    high: Vec<Node>,
+) -> Result<Vec<Node>, Memory>
+    ensures { IfOk result (λ v. IsForked (around (root_room middle.items) (around (root_room low.items) (root_room high.items))) [] (middle.items ++ (low.items ++ high.items)) v.items) }
+{
+    let sides = around(&root_room(&low), &root_room(&high));
+    let room = around(&root_room(&middle), &sides);
+    forked(
+        alloc,
+        room,
+        Vec::new(alloc),
+        joined(middle, joined(low, high)?)?,
+    )
 }
 
 /// The cut for the boxes at some places, where one is wanted.
@@ -54,27 +85,34 @@ fn wanted_cut(boxes: &[Box3], places: &[u32], cuts: u32) -> Option<Cut>
     cut_for(boxes, places)
 }
 
-/// The tree of the boxes at some places, which lie in a half of space, with so many cuts at most from its root to a leaf.
-pub(crate) fn grow(
-    alloc: Global,
-    boxes: &[Box3],
-    half: Half,
-    places: Vec<u32>,
-    cuts: u32,
-) -> Result<Vec<Node>, Memory>
-    requires inside { AreInside boxes.now half places.items }
+/// The tree of the boxes at some places, with so many cuts at most from its root to a leaf.
+fn grow(alloc: Global, boxes: &[Box3], places: Vec<u32>, cuts: u32) -> Result<Vec<Node>, Memory>
     ensures { IfOk result (λ nodes. AreNodesOf boxes.now places.items nodes.items) }
 {
+    if places.is_empty() {
+        return Ok(Vec::new(alloc));
+    }
     let Some(cut) = wanted_cut(boxes, &places, cuts) else {
-        return forked(alloc, half, places, Vec::new(alloc));
+        return leaf(alloc, room_of(boxes, &places), places);
     };
     let Parts { here, low, high } = divided(alloc, boxes, &places, cut)?;
     if here.len() == places.len() {
-        return forked(alloc, half, places, Vec::new(alloc));
+        return leaf(alloc, room_of(boxes, &places), places);
     }
-    let low = grow(alloc, boxes, Half::Below(cut), low, cuts - 1)?;
-    let high = grow(alloc, boxes, Half::Above(cut), high, cuts - 1)?;
-    forked(alloc, half, here, joined(low, high)?)
+    let middle = grow(alloc, boxes, here, cuts - 1)?;
+    let low = grow(alloc, boxes, low, cuts - 1)?;
+    let high = grow(alloc, boxes, high, cuts - 1)?;
+    fork(alloc, middle, low, high)
+}
+
+/// The tree of the boxes at some places.
+pub(crate) fn tree_of(alloc: Global, boxes: &[Box3], places: Vec<u32>) -> Result<Vec<Node>, Memory>
+    ensures { IfOk result (λ nodes. AreNodesOf boxes.now places.items nodes.items) }
+{
+    if places.len() <= MOST_UNCUT {
+        return leaf(alloc, all_points(), places);
+    }
+    grow(alloc, boxes, places, MOST_CUTS)
 }
 
 /// The places of the boxes that have points.

@@ -1,4 +1,4 @@
-//! Boxes in a list, and the tree of their cuts.
+//! Boxes in a list, and the tree of their rooms.
 
 ghost use Rattle.std.specs.Prelude.{◌≡◌, ◌<◌, ◌^◌, ◌&&◌, IsTrue, IfOk};
 ghost use Rattle.std.specs.Vec.{vec_len};
@@ -12,8 +12,7 @@ ghost use Rattle.box_index.specs.Lines.{MeetsSlant};
 ghost use Rattle.box_index.specs.Reaches.{has_points, do_touch};
 ghost use Rattle.box_index.specs.Places.{ArePlacesOf};
 
-use crate::cut::Half;
-use crate::grow::{MOST_CUTS, filled_places, grow};
+use crate::grow::{filled_places, tree_of};
 use crate::line::Line;
 use crate::node::{Node, add_reached};
 use crate::slant::find_crossed;
@@ -23,7 +22,7 @@ use slant_ray::SlantRay;
 use std::alloc::Global;
 use std::marker::Model;
 
-/// Boxes in a list, and cuts of space that tell which of them lie where. Contracts see it as the list of its boxes.
+/// Boxes in a list, and rooms that tell which of them lie where. Contracts see it as the list of its boxes.
 #[derive(Debug, Drop)]
 pub struct BoxIndex {
     boxes: Vec<Box3>,
@@ -49,7 +48,7 @@ impl BoxIndex {
         ensures { IfOk result (λ index. index ≡ boxes.items) }
     {
         let places = filled_places(alloc, &boxes)?;
-        let nodes = grow(alloc, &boxes, Half::AllPoints, places, MOST_CUTS)?;
+        let nodes = tree_of(alloc, &boxes, places)?;
         Ok(BoxIndex { boxes, nodes })
     }
 

@@ -1,4 +1,4 @@
-//! Boxes in a list, and cuts of space that tell which of them a ray or a tile meets without asking each.
+//! Boxes in a list, and a tree of rooms that tells which of them a ray or a tile meets without asking each.
 #![tactic(auto)]
 
 mod cut;
@@ -8,6 +8,7 @@ mod line;
 mod node;
 mod part;
 mod reach;
+mod room;
 mod slant;
 mod spread;
 

@@ -1,12 +1,13 @@
-//! Rays in lattice directions, and which part of one lies in a box or in a half of space.
+//! Rays in lattice directions, and which boxes one crosses.
 
 ghost use Rattle.std.specs.Prelude.{◌≡◌, ◌-ℤ◌, ◌*ℤ◌};
 ghost use Rattle.lattice_core.specs.Limits.{IsAtMost};
 ghost use Rattle.slant_ray.specs.declared.ray.TheConstants.{STEP};
 ghost use Rattle.slant_ray.specs.Rays.{IsSlantRay, direction_of};
-ghost use Rattle.box_index.specs.Lines.{pace_of, line_of, whole_line, empty_stretch, has_some, holds, begun, ended, through, clipped, in_extent, in_box, in_half};
+ghost use Rattle.box_index.specs.Lines.{pace_of, line_of, whole_line, empty_stretch, has_some, holds, begun, ended, through, clipped, in_extent, is_crossed};
+ghost use Rattle.box_index.specs.declared.cut.Axis.TheVariants.{Y, Z};
 
-use crate::cut::{Axis, Half, is_side_above, is_side_below};
+use crate::cut::{Axis, is_side_above, is_side_below};
 use lattice_core::{Box3, Extent, FAR, Side, V3};
 use slant_ray::SlantRay;
 use std::cmp::Ordering;
@@ -153,40 +154,24 @@ impl Line {
         }
     }
 
-    /// The part of a stretch that lies in a box.
-    pub(crate) fn in_box(&self, b: &Box3, stretch: Stretch) -> Stretch
-        ensures { result ≡ in_box self.now b.now stretch }
+    /// Whether the line has places in a box.
+    pub(crate) fn crosses(&self, b: &Box3) -> bool
+        ensures { result ≡ is_crossed self.now whole_line b.now }
     {
-        match *b {
-            Box3::Empty => Stretch::empty(),
+        match b {
+            Box3::Empty => false,
             Box3::Span { x, y, z } => {
-                let in_x = self.in_extent(x, Axis::X, stretch);
-                let in_xy = self.in_extent(y, Axis::Y, in_x);
-                self.in_extent(z, Axis::Z, in_xy)
+                let in_x = self.in_extent(*x, Axis::X, Stretch::whole());
+                in_x.has_some() && self.crosses_in(*y, *z, in_x)
             }
         }
     }
 
-    /// The part of a stretch that lies in a half of space or on its cut.
-    pub(crate) fn in_half(&self, half: Half, stretch: Stretch) -> Stretch
-        ensures { result ≡ in_half self.now half stretch }
+    /// Whether a stretch has places in an extent across the second axis and one across the third.
+    fn crosses_in(&self, y: Extent, z: Extent, stretch: Stretch) -> bool
+        ensures { result ≡ has_some (in_extent self.now z Z (in_extent self.now y Y stretch)) }
     {
-        match half {
-            Half::AllPoints => stretch,
-            Half::Below(cut) => {
-                let extent = Extent {
-                    low: Side::Open,
-                    high: Side::At(cut.at),
-                };
-                self.in_extent(extent, cut.axis, stretch)
-            }
-            Half::Above(cut) => {
-                let extent = Extent {
-                    low: Side::At(cut.at),
-                    high: Side::Open,
-                };
-                self.in_extent(extent, cut.axis, stretch)
-            }
-        }
+        let in_y = self.in_extent(y, Axis::Y, stretch);
+        in_y.has_some() && self.in_extent(z, Axis::Z, in_y).has_some()
     }
 }

@@ -1,20 +1,29 @@
-//! A tree of cuts as a list of nodes, with the places of boxes at them.
+//! A tree of rooms as a list of nodes, with the places of boxes at them.
 
 ghost use Rattle.std.specs.Prelude.{◌≡◌, ◌++◌, ◌∷◌, IfOk, filter};
-ghost use Rattle.box_index.specs.Nodes.{content, is_touched, AreSound, IsLeft};
+ghost use Rattle.box_index.specs.Nodes.{content, is_touched, root_room, AreSound, IsLeft};
 
-use crate::cut::{Half, does_reach};
 use crate::reach::do_touch;
 use lattice_core::Box3;
 use memory_core::Memory;
 
-/// Places of boxes in a half of space. The nodes below it are the first of those that stand behind it in the list, and have
-/// places of boxes in the same half.
+/// Places of boxes in a room. The nodes below it are the first of those that stand behind it in the list, and have places of boxes
+/// in the same room.
 #[derive(Debug, Drop)]
 pub(crate) struct Node {
-    pub half: Half,
+    pub room: Box3,
     pub here: Vec<u32>,
     pub below: usize,
+}
+
+/// The room of the boxes at all nodes of a tree.
+pub(crate) fn root_room(nodes: &[Node]) -> Box3
+    ensures { result ≡ root_room nodes.now }
+{
+    match nodes.first() {
+        Some(node) => node.room,
+        None => Box3::Empty,
+    }
 }
 
 /// Whether the box at a place and another box, both with points, share one.
@@ -44,7 +53,7 @@ fn add_touched(
 }
 
 /// Adds the places at a node of the boxes that share a point with a window, and gives the nodes that are still to be asked: those
-/// below a node are passed over with it where the window has no points in its half of space.
+/// below a node are passed over with it where the window shares no point with its room.
 fn visit<'a>(
     node: &Node,
     behind: &'a [Node],
@@ -53,9 +62,9 @@ fn visit<'a>(
     out: &mut Vec<u32>,
 ) -> Result<&'a [Node], Memory>
     requires sound { AreSound boxes.now (node.now ∷ behind.now) }
-    ensures { IfOk result (λ rest. IsLeft boxes.now window.now node.now behind.now rest.now out.old.items out.new.items) }
+    ensures { IfOk result (λ rest. IsLeft boxes.now (is_touched boxes.now window.now) node.now behind.now rest.now out.old.items out.new.items) }
 {
-    if !does_reach(window, node.half) {
+    if !do_touch(&node.room, window) {
         return Ok(&behind[node.below..]);
     }
     add_touched(&node.here, boxes, window, out)?;

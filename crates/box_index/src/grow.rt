@@ -27,12 +27,10 @@ const MOST_HERE: usize = 8;
 const MOST_CUTS: u32 = 16;
 
 /// The nodes of one list, and behind them those of another.
-fn joined(mut nodes: Vec<Node>, more: Vec<Node>) -> Result<Vec<Node>, Memory>
+fn joined(mut nodes: Vec<Node>, mut more: Vec<Node>) -> Result<Vec<Node>, Memory>
     ensures { IfOk result (λ v. v.items ≡ nodes.items ++ more.items) }
 {
-    for node in more {
-        nodes.push(node)?;
-    }
+    nodes.append(&mut more)?;
     Ok(nodes)
 }
 

@@ -2,7 +2,7 @@
  * BROKEN_HOW says, and how many calls there were is kept in the first eight bytes of the file of BROKEN_COUNT.
  *
  *     kill    the program ends before the call
- *     part    the program ends behind it; of a write half of the bytes are written
+ *     part    the program ends after it; of a write half of the bytes are written
  *     fail    the call does nothing and answers EIO
  *
  * Calls on standard input, output and error are not counted. dev/puts compiles it. */
@@ -58,7 +58,7 @@ static void __attribute__((constructor)) begin(void) {
     ready = 1;
 }
 
-/* What comes at this call: 0 nothing, 'p' an end behind it, 'f' a failure. */
+/* What comes at this call: 0 nothing, 'p' an end after it, 'f' a failure. */
 static char turn(void) {
     if (!ready || atomic_fetch_add(count, 1) + 1 != at)
         return 0;

@@ -61,7 +61,7 @@ def call(rng, kind=None):
 
 
 def with_workers(rng, words):
-    """The words, in most calls with a number of workers before them or behind them. Nothing that comes depends on it."""
+    """The words, in most calls with a number of workers before them or after them. Nothing that comes depends on it."""
     number = rng.choice(WORKERS)
     asked = rng.choice(([], ["--workers", number], [f"--workers={number}"]))
     return asked + words if rng.random() < 0.5 else words + asked

@@ -40,7 +40,7 @@ def text_of(order):
 
 
 def good_text(number, script):
-    """The text of an order, with a line feed or without, and with something behind that."""
+    """The text of an order, with a line feed or without, and with something after that."""
     rng = random.Random(number)
     return text_of(merge_of(number, script)) + rng.choice((b"", b"\n", b"\n", b"\n1.1 ok v1 0\n", b"\norder 1 1\n", b"\n" + bytes(200_000), b"\n\xff\r"))
 

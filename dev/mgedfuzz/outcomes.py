@@ -16,7 +16,7 @@ from .reducing import smaller_call
 SECONDS = 120  # that the program may take for one call
 TRIES = 10  # how often a smaller call is run to see whether it still differs, where its sessions race
 
-# What one run is given, and what is told of it.
+# What one run is given, and what is reported of it.
 Given = namedtuple("Given", "words files script told")
 # A run, what is wanted of it, and what came.
 Difference = namedtuple("Difference", "given wanted came")

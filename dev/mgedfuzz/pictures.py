@@ -27,7 +27,7 @@ BLACK = ("-z 0 0 0 1 1168 896", "-z 0 0 0 1 2048 512", "-z 0 0 0 1 2048 528")  #
 
 
 def pictures(maker):
-    """Solids and regions, and then pictures, edits and other commands by turns."""
+    """Solids and regions, and then pictures, edits and other commands alternately."""
     rng = maker.rng
     lines = [f"in {name} {rng.choice(SOLIDS)}" for name in NAMES if rng.random() < 0.95]
     lines += [made(rng, name) for name in COMBS if rng.random() < 0.95]

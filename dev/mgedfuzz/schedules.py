@@ -18,13 +18,13 @@ from .scripts import script_of_eight
 
 MODEL = "m"  # the file that is loaded
 MOST_WORKERS = 16
-PROCESSORS = (1, 2, 4)  # on so many a run is held, by turns
+PROCESSORS = (1, 2, 4)  # on so many a run is held, in rotation
 SLOWER = 60  # times the usual time, after which a run is a hang
 LEAST_SECONDS = 10  # that a run may take in any case
 MOST_SECONDS = 600  # that a run may take while its usual time is measured
 BUSY = "import os, sys\nwhile os.getppid() == int(sys.argv[1]):\n    for _ in range(1_000_000):\n        pass"
 
-# What is told of a script: its kind, the number of its commands, of its runs, of the orders that came and of hangs, the usual
+# What is reported of a script: its kind, the number of its commands, of its runs, of the orders that came and of hangs, the usual
 # seconds of a run and the most that one took.
 Told = namedtuple("Told", "kind commands runs orders hangs usual longest")
 

@@ -18,6 +18,7 @@ texts       objects, kept attributes and titles as words
 models      a whole model, read of a text
 lines       which command a line is, or why it is none
 script      the commands of a script, their run in an order of the sessions, its transcript and its status
+demos       the demo of a number: its model and its script
 calls       a whole call of the program: its words, the model that is loaded, the script, and its order
 rows        rows of models and of words, with what is wanted of each
 cases       cases of scripts, with what is wanted of each

@@ -151,7 +151,7 @@ class Directory:
 
 
 def mark_of(thing):
-    """What stands behind the name of an object, or of a name that has none."""
+    """What stands after the name of an object, or of a name that has none."""
     if thing is None:
         return "?"
     return ("/R" if thing.is_region else "/") if isinstance(thing, Comb) else ""

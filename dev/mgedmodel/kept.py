@@ -9,7 +9,7 @@ MOST_KEPT = 4_096
 MOST_SIZE = 128  # of the regions of a tile that is kept, together
 
 TileName = namedtuple("TileName", "view number bodies")
-# What a region is, wherever it stands. The tree has its nodes behind what they join, as a list.
+# What a region is, wherever it stands. The tree has its nodes after what they join, as a list.
 Body = namedtuple("Body", "id air colour tree solids")
 
 

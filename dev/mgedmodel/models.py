@@ -13,7 +13,7 @@ END = re.compile(rb"[{}\n]")
 
 
 def read_model(text):
-    """The directory of a text. A fault is told as `line L KIND`."""
+    """The directory of a text. A fault is reported as `line L KIND`."""
     directory = Directory()
     for line, command in commands_of(text):
         try:

@@ -37,7 +37,7 @@ def asked_of(words):
     return " ".join(told if asked.load or asked.demo is not None else ["nothing", *told]).encode()
 
 
-# What is answered of that which stands behind the first word of a row.
+# What is answered of that which stands after the first word of a row.
 KINDS = {
     b"load": lambda given: answer_of(unescaped(given)),
     b"options": lambda given: asked_of([unescaped(word) for word in given.split()]),

@@ -55,7 +55,7 @@ def commands_of(script):
 
 
 def session_of(place, line):
-    """The session of a line, and what is behind it."""
+    """The session of a line, and what is after it."""
     if place > MOST_LINES:
         raise Fault(f"line {place} lines")
     if len(line) > MOST_OF_A_LINE:
@@ -88,7 +88,7 @@ def in_order(commands, order):
 
 
 def marks_in(text):
-    """The commands that a transcript answers for want of memory, each as its session and number."""
+    """The commands that a transcript answers with out of memory, each as its session and number."""
     lines, marks = iter(text.decode("latin-1").split("\n")[1:-1]), set()
     for line in lines:
         label, outcome, _, rest = line.split(" ", 3)
@@ -130,7 +130,7 @@ def run(commands, directory=None, marks=frozenset()):
 
 
 def find_no_memory(session, line):
-    """Refuses a command for want of memory. One that shoots at a view empties the list of kept tiles."""
+    """Refuses a command as out of memory. One that shoots at a view empties the list of kept tiles."""
     try:
         if read_line(line).shoots:
             session.kept.let_go()

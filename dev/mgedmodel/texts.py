@@ -1,7 +1,7 @@
 """Objects, kept attributes and titles as words: `put`, `attr set` and `title`, as docs/TEXT_FORM.md has them.
 
 What is refused begins with the kind of its fault, and the kinds are looked for in their order: `type`, `attr`, `tree`,
-`name W`, `number W`, `shape ..`. `name group` is told of an object's name that is a group of other than one atom.
+`name W`, `number W`, `shape ..`. `name group` is reported of an object's name that is a group of other than one atom.
 """
 
 from . import attributes

@@ -16,7 +16,7 @@ NAME = re.compile(rb"[A-Za-z0-9_][A-Za-z0-9_.-]{0,63}")
 
 
 class Word:
-    """An atom, or a group with its words: the place of its first byte in the line, and the place behind its last one."""
+    """An atom, or a group with its words: the place of its first byte in the line, and the place after its last one."""
 
     def __init__(self, line, start, end=None, words=None):
         self.line, self.start, self.end, self.words = line, start, end, words
@@ -95,7 +95,7 @@ def number(text, least, most):
 
 def length(text, least, most):
     """The length that a text is, in tenths of a millimetre, or None where it is none or not in its range. A length is a whole
-    number, or has one digit behind the point and then zeros."""
+    number, or has one digit after the point and then zeros."""
     form = LENGTH.fullmatch(text)
     if not form:
         return None

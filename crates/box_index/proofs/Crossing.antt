@@ -27,7 +27,7 @@ use Rattle.box_index.specs.declared.line.Stretch.{Stretch}
 use Rattle.box_index.specs.Cuts.{is_side_below, is_side_above}
 use Rattle.box_index.specs.Lines.{slant_point, MeetsSlant, pace_of, line_of, whole_line, empty_stretch, has_some, holds, begun, ended, through, clipped_by, in_extent, in_box, is_crossed, IsPace, IsLine}
 use Rattle.box_index.specs.Reaches.{has_points}
-use Rattle.box_index.proofs.Rooms.{fails_too}
+use Rattle.box_index.proofs.Bounding.{fails_too}
 use Rattle.box_index.proofs.Touching.{not_over, points_tell}
 
 -- the place after p / q steps is one of a stretch
@@ -266,13 +266,13 @@ crossed_tells line is s b = (
   λ m. some_from (in_box line b s) m.p m.q m.some ((box_keeps line is b s m.p m.q m.some).1 (m.on, m.inside)),
 )
 
--- a line that crosses no point of a room crosses no box whose points are the room's
-pub missed_within : (line : Line) → IsLine line → (room b : Box3) → ((v : V3) (q : ℤ) → pos 0 <ℤ q → HasPoint b v q → HasPoint room v q) → is_crossed line whole_line room ≡ false → is_crossed line whole_line b ≡ false
-missed_within line is room b within none =
-    fails_too (is_crossed line whole_line room) (is_crossed line whole_line b)
+-- a line that crosses no point of some bounds crosses no box whose points are theirs
+pub missed_within : (line : Line) → IsLine line → (bounds b : Box3) → ((v : V3) (q : ℤ) → pos 0 <ℤ q → HasPoint b v q → HasPoint bounds v q) → is_crossed line whole_line bounds ≡ false → is_crossed line whole_line b ≡ false
+missed_within line is bounds b within none =
+    fails_too (is_crossed line whole_line bounds) (is_crossed line whole_line b)
     (λ h.
     let m = (crossed_tells line is whole_line b).0 h in
-    (crossed_tells line is whole_line room).1 (record { p = m.p; q = m.q; some = m.some; on = m.on; inside = within (point_of line is m.p m.q) m.q m.some m.inside }))
+    (crossed_tells line is whole_line bounds).1 (record { p = m.p; q = m.q; some = m.some; on = m.on; inside = within (point_of line is m.p m.q) m.q m.some m.inside }))
     none
 
 -- ---- a stretch without places has none in any extent

@@ -2,7 +2,7 @@ pub mod Members
 pub mod Placing
 mod Listing
 mod Touching
-mod Rooms
+mod Bounding
 mod Widths
 mod Crossing
 mod Trees

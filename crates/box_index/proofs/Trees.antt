@@ -12,10 +12,10 @@ use Rattle.lattice_core.specs.declared.boxes.Box3.TheVariants.{Empty}
 use Rattle.box_index.specs.declared.line.Line.{Line}
 use Rattle.box_index.specs.Cuts.{is_below, is_above}
 use Rattle.box_index.specs.Lines.{is_crossed, whole_line, IsLine}
-use Rattle.box_index.specs.Rooms.{Holds, around}
-use Rattle.box_index.specs.Nodes.{box_at, is_crossed_at, has_part, content, root_room, AreHeld, AreSound, IsForked, AreNodesOf, IsLeft}
+use Rattle.box_index.specs.Bounds.{Holds, around}
+use Rattle.box_index.specs.Nodes.{box_at, is_crossed_at, has_part, content, root_bounds, AreHeld, AreSound, IsForked, AreNodesOf, IsLeft}
 use Rattle.box_index.proofs.Members.{none_pass}
-use Rattle.box_index.proofs.Rooms.{around_left, around_right, held_in, point_held}
+use Rattle.box_index.proofs.Bounding.{around_left, around_right, held_in, point_held}
 use Rattle.box_index.proofs.Crossing.{missed_within}
 
 -- ---- nodes behind one another
@@ -26,7 +26,7 @@ content_append (x ∷ xs) ys = ap (λ (l : List ℕ). x.here.items ++ l) (conten
 sound_append : (boxes : List Box3) (xs ys : List Node) → AreSound boxes xs → AreSound boxes ys → AreSound boxes (xs ++ ys)
 sound_append boxes [] ys h k = k
 sound_append boxes (x ∷ xs) ys h k =
-    (omega (arith, h.0, length-append xs ys), subst (λ (l : List Node). AreHeld boxes x.room (x.here.items ++ content l)) (sym (take-append-le x.below xs ys h.0)) h.1, sound_append boxes xs ys h.2 k)
+    (omega (arith, h.0, length-append xs ys), subst (λ (l : List Node). AreHeld boxes x.bounds (x.here.items ++ content l)) (sym (take-append-le x.below xs ys h.0)) h.1, sound_append boxes xs ys h.2 k)
 
 sound_drop : (boxes : List Box3) (n : ℕ) (xs : List Node) → AreSound boxes xs → AreSound boxes (drop n xs)
 sound_drop boxes zero xs h = h
@@ -61,11 +61,11 @@ module _ (boxes : List Box3) (t : ℕ → Bool) (node : Node) (behind : List Nod
             ∙ ap (λ (l : List ℕ). old ++ filter t (here ++ l)) (sym all);
       }
 
--- a line that doesn't cross a room crosses none of the boxes that it holds
-pub none_crossed : (boxes : List Box3) (line : Line) → IsLine line → (room : Box3) (places : List ℕ) → AreHeld boxes room places → is_crossed line whole_line room ≡ false → filter (is_crossed_at boxes line) places ≡ []
-none_crossed boxes line is room places held none =
+-- a line that doesn't cross bounds crosses none of the boxes that they hold
+pub none_crossed : (boxes : List Box3) (line : Line) → IsLine line → (bounds : Box3) (places : List ℕ) → AreHeld boxes bounds places → is_crossed line whole_line bounds ≡ false → filter (is_crossed_at boxes line) places ≡ []
+none_crossed boxes line is bounds places held none =
     none_pass (is_crossed_at boxes line) places
-    (All-weaker (λ i. Holds room (box_at boxes i)) (λ i. is_crossed_at boxes line i ≡ false) (λ i h. missed_within line is room (box_at boxes i) (point_held room (box_at boxes i) h) none) places held)
+    (All-weaker (λ i. Holds bounds (box_at boxes i)) (λ i. is_crossed_at boxes line i ≡ false) (λ i h. missed_within line is bounds (box_at boxes i) (point_held bounds (box_at boxes i) h) none) places held)
 
 -- ---- what is made of places
 parted : (boxes : List Box3) (cut : Cut) (places : List ℕ) → IsPermutation places (filter (has_part boxes cut Here) places ++ (filter (has_part boxes cut Low) places ++ filter (has_part boxes cut High) places))
@@ -86,39 +86,39 @@ parted boxes cut (x ∷ xs) =
       | false ↦ elim (is_above (box_at boxes x) cut) as (λ (a : Bool). P false a) [ true ↦ high | false ↦ rest ]
     ]
 
--- a node with the places at it and below it, in a room that holds their boxes
-rooted : (boxes : List Box3) (room : Box3) (places here : List ℕ) (below nodes : List Node) → AreHeld boxes room (here ++ content below) → AreSound boxes below → IsForked room here below nodes → IsPermutation places (here ++ content below)
+-- a node with the places at it and below it, in bounds that hold their boxes
+rooted : (boxes : List Box3) (bounds : Box3) (places here : List ℕ) (below nodes : List Node) → AreHeld boxes bounds (here ++ content below) → AreSound boxes below → IsForked bounds here below nodes → IsPermutation places (here ++ content below)
     → AreNodesOf boxes places nodes
-rooted boxes room places here below nodes held sound forked moved =
+rooted boxes bounds places here below nodes held sound forked moved =
     let root = forked.root in
     let given : IsPermutation places (root.here.items ++ content below) = subst (λ (l : List ℕ). IsPermutation places (l ++ content below)) (sym forked.places) moved in
     let whole : take root.below below ≡ below = take_all root.below below (omega (arith, forked.count)) in
-    let all : AreHeld boxes root.room (root.here.items ++ content below) =
-    subst (λ (r : Box3). AreHeld boxes r (root.here.items ++ content below)) (sym forked.in_room) (subst (λ (l : List ℕ). AreHeld boxes room (l ++ content below)) (sym forked.places) held) in
+    let all : AreHeld boxes root.bounds (root.here.items ++ content below) =
+    subst (λ (r : Box3). AreHeld boxes r (root.here.items ++ content below)) (sym forked.in_bounds) (subst (λ (l : List ℕ). AreHeld boxes bounds (l ++ content below)) (sym forked.places) held) in
     subst (AreNodesOf boxes places) (sym forked.is)
-    (record { sound = (omega (arith, forked.count), subst (λ (l : List Node). AreHeld boxes root.room (root.here.items ++ content l)) (sym whole) all, sound); has_all = given; held = all })
+    (record { sound = (omega (arith, forked.count), subst (λ (l : List Node). AreHeld boxes root.bounds (root.here.items ++ content l)) (sym whole) all, sound); has_all = given; held = all })
 
 pub none_made : (boxes : List Box3) (places : List ℕ) (nodes : List Node) → places ≡ [] → nodes ≡ [] → AreNodesOf boxes places nodes
 none_made boxes places nodes is e =
     subst (λ (l : List ℕ). AreNodesOf boxes l nodes) (sym is) (subst (AreNodesOf boxes []) (sym e) (record { sound = tt; has_all = IsPermutation-refl []; held = All-nil (λ i. Holds Empty (box_at boxes i)) }))
 
-pub leaf_made : (boxes : List Box3) (room : Box3) (places : List ℕ) (nodes : List Node) → AreHeld boxes room places → IsForked room places [] nodes → AreNodesOf boxes places nodes
-leaf_made boxes room places nodes held forked =
-    rooted boxes room places places [] nodes (subst (AreHeld boxes room) (sym (append-nil places)) held) tt forked (subst (λ (l : List ℕ). IsPermutation places l) (sym (append-nil places)) (IsPermutation-refl places))
+pub leaf_made : (boxes : List Box3) (bounds : Box3) (places : List ℕ) (nodes : List Node) → AreHeld boxes bounds places → IsForked bounds places [] nodes → AreNodesOf boxes places nodes
+leaf_made boxes bounds places nodes held forked =
+    rooted boxes bounds places places [] nodes (subst (AreHeld boxes bounds) (sym (append-nil places)) held) tt forked (subst (λ (l : List ℕ). IsPermutation places l) (sym (append-nil places)) (IsPermutation-refl places))
 
 module _ (boxes : List Box3) (cut : Cut) (places : List ℕ) (middle low high nodes : List Node) (zero : AreNodesOf boxes (filter (has_part boxes cut Here) places) middle) (one : AreNodesOf boxes (filter (has_part boxes cut Low) places) low) (two : AreNodesOf boxes (filter (has_part boxes cut High) places) high) where
   abbrev sides : Box3
-  sides = around (root_room low) (root_room high)
+  sides = around (root_bounds low) (root_bounds high)
 
   abbrev all_of : Box3
-  all_of = around (root_room middle) sides
+  all_of = around (root_bounds middle) sides
 
   sides_held : AreHeld boxes all_of (content low ++ content high)
   sides_held =
-      held_in boxes all_of sides (content low ++ content high) (around_right (root_room middle) sides)
+      held_in boxes all_of sides (content low ++ content high) (around_right (root_bounds middle) sides)
       (All-append (λ i. Holds sides (box_at boxes i)) (content low) (content high)
-      (held_in boxes sides (root_room low) (content low) (around_left (root_room low) (root_room high)) one.held)
-      (held_in boxes sides (root_room high) (content high) (around_right (root_room low) (root_room high)) two.held))
+      (held_in boxes sides (root_bounds low) (content low) (around_left (root_bounds low) (root_bounds high)) one.held)
+      (held_in boxes sides (root_bounds high) (content high) (around_right (root_bounds low) (root_bounds high)) two.held))
 
   content_of : content (middle ++ (low ++ high)) ≡ content middle ++ (content low ++ content high)
   content_of = content_append middle (low ++ high) ∙ ap (λ (l : List ℕ). content middle ++ l) (content_append low high)
@@ -134,7 +134,7 @@ module _ (boxes : List Box3) (cut : Cut) (places : List ℕ) (middle low high no
       (IsPermutation-append H (content middle) (L ++ G) (content low ++ content high) zero.has_all sides_moved) in
       let held : AreHeld boxes all_of (content middle ++ (content low ++ content high)) =
       All-append (λ i. Holds all_of (box_at boxes i)) (content middle) (content low ++ content high)
-      (held_in boxes all_of (root_room middle) (content middle) (around_left (root_room middle) sides) zero.held) sides_held in
+      (held_in boxes all_of (root_bounds middle) (content middle) (around_left (root_bounds middle) sides) zero.held) sides_held in
       rooted boxes all_of places [] (middle ++ (low ++ high)) nodes (subst (AreHeld boxes all_of) (sym content_of) held)
       (sound_append boxes middle (low ++ high) zero.sound (sound_append boxes low high one.sound two.sound)) forked
       (subst (λ (l : List ℕ). IsPermutation places l) (sym content_of) moved)

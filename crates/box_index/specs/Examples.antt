@@ -7,7 +7,7 @@ use Rattle.lattice_core.specs.declared.boxes.Box3.{Box3}
 use Rattle.lattice_core.specs.declared.boxes.Box3.TheVariants.{Empty, Span}
 use Rattle.box_index.specs.Lines.{line_of, whole_line, is_crossed}
 use Rattle.box_index.specs.Places.{places_where}
-use Rattle.box_index.specs.Rooms.{around, all_points}
+use Rattle.box_index.specs.Bounds.{around, all_points}
 
 abbrev has_extents : Box3 → Bool
 has_extents Empty = false
@@ -28,7 +28,7 @@ all_pass = refl
 pub some_pass : places_where has_extents four ≡ 1 ∷ 3 ∷ []
 some_pass = refl
 
--- ---- rooms
+-- ---- bounds
 abbrev cube_between : ℤ → ℤ → Box3
 cube_between low high = Span (extent_between low high) (extent_between low high) (extent_between low high)
 

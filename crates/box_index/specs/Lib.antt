@@ -2,6 +2,6 @@ pub mod Places
 pub mod Reaches
 pub mod Cuts
 pub mod Lines
-pub mod Rooms
+pub mod Bounds
 pub mod Nodes
 pub mod Examples

@@ -1,4 +1,4 @@
--- What stands in a tree of rooms.
+-- What stands in a tree of bounding boxes.
 use Rattle.std.specs.Prelude.{◌≡◌, ◌≤◌, ℕ, List, [], ◌∷◌, ◌++◌, length, take, filter, Bool, ◌&&◌, not, All, slice_index_or}
 use Rattle.std.specs.List.Sorted.{IsPermutation}
 use Rattle.lattice_core.specs.declared.boxes.Box3.{Box3}
@@ -12,7 +12,7 @@ use Rattle.box_index.specs.Reaches.{has_points, do_touch}
 use Rattle.box_index.specs.declared.line.Line.{Line}
 use Rattle.box_index.specs.Lines.{is_crossed, whole_line}
 use Rattle.box_index.specs.Cuts.{is_below, is_above}
-use Rattle.box_index.specs.Rooms.{Holds}
+use Rattle.box_index.specs.Bounds.{Holds}
 
 -- the box at a place, or the empty one
 abbrev pub box_at : List Box3 → ℕ → Box3
@@ -40,33 +40,33 @@ abbrev pub content : List Node → List ℕ
 content [] = []
 content (node ∷ nodes) = node.here.items ++ content nodes
 
--- the room of the boxes at all nodes of a tree
-abbrev pub root_room : List Node → Box3
-root_room [] = Empty
-root_room (node ∷ nodes) = node.room
+-- the bounds of the boxes at all nodes of a tree
+abbrev pub root_bounds : List Node → Box3
+root_bounds [] = Empty
+root_bounds (node ∷ nodes) = node.bounds
 
--- a room holds the boxes at the places
+-- bounds hold the boxes at the places
 abbrev pub AreHeld : List Box3 → Box3 → List ℕ → Type 0
-AreHeld boxes room places = All (λ i. Holds room (box_at boxes i)) places
+AreHeld boxes bounds places = All (λ i. Holds bounds (box_at boxes i)) places
 
--- the nodes below each node are there, and its room holds the boxes at it and below it
+-- the nodes below each node are there, and its bounds hold the boxes at it and below it
 abbrev pub AreSound : List Box3 → List Node → Type 0
 AreSound boxes [] = Unit {0}
-AreSound boxes (node ∷ nodes) = (node.below ≤ length nodes) × AreHeld boxes node.room (node.here.items ++ content (take node.below nodes)) × AreSound boxes nodes
+AreSound boxes (node ∷ nodes) = (node.below ≤ length nodes) × AreHeld boxes node.bounds (node.here.items ++ content (take node.below nodes)) × AreSound boxes nodes
 
 -- a node with those below it
-pub record IsForked (room : Box3) (here : List ℕ) (below nodes : List Node) : Type 0 where
+pub record IsForked (bounds : Box3) (here : List ℕ) (below nodes : List Node) : Type 0 where
   pub root : Node
   pub is : nodes ≡ root ∷ below
-  pub in_room : root.room ≡ room
+  pub in_bounds : root.bounds ≡ bounds
   pub places : root.here.items ≡ here
   pub count : root.below ≡ length below
 
--- nodes have the places, each as often as it is given, and the first one's room holds the boxes at all of them
+-- nodes have the places, each as often as it is given, and the first one's bounds hold the boxes at all of them
 pub record AreNodesOf (boxes : List Box3) (places : List ℕ) (nodes : List Node) : Type 0 where
   pub sound : AreSound boxes nodes
   pub has_all : IsPermutation places (content nodes)
-  pub held : AreHeld boxes (root_room nodes) (content nodes)
+  pub held : AreHeld boxes (root_bounds nodes) (content nodes)
 
 -- nodes have the places of the boxes with points
 abbrev pub IsIndexOf : List Box3 → List Node → Type 0

@@ -1,16 +1,16 @@
-//! The tree of rooms of some boxes.
+//! The tree of bounding boxes of some boxes.
 
 ghost use Rattle.std.specs.Prelude.{◌≡◌, ◌<◌, ◌^◌, ◌++◌, [], length, IfOk, IfSome};
-ghost use Rattle.box_index.specs.Nodes.{root_room, IsForked, AreNodesOf};
+ghost use Rattle.box_index.specs.Nodes.{root_bounds, IsForked, AreNodesOf};
 ghost use Rattle.box_index.specs.Places.{places_where};
 ghost use Rattle.box_index.specs.Reaches.{has_points};
-ghost use Rattle.box_index.specs.Rooms.{around};
+ghost use Rattle.box_index.specs.Bounds.{around};
 
+use crate::bounds::{all_points, around, bounds_of};
 use crate::cut::Cut;
-use crate::node::{Node, root_room};
+use crate::node::{Node, root_bounds};
 use crate::part::{Parts, divided};
 use crate::reach::has_points;
-use crate::room::{all_points, around, room_of};
 use crate::spread::cut_for;
 use lattice_core::Box3;
 use memory_core::Memory;
@@ -35,12 +35,17 @@ fn joined(mut nodes: Vec<Node>, mut more: Vec<Node>) -> Result<Vec<Node>, Memory
 }
 
 /// A node with those below it.
-fn forked(alloc: Global, room: Box3, here: Vec<u32>, below: Vec<Node>) -> Result<Vec<Node>, Memory>
-    ensures { IfOk result (λ v. IsForked room here.items below.items v.items) }
+fn forked(
+    alloc: Global,
+    bounds: Box3,
+    here: Vec<u32>,
+    below: Vec<Node>,
+) -> Result<Vec<Node>, Memory>
+    ensures { IfOk result (λ v. IsForked bounds here.items below.items v.items) }
 {
     let mut nodes = Vec::new(alloc);
     nodes.push(Node {
-        room,
+        bounds,
         here,
         below: below.len(),
     })?;
@@ -48,10 +53,10 @@ fn forked(alloc: Global, room: Box3, here: Vec<u32>, below: Vec<Node>) -> Result
 }
 
 /// A node without any below it.
-fn leaf(alloc: Global, room: Box3, places: Vec<u32>) -> Result<Vec<Node>, Memory>
-    ensures { IfOk result (λ v. IsForked room places.items [] v.items) }
+fn leaf(alloc: Global, bounds: Box3, places: Vec<u32>) -> Result<Vec<Node>, Memory>
+    ensures { IfOk result (λ v. IsForked bounds places.items [] v.items) }
 {
-    forked(alloc, room, places, Vec::new(alloc))
+    forked(alloc, bounds, places, Vec::new(alloc))
 }
 
 /// A node over three trees, without places of its own.
@@ -61,13 +66,13 @@ fn fork(
     low: Vec<Node>,
     high: Vec<Node>,
 ) -> Result<Vec<Node>, Memory>
-    ensures { IfOk result (λ v. IsForked (around (root_room middle.items) (around (root_room low.items) (root_room high.items))) [] (middle.items ++ (low.items ++ high.items)) v.items) }
+    ensures { IfOk result (λ v. IsForked (around (root_bounds middle.items) (around (root_bounds low.items) (root_bounds high.items))) [] (middle.items ++ (low.items ++ high.items)) v.items) }
 {
-    let sides = around(&root_room(&low), &root_room(&high));
-    let room = around(&root_room(&middle), &sides);
+    let sides = around(&root_bounds(&low), &root_bounds(&high));
+    let bounds = around(&root_bounds(&middle), &sides);
     forked(
         alloc,
-        room,
+        bounds,
         Vec::new(alloc),
         joined(middle, joined(low, high)?)?,
     )
@@ -91,11 +96,11 @@ fn grow(alloc: Global, boxes: &[Box3], places: Vec<u32>, cuts: u32) -> Result<Ve
         return Ok(Vec::new(alloc));
     }
     let Some(cut) = wanted_cut(boxes, &places, cuts) else {
-        return leaf(alloc, room_of(boxes, &places), places);
+        return leaf(alloc, bounds_of(boxes, &places), places);
     };
     let Parts { here, low, high } = divided(alloc, boxes, &places, cut)?;
     if here.len() == places.len() {
-        return leaf(alloc, room_of(boxes, &places), places);
+        return leaf(alloc, bounds_of(boxes, &places), places);
     }
     let middle = grow(alloc, boxes, here, cuts - 1)?;
     let low = grow(alloc, boxes, low, cuts - 1)?;

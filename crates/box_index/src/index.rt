@@ -1,4 +1,4 @@
-//! Boxes in a list, and the tree of their rooms.
+//! Boxes in a list, and the tree of their bounding boxes.
 
 ghost use Rattle.std.specs.Prelude.{◌≡◌, ◌<◌, ◌^◌, ◌&&◌, IsTrue, IfOk};
 ghost use Rattle.std.specs.Vec.{vec_len};
@@ -22,7 +22,7 @@ use slant_ray::SlantRay;
 use std::alloc::Global;
 use std::marker::Model;
 
-/// Boxes in a list, and rooms that tell which of them lie where. Contracts see it as the list of its boxes.
+/// Boxes in a list, and bounding boxes that tell which of them lie where. Contracts see it as the list of its boxes.
 #[derive(Debug, Drop)]
 pub struct BoxIndex {
     boxes: Vec<Box3>,

@@ -1,6 +1,7 @@
-//! Boxes in a list, and a tree of rooms that tells which of them a ray or a tile meets without asking each.
+//! Boxes in a list, and a tree of bounding boxes that tells which of them a ray or a tile meets without asking each.
 #![tactic(auto)]
 
+mod bounds;
 mod cut;
 mod grow;
 mod index;
@@ -8,7 +9,6 @@ mod line;
 mod node;
 mod part;
 mod reach;
-mod room;
 mod slant;
 mod spread;
 

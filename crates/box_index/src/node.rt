@@ -1,27 +1,27 @@
-//! A tree of rooms as a list of nodes, with the places of boxes at them.
+//! A tree of bounding boxes as a list of nodes, with the places of boxes at them.
 
 ghost use Rattle.std.specs.Prelude.{◌≡◌, ◌++◌, ◌∷◌, IfOk, filter};
-ghost use Rattle.box_index.specs.Nodes.{content, is_touched, root_room, AreSound, IsLeft};
+ghost use Rattle.box_index.specs.Nodes.{content, is_touched, root_bounds, AreSound, IsLeft};
 
 use crate::reach::do_touch;
 use lattice_core::Box3;
 use memory_core::Memory;
 
-/// Places of boxes in a room. The nodes below it are the first of those that stand behind it in the list, and have places of boxes
-/// in the same room.
+/// Places of boxes in some bounds. The nodes below it are the first of those that stand behind it in the list, and have places of boxes
+/// in the same bounds.
 #[derive(Debug, Drop)]
 pub(crate) struct Node {
-    pub room: Box3,
+    pub bounds: Box3,
     pub here: Vec<u32>,
     pub below: usize,
 }
 
-/// The room of the boxes at all nodes of a tree.
-pub(crate) fn root_room(nodes: &[Node]) -> Box3
-    ensures { result ≡ root_room nodes.now }
+/// The bounds of the boxes at all nodes of a tree.
+pub(crate) fn root_bounds(nodes: &[Node]) -> Box3
+    ensures { result ≡ root_bounds nodes.now }
 {
     match nodes.first() {
-        Some(node) => node.room,
+        Some(node) => node.bounds,
         None => Box3::Empty,
     }
 }
@@ -53,7 +53,7 @@ fn add_touched(
 }
 
 /// Adds the places at a node of the boxes that share a point with a window, and gives the nodes that are still to be asked: those
-/// below a node are passed over with it where the window shares no point with its room.
+/// below a node are passed over with it where the window shares no point with its bounds.
 fn visit<'a>(
     node: &Node,
     behind: &'a [Node],
@@ -64,7 +64,7 @@ fn visit<'a>(
     requires sound { AreSound boxes.now (node.now ∷ behind.now) }
     ensures { IfOk result (λ rest. IsLeft boxes.now (is_touched boxes.now window.now) node.now behind.now rest.now out.old.items out.new.items) }
 {
-    if !do_touch(&node.room, window) {
+    if !do_touch(&node.bounds, window) {
         return Ok(&behind[node.below..]);
     }
     add_touched(&node.here, boxes, window, out)?;

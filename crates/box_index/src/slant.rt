@@ -1,4 +1,4 @@
-//! The places in a tree of rooms of the boxes that a line crosses.
+//! The places in a tree of bounding boxes of the boxes that a line crosses.
 
 ghost use Rattle.std.specs.Prelude.{◌≡◌, ◌++◌, ◌∷◌, ◌&&◌, IsTrue, IfOk, filter};
 ghost use Rattle.box_index.specs.Lines.{IsLine, is_crossed, whole_line};
@@ -33,7 +33,7 @@ fn add_here(here: &[u32], boxes: &[Box3], line: &Line, out: &mut Vec<u32>) -> Re
 }
 
 /// Adds the places at a node of the boxes that a line crosses, and gives the nodes that are still to be asked: those below a node
-/// are passed over with it where the line doesn't cross its room.
+/// are passed over with it where the line doesn't cross its bounds.
 fn visit<'a>(
     node: &Node,
     behind: &'a [Node],
@@ -45,7 +45,7 @@ fn visit<'a>(
     requires sound { AreSound boxes.now (node.now ∷ behind.now) }
     ensures { IfOk result (λ rest. IsLeft boxes.now (is_crossed_at boxes.now line.now) node.now behind.now rest.now out.old.items out.new.items) }
 {
-    if !line.crosses(&node.room) {
+    if !line.crosses(&node.bounds) {
         return Ok(&behind[node.below..]);
     }
     add_here(&node.here, boxes, line, out)?;

@@ -12,5 +12,5 @@ returns-then-not-crosses c =
     let behind = c.args.behind.now in
     let below = node.below in
     passed boxes (is_crossed_at boxes line) node behind c.requires.sound (take (length behind - below) (drop below behind)) c.args.out.now.items
-    (none_crossed boxes line c.requires.line node.room (node.here.items ++ content (take below behind)) c.requires.sound.1 (sym c.crosses.ensures ∙ c.if-not-crosses.true))
+    (none_crossed boxes line c.requires.line node.bounds (node.here.items ++ content (take below behind)) c.requires.sound.1 (sym c.crosses.ensures ∙ c.if-not-crosses.true))
     (take_all (length behind - below) (drop below behind) (omega (arith, length-drop below behind)))

@@ -1,9 +1,9 @@
-//! Rooms: boxes that hold others whole.
+//! Bounding boxes: boxes that hold others whole.
 
 ghost use Rattle.std.specs.Prelude.{◌≡◌};
 ghost use Rattle.lattice_core.specs.Extents.{hull_low, hull_high, hull_extent};
 ghost use Rattle.box_index.specs.Nodes.{box_at, AreHeld};
-ghost use Rattle.box_index.specs.Rooms.{around, all_points};
+ghost use Rattle.box_index.specs.Bounds.{around, all_points};
 
 use lattice_core::{Box3, Extent, Side};
 
@@ -59,28 +59,28 @@ pub(crate) fn around(a: &Box3, b: &Box3) -> Box3
     }
 }
 
-/// The least box that holds a room and the box at a place.
-fn widened(room: &Box3, boxes: &[Box3], place: u32) -> Box3
-    ensures { result ≡ around room.now (box_at boxes.now place) }
+/// The least box that holds bounds and the box at a place.
+fn widened(bounds: &Box3, boxes: &[Box3], place: u32) -> Box3
+    ensures { result ≡ around bounds.now (box_at boxes.now place) }
 {
     match boxes.get(place as usize) {
-        Some(b) => around(room, b),
-        None => around(room, &Box3::Empty),
+        Some(b) => around(bounds, b),
+        None => around(bounds, &Box3::Empty),
     }
 }
 
-/// A room that holds the boxes at some places.
-pub(crate) fn room_of(boxes: &[Box3], places: &[u32]) -> Box3
+/// Bounds that hold the boxes at some places.
+pub(crate) fn bounds_of(boxes: &[Box3], places: &[u32]) -> Box3
     ensures { AreHeld boxes.now result places.now }
 {
-    let mut room = Box3::Empty;
+    let mut bounds = Box3::Empty;
     for place in places {
-        room = widened(&room, boxes, *place);
+        bounds = widened(&bounds, boxes, *place);
     }
-    room
+    bounds
 }
 
-/// The room of all points.
+/// The bounds of all points.
 pub(crate) fn all_points() -> Box3
     ensures { result ≡ all_points }
 {

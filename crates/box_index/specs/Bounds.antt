@@ -1,4 +1,4 @@
--- Rooms: boxes that hold others whole.
+-- Bounding boxes: boxes that hold others whole.
 use Rattle.std.specs.Prelude.{◌≤ℤ◌}
 use Rattle.lattice_core.specs.declared.boxes.Side.{Side}
 use Rattle.lattice_core.specs.declared.boxes.Side.TheVariants.{Open, At}
@@ -21,9 +21,9 @@ IsHigher (At a) (At b) = b ≤ℤ a
 abbrev pub HoldsExtent : Extent → Extent → Type 0
 HoldsExtent a b = IsLower a.low b.low × IsHigher a.high b.high
 
--- a room holds a box whole
+-- bounds hold a box whole
 abbrev pub Holds : Box3 → Box3 → Type 0
-Holds room Empty = Unit {0}
+Holds bounds Empty = Unit {0}
 Holds Empty (Span x y z) = ⊥
 Holds (Span x y z) (Span x' y' z') = HoldsExtent x x' × HoldsExtent y y' × HoldsExtent z z'
 
@@ -33,7 +33,7 @@ around Empty b = b
 around (Span x y z) Empty = Span x y z
 around (Span x y z) (Span x' y' z') = Span (hull_extent x x') (hull_extent y y') (hull_extent z z')
 
--- the room of all points
+-- the bounds of all points
 abbrev pub all_coordinates : Extent
 all_coordinates = record { low = Open; high = Open }
 

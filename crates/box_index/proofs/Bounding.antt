@@ -1,4 +1,4 @@
--- Rooms: what lies in one is missed by what misses it.
+-- Bounding boxes: what lies in one is missed by what misses it.
 use Rattle.std.proofs.Common.{◌≡◌, ℤ, pos, ◌<ℤ◌, ◌≤ℤ◌, ℕ, List, [], ◌∷◌, filter, Bool, true, false, ◌&&◌, IsTrue, refl, sym, ◌∙◌, arith}
 use Rattle.std.proofs.lemmas.Bool.{and_parts, and_from, true≢false}
 use Rattle.std.proofs.lemmas.Int.{ints, clamps}
@@ -12,7 +12,7 @@ use Rattle.lattice_core.specs.declared.boxes.Box3.TheVariants.{Empty, Span}
 use Rattle.lattice_core.specs.Extents.{hull_low, hull_high, hull_extent}
 use Rattle.lattice_core.specs.Boxes.{IsFrom, IsUpTo, IsBetween, HasPoint}
 use Rattle.lattice_core.proofs.Products.{mul_at_most}
-use Rattle.box_index.specs.Rooms.{IsLower, IsHigher, HoldsExtent, Holds, around, all_points}
+use Rattle.box_index.specs.Bounds.{IsLower, IsHigher, HoldsExtent, Holds, around, all_points}
 use Rattle.box_index.specs.Reaches.{are_ordered, do_overlap, do_touch}
 use Rattle.box_index.specs.Nodes.{box_at, is_touched, AreHeld}
 use Rattle.box_index.proofs.Members.{none_pass}
@@ -63,7 +63,7 @@ higher_trans (At a) Open c h k = absurd h
 higher_trans (At a) (At b) Open h k = absurd k
 higher_trans (At a) (At b) (At c) h k = omega (arith, ints, h, k)
 
--- ---- rooms
+-- ---- bounds
 extent_itself : (a : Extent) → HoldsExtent a a
 extent_itself a = (lower_itself a.low, higher_itself a.high)
 
@@ -101,8 +101,8 @@ all_points_hold Empty = tt
 all_points_hold (Span x y z) = ((tt, tt), (tt, tt), (tt, tt))
 
 -- ---- the boxes at places
-pub held_in : (boxes : List Box3) (room part : Box3) (places : List ℕ) → Holds room part → AreHeld boxes part places → AreHeld boxes room places
-held_in boxes room part places within held = All-weaker (λ i. Holds part (box_at boxes i)) (λ i. Holds room (box_at boxes i)) (λ i h. holds_trans room part (box_at boxes i) within h) places held
+pub held_in : (boxes : List Box3) (bounds part : Box3) (places : List ℕ) → Holds bounds part → AreHeld boxes part places → AreHeld boxes bounds places
+held_in boxes bounds part places within held = All-weaker (λ i. Holds part (box_at boxes i)) (λ i. Holds bounds (box_at boxes i)) (λ i h. holds_trans bounds part (box_at boxes i) within h) places held
 
 pub all_held : (boxes : List Box3) (places : List ℕ) → AreHeld boxes all_points places
 all_held boxes [] = All-nil (λ i. Holds all_points (box_at boxes i))
@@ -122,8 +122,8 @@ up_to_held (At a) (At b) c q some h k = let m = mul_at_most b a q (omega (arith,
 between_held : (a b : Extent) (c q : ℤ) → pos 0 <ℤ q → HoldsExtent a b → IsBetween b c q → IsBetween a c q
 between_held a b c q some h k = (from_held a.low b.low c q some h.0 k.0, up_to_held a.high b.high c q some h.1 k.1)
 
-pub point_held : (room b : Box3) → Holds room b → (v : V3) (q : ℤ) → pos 0 <ℤ q → HasPoint b v q → HasPoint room v q
-point_held room Empty h v q some k = absurd k
+pub point_held : (bounds b : Box3) → Holds bounds b → (v : V3) (q : ℤ) → pos 0 <ℤ q → HasPoint b v q → HasPoint bounds v q
+point_held bounds Empty h v q some k = absurd k
 point_held Empty (Span x y z) h v q some k = absurd h
 point_held (Span r s t) (Span x y z) h v q some k = (between_held r x v.x q some h.0 k.0, between_held s y v.y q some h.1 k.1, between_held t z v.z q some h.2 k.2)
 
@@ -145,8 +145,8 @@ overlap_held a b w h k =
     let both = and_parts (are_ordered b.low w.high) (are_ordered w.low b.high) k in
     and_from _ _ (begins_before a.low b.low w.high h.0 both.0) (ends_after w.low a.high b.high h.1 both.1)
 
-touch_held : (room b window : Box3) → Holds room b → IsTrue (do_touch b window) → IsTrue (do_touch room window)
-touch_held room Empty window h k = absurd (true≢false (sym k))
+touch_held : (bounds b window : Box3) → Holds bounds b → IsTrue (do_touch b window) → IsTrue (do_touch bounds window)
+touch_held bounds Empty window h k = absurd (true≢false (sym k))
 touch_held Empty (Span x y z) window h k = absurd h
 touch_held (Span r s t) (Span x y z) Empty h k = absurd (true≢false (sym k))
 touch_held (Span r s t) (Span x y z) (Span u v w) h k =
@@ -154,8 +154,8 @@ touch_held (Span r s t) (Span x y z) (Span u v w) h k =
     let b = and_parts (do_overlap y v) (do_overlap z w) a.1 in
     and_from _ _ (overlap_held r x u h.0 a.0) (and_from _ _ (overlap_held s y v h.1 b.0) (overlap_held t z w h.2 b.1))
 
--- a window that doesn't touch a room touches none of the boxes that it holds
-pub none_touched : (boxes : List Box3) (room window : Box3) (places : List ℕ) → AreHeld boxes room places → do_touch room window ≡ false → filter (is_touched boxes window) places ≡ []
-none_touched boxes room window places held none =
+-- a window that doesn't touch bounds touches none of the boxes that they hold
+pub none_touched : (boxes : List Box3) (bounds window : Box3) (places : List ℕ) → AreHeld boxes bounds places → do_touch bounds window ≡ false → filter (is_touched boxes window) places ≡ []
+none_touched boxes bounds window places held none =
     none_pass (is_touched boxes window) places
-    (All-weaker (λ i. Holds room (box_at boxes i)) (λ i. is_touched boxes window i ≡ false) (λ i h. fails_too (do_touch room window) (do_touch (box_at boxes i) window) (touch_held room (box_at boxes i) window h) none) places held)
+    (All-weaker (λ i. Holds bounds (box_at boxes i)) (λ i. is_touched boxes window i ≡ false) (λ i h. fails_too (do_touch bounds window) (do_touch (box_at boxes i) window) (touch_held bounds (box_at boxes i) window h) none) places held)

@@ -1,5 +1,5 @@
-/* Laid over the allocator of a program: the allocation of the number in NO_MEMORY_AT finds no memory, counted from 1, and so do
- * all behind it where NO_MEMORY_ON is set. How many there were is kept in the first eight bytes of the file of NO_MEMORY_COUNT.
+/* Laid over the allocator of a program: the allocation of the number in NO_MEMORY_AT finds no memory, counted from 1. With
+ * NO_MEMORY_SPAN so many from it on find none. How many there were is kept in the first eight bytes of the file of NO_MEMORY_COUNT.
  * A piece that is to grow is an allocation too, and so is what the C library sets aside for a thread. dev/memory compiles it. */
 #include <errno.h>
 #include <fcntl.h>
@@ -15,11 +15,10 @@ extern void *__libc_memalign(size_t alignment, size_t size);
 
 static atomic_long before;
 static atomic_long *count = &before;
-static long at;
-static int on;
+static long at, span = 1;
 
 static void __attribute__((constructor)) begin(void) {
-    const char *number = getenv("NO_MEMORY_AT"), *path = getenv("NO_MEMORY_COUNT");
+    const char *number = getenv("NO_MEMORY_AT"), *path = getenv("NO_MEMORY_COUNT"), *length = getenv("NO_MEMORY_SPAN");
     int file = path ? open(path, O_RDWR | O_CREAT, 0600) : -1;
     if (file >= 0 && ftruncate(file, sizeof *count) == 0) {
         void *kept = mmap(NULL, sizeof *count, PROT_READ | PROT_WRITE, MAP_SHARED, file, 0);
@@ -27,13 +26,13 @@ static void __attribute__((constructor)) begin(void) {
     }
     if (file >= 0)
         close(file);
-    on = getenv("NO_MEMORY_ON") != NULL;
+    span = length ? atol(length) : 1;
     at = number ? atol(number) : 0;
 }
 
 static int is_refused(void) {
     long turn = atomic_fetch_add(count, 1) + 1;
-    return at && (turn == at || (on && turn > at));
+    return at && turn >= at && turn - at < span;
 }
 
 static void *refused(void) {
